@@ -1,0 +1,3 @@
+pub mod Arith
+pub mod Faults
+pub mod Sinks

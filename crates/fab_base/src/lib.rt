@@ -1,0 +1,24 @@
+//! What every crate of fab speaks of: lists, texts, names of objects and transactions, values,
+//! labels, messages and journal entries, 32-bit arithmetic, and the traits of the outside.
+#![tactic(auto)]
+
+mod arith;
+mod entry;
+mod label;
+mod message;
+mod object;
+mod outside;
+mod seq;
+mod text;
+
+pub use arith::{java_add, java_div, java_mul, java_sub};
+pub use entry::Entry;
+pub use label::{Label, Policy};
+pub use message::{Answer, Items, Message, Why};
+pub use object::{Object, Oid, Stop, Tid, Value};
+pub use outside::{
+    Failed, FailingCalls, MemSink, MemSource, Sink, SinkError, Source, StdSink, StdSource,
+    SureSink, SureSource,
+};
+pub use seq::{NoMemory, Seq};
+pub use text::Text;

@@ -1,0 +1,76 @@
+//! What workers and stores send each other.
+
+use crate::object::{Object, Oid, Tid};
+use crate::seq::Seq;
+
+/// What a transaction asks one store to prepare: the objects it read and their versions, those it
+/// wrote with the version it read, and those it made.
+#[derive(Debug, Drop)]
+pub struct Items {
+    pub reads: Seq<(Oid, u32)>,
+    pub writes: Seq<(Oid, u32, Object)>,
+    pub creates: Seq<(Oid, Object)>,
+}
+
+/// A message. Workers send Fetch, Prepare, Commit, Abort and Boot; stores send the others.
+#[derive(Debug, Drop)]
+pub enum Message {
+    Fetch {
+        tid: Tid,
+        oid: Oid,
+    },
+    Object {
+        tid: Tid,
+        oid: Oid,
+        version: u32,
+        object: Object,
+    },
+    Deny {
+        tid: Tid,
+        oid: Oid,
+        why: Why,
+    },
+    Prepare {
+        tid: Tid,
+        items: Items,
+    },
+    Vote {
+        tid: Tid,
+        answer: Answer,
+    },
+    Commit {
+        tid: Tid,
+    },
+    Abort {
+        tid: Tid,
+    },
+    Boot {
+        boot: u32,
+    },
+    Inquire {
+        tid: Tid,
+    },
+}
+
+/// Why a store denies a Fetch: there is no such object, or the worker may not read its class.
+#[derive(Clone, Copy, Debug, PartialEq, Eq)]
+pub enum Why {
+    Missing,
+    Rights,
+}
+
+/// A store's vote: Yes, or the reason for a No.
+#[derive(Clone, Copy, Debug, PartialEq, Eq)]
+pub enum Answer {
+    Yes,
+    /// The object isn't at the version that was read, but at this one, 0 where it isn't there.
+    Stale(Oid, u32),
+    /// This transaction has it prepared.
+    Locked(Tid),
+    Rights(Oid),
+    /// The tid isn't above this one, the last of its worker.
+    OldTid(Tid),
+    IllFormed(Oid),
+    /// A created object is there already.
+    Exists(Oid),
+}

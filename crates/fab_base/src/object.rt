@@ -1,0 +1,52 @@
+//! Names of objects and of transactions, values and objects, after Fabric.
+
+use crate::seq::Seq;
+
+/// The name of an object: its store, its class, and what made it. `worker`, `boot` and `number`
+/// name the transaction, `site` the place in the program, and `index` counts the objects of that
+/// site in that transaction. A root has worker 65535, boot 0, its root number, site 65535 and
+/// index 0. Names are ordered as their 18 big-endian bytes, field by field.
+#[derive(Clone, Copy, Debug, PartialEq, Eq, PartialOrd, Ord)]
+pub struct Oid {
+    pub store: u16,
+    pub class: u16,
+    pub worker: u16,
+    pub boot: u32,
+    pub number: u32,
+    pub site: u16,
+    pub index: u16,
+}
+
+/// The name of an attempt at a transaction: its worker, that worker's boot, from 1, and the
+/// attempt's number in this boot, from 1.
+#[derive(Clone, Copy, Debug, PartialEq, Eq, PartialOrd, Ord)]
+pub struct Tid {
+    pub worker: u16,
+    pub boot: u32,
+    pub number: u32,
+}
+
+/// What a field, a local or a result holds.
+#[derive(Clone, Copy, Debug, PartialEq, Eq)]
+pub enum Value {
+    Int(i32),
+    Null,
+    Ref(Oid),
+}
+
+/// An object: the number of its class, and its fields in the class's order.
+#[derive(Debug, Drop)]
+pub struct Object {
+    pub class: u16,
+    pub fields: Seq<Value>,
+}
+
+/// At which limit an evaluation was stopped: 1,000,000 of fuel, 64 calls deep, 1,024 objects
+/// touched, 256 objects written or made.
+#[derive(Clone, Copy, Debug, PartialEq, Eq)]
+pub enum Stop {
+    Fuel,
+    Depth,
+    Reads,
+    Writes,
+}
