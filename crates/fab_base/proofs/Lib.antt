@@ -1,1 +1,3 @@
 pub mod Quotient
+mod Examples
+mod SyntaxExamples

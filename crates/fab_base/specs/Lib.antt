@@ -1,3 +1,9 @@
 pub mod Arith
+pub mod Depth
+pub mod Evaluation
 pub mod Faults
+pub mod Limits
+pub mod Names
 pub mod Sinks
+pub mod Syntax
+pub mod Tokens

@@ -9,7 +9,9 @@ mod message;
 mod object;
 mod outside;
 mod seq;
+mod start;
 mod text;
+mod token;
 
 pub use arith::{java_add, java_div, java_mul, java_sub};
 pub use entry::Entry;
@@ -21,4 +23,6 @@ pub use outside::{
     SureSink, SureSource,
 };
 pub use seq::{NoMemory, Seq};
+pub use start::{Name, Node, Role, Start};
 pub use text::Text;
+pub use token::{Kind, Mark, Piece, Token};

@@ -1,0 +1,24 @@
+-- The limits on the counts of a bundle.
+use Rattle.std.specs.Prelude.{◌≤◌, Bool, true, false, length}
+use Rattle.fab_base.specs.declared.start.Role.{Role}
+use Rattle.fab_base.specs.declared.start.Role.TheVariants as r
+use Rattle.fab_base.specs.declared.start.Start.{Start}
+
+abbrev pub is_worker : Role → Bool
+is_worker (r.Worker hostile) = true
+is_worker r.Principal = false
+is_worker (r.Store hostile) = false
+
+abbrev pub is_store : Role → Bool
+is_store (r.Store hostile) = true
+is_store r.Principal = false
+is_store (r.Worker hostile) = false
+
+abbrev pub is_hostile : Role → Bool
+is_hostile r.Principal = false
+is_hostile (r.Worker hostile) = hostile
+is_hostile (r.Store hostile) = hostile
+
+-- each count is at most its number; workers and stores count among the principals
+pub record KeepsLimits (s : Start) : Type 0 where
+  pub principals : length s.nodes ≤ 64

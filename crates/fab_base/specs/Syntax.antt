@@ -1,0 +1,46 @@
+-- The grammar: which tokens a tree stands for.
+--
+-- IsX a t b says: the tokens a begin with those of the tree t, and b is what follows. In the rules in comments, [x] is at most one x, {x} any number, and quoted marks stand for themselves.
+use Rattle.std.specs.Prelude.{◌≡◌, ℕ, true, false, List, [], ◌∷◌}
+use Rattle.fab_base.specs.declared.token.Mark.{Mark}
+use Rattle.fab_base.specs.declared.token.Mark.TheVariants as m
+use Rattle.fab_base.specs.declared.token.Kind.TheVariants as k
+use Rattle.fab_base.specs.declared.token.Token.{Token}
+use Rattle.fab_base.specs.declared.start.Name.{Name}
+use Rattle.fab_base.specs.declared.start.Role.{Role}
+use Rattle.fab_base.specs.declared.start.Role.TheVariants as r
+use Rattle.fab_base.specs.declared.start.Node.{Node}
+use Rattle.fab_base.specs.declared.start.Start.{Start}
+
+-- this sign or keyword
+pub data Is : Mark → List Token → List Token → Type 0 where
+  is : {mark : Mark} {t : Token} {ts : List Token} → t.kind ≡ k.Fixed mark → Is mark (t ∷ ts) ts
+
+-- a name, with its place
+pub data IsName : List Token → Name → List Token → Type 0 where
+  name : {t : Token} {ts : List Token} {x : List ℕ} → t.kind ≡ k.Name x → IsName (t ∷ ts) (record { text = x; at = t.at }) ts
+
+-- {x}
+pub data Repeated {A : Type 0} (P : List Token → A → List Token → Type 0) : List Token → List A → List Token → Type 0 where
+  no_more : {a : List Token} → Repeated P a [] a
+  one_more : {a b c : List Token} {x : A} {xs : List A} → P a x b → Repeated P b xs c → Repeated P a (x ∷ xs) c
+
+-- role = "principal" | ["hostile"] "worker" | ["hostile"] "store"
+pub data IsRole : List Token → Role → List Token → Type 0 where
+  principal : {a b : List Token} → Is m.Principal a b → IsRole a r.Principal b
+  worker : {a b : List Token} → Is m.Worker a b → IsRole a (r.Worker false) b
+  store : {a b : List Token} → Is m.Store a b → IsRole a (r.Store false) b
+  hostile_worker : {a b c : List Token} → Is m.Hostile a b → Is m.Worker b c → IsRole a (r.Worker true) c
+  hostile_store : {a b c : List Token} → Is m.Hostile a b → Is m.Store b c → IsRole a (r.Store true) c
+
+-- node = role name ";"
+pub data IsNode : List Token → Node → List Token → Type 0 where
+  node : {a b c d : List Token} {x : Role} {y : Name} → IsRole a x b → IsName b y c → Is m.Semicolon c d → IsNode a (record { role = x; name = y }) d
+
+-- start = {node} "run" "{" "}"
+pub data IsStart : List Token → Start → List Token → Type 0 where
+  start : {a b c d e : List Token} {xs : List Node} → Repeated IsNode a xs b → Is m.Run b c → Is m.LeftBrace c d → Is m.RightBrace d e → IsStart a (record { nodes = xs }) e
+
+-- a whole text
+abbrev pub IsText : List Token → Start → Type 0
+IsText ts s = IsStart ts s []
