@@ -1,6 +1,6 @@
 -- Worked examples of the grammar.
 use Rattle.std.proofs.Common.{ℕ, List, [], ◌∷◌, false, true, refl, codes}
-use Rattle.fab_base.specs.Syntax.{IsText, no_more, one_more, IsNode, Is, is, name, principal, worker, store, hostile_worker, hostile_store, node, start}
+use Rattle.fab_base.specs.Syntax.{IsText, no_more, one_more, IsNode, Is, is, name, principal, honest, hostile, worker, store, node, start}
 use Rattle.fab_base.specs.declared.token.Mark.{Mark}
 use Rattle.fab_base.specs.declared.token.Token.{Token}
 use Rattle.fab_base.specs.declared.token.Mark.TheVariants as m
@@ -21,17 +21,16 @@ smallest =
 
 smallest_is_a_text : IsText smallest (record { nodes = record { role = r.Worker false; name = record { text = codes "w"; at = 7 } } ∷ record { role = r.Store true; name = record { text = codes "s"; at = 23 } } ∷ [] })
 smallest_is_a_text =
-    start (one_more (node (worker (is refl)) (name refl) (is refl)) (one_more (node (hostile_store (is refl) (is refl)) (name refl) (is refl)) no_more)) (is refl) (is refl) (is refl)
+    start (one_more (node (honest (worker (is refl))) (name refl) (is refl)) (one_more (node (hostile (is refl) (store (is refl))) (name refl) (is refl)) no_more)) (is refl) (is refl) (is refl)
 
 no_brace : {b c : List Token} → Is m.Run (mark_at 0 3 m.Run ∷ []) b → Is m.LeftBrace b c → ⊥
 no_brace (is e) o = elim o [ ]
 
 no_node : {a b : List Token} {x : _} → IsNode (mark_at 0 3 m.Run ∷ a) x b → ⊥
 no_node (node (principal (is e)) p q) = cc
-no_node (node (worker (is e)) p q) = cc
-no_node (node (store (is e)) p q) = cc
-no_node (node (hostile_worker (is e) o) p q) = cc
-no_node (node (hostile_store (is e) o) p q) = cc
+no_node (node (honest (worker (is e))) p q) = cc
+no_node (node (honest (store (is e))) p q) = cc
+no_node (node (hostile (is e) o) p q) = cc
 
 -- `run` alone: the braces are missing
 no_braces : (s : Start) → IsText (mark_at 0 3 m.Run ∷ []) s → ⊥

@@ -1,7 +1,7 @@
 -- The grammar: which tokens a tree stands for.
 --
 -- IsX a t b says: the tokens a begin with those of the tree t, and b is what follows. In the rules in comments, [x] is at most one x, {x} any number, and quoted marks stand for themselves.
-use Rattle.std.specs.Prelude.{◌≡◌, ℕ, true, false, List, [], ◌∷◌}
+use Rattle.std.specs.Prelude.{◌≡◌, ℕ, Bool, true, false, List, [], ◌∷◌}
 use Rattle.fab_base.specs.declared.token.Mark.{Mark}
 use Rattle.fab_base.specs.declared.token.Mark.TheVariants as m
 use Rattle.fab_base.specs.declared.token.Kind.TheVariants as k
@@ -25,13 +25,16 @@ pub data Repeated {A : Type 0} (P : List Token → A → List Token → Type 0) 
   no_more : {a : List Token} → Repeated P a [] a
   one_more : {a b c : List Token} {x : A} {xs : List A} → P a x b → Repeated P b xs c → Repeated P a (x ∷ xs) c
 
--- role = "principal" | ["hostile"] "worker" | ["hostile"] "store"
+-- place = "worker" | "store", behind "hostile" or not
+pub data IsPlace : Bool → List Token → Role → List Token → Type 0 where
+  worker : {hostile : Bool} {a b : List Token} → Is m.Worker a b → IsPlace hostile a (r.Worker hostile) b
+  store : {hostile : Bool} {a b : List Token} → Is m.Store a b → IsPlace hostile a (r.Store hostile) b
+
+-- role = "principal" | ["hostile"] place
 pub data IsRole : List Token → Role → List Token → Type 0 where
   principal : {a b : List Token} → Is m.Principal a b → IsRole a r.Principal b
-  worker : {a b : List Token} → Is m.Worker a b → IsRole a (r.Worker false) b
-  store : {a b : List Token} → Is m.Store a b → IsRole a (r.Store false) b
-  hostile_worker : {a b c : List Token} → Is m.Hostile a b → Is m.Worker b c → IsRole a (r.Worker true) c
-  hostile_store : {a b c : List Token} → Is m.Hostile a b → Is m.Store b c → IsRole a (r.Store true) c
+  honest : {a b : List Token} {x : Role} → IsPlace false a x b → IsRole a x b
+  hostile : {a b c : List Token} {x : Role} → Is m.Hostile a b → IsPlace true b x c → IsRole a x c
 
 -- node = role name ";"
 pub data IsNode : List Token → Node → List Token → Type 0 where

@@ -1,5 +1,5 @@
 -- The tokens of a text.
-use Rattle.std.specs.Prelude.{◌≡◌, ℕ, ◌+◌, ◌-◌, ◌*◌, Bool, false, ◌&&◌, ◌||◌, not, ◌==◌, nat_le, nat_eq, List, [], ◌∷◌, length, drop, Option, Some, None, if◌then◌else◌, codes}
+use Rattle.std.specs.Prelude.{◌≡◌, ℕ, ◌+◌, ◌-◌, ◌*◌, Bool, false, ◌&&◌, ◌||◌, not, ◌==◌, nat_le, nat_lt, nat_eq, slice_index, List, [], ◌∷◌, length, drop, Option, Some, None, if◌then◌else◌, codes}
 use Rattle.std.specs.List.{starts_with, list_all}
 use Rattle.std.specs.Str.{bytes_eq}
 use Rattle.std.specs.Char.{is_ascii_alphanumeric, is_ascii_digit}
@@ -105,9 +105,7 @@ is_name_text (b ∷ bs) = not (is_ascii_digit b) && nat_le (length bs) 63
 
 -- digits without a leading zero
 abbrev pub is_numeral : List ℕ → Bool
-is_numeral [] = false
-is_numeral (b ∷ []) = is_ascii_digit b
-is_numeral (b ∷ c ∷ bs) = not (b == 48) && list_all is_ascii_digit (b ∷ c ∷ bs)
+is_numeral word = nat_lt 0 (length word) && list_all is_ascii_digit word && (length word == 1 || not (slice_index word 0 == 48))
 
 -- the number that digits stand for, behind the number so far
 abbrev pub value_from : ℕ → List ℕ → ℕ

@@ -1,0 +1,8 @@
+pub mod DistinctNames
+pub mod Lexing
+pub mod ListRules
+pub mod NodeRules
+pub mod PieceLemmas
+pub mod Rules
+pub mod TextRules
+pub mod WordLemmas

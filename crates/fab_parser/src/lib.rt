@@ -1,0 +1,17 @@
+//! From bytes to a bundle: tokens, the grammar, and the rules that a bundle keeps.
+#![tactic(auto)]
+
+mod error;
+mod lexer;
+mod limits;
+mod marks;
+mod nodes;
+mod reading;
+mod refusal;
+mod text;
+mod words;
+
+pub use error::{LexError, ParseError};
+pub use lexer::tokens;
+pub use limits::{is_evaluated, keeps_limits, keeps_names};
+pub use text::bundle;

@@ -1,0 +1,54 @@
+//! A whole bundle.
+ghost use Rattle.std.specs.Prelude.{◌≡◌, ◌<◌, ◌^◌, length, List, MatchResult, IfOk, IfErr, OnOk, Some};
+ghost use Rattle.fab_base.specs.Syntax.{IsStart, IsText};
+ghost use Rattle.fab_base.specs.Depth.{room_after};
+ghost use Rattle.fab_base.specs.declared.start.Start.{Start as StartTree};
+ghost use Rattle.fab_parser.specs.Reading.{Read, Stops, any};
+ghost use Rattle.fab_parser.specs.Texts.{RefusedAt, IsLimit};
+
+use crate::error::ParseError;
+use crate::nodes::nodes;
+use crate::reading::{open, sign};
+use crate::refusal::Refusal;
+use fab_base::{Mark, Start, Token};
+use std::alloc::Global;
+
+/// How many brackets may be open at once.
+const DEPTH: u8 = 64;
+
+fn start(alloc: Global, tokens: &[Token], room: u8) -> Result<(Start, &[Token]), Refusal>
+    ensures { MatchResult result (λ x. Read IsStart any room tokens.now x.0 x.1.now) (λ e. Stops IsStart any room tokens.now e) }
+{
+    let (nodes, rest) = nodes(alloc, tokens, room)?;
+    let rest = sign(rest, Mark::Run)?;
+    let (rest, _) = open(rest, Mark::LeftBrace, room)?;
+    let rest = sign(rest, Mark::RightBrace)?;
+    Ok((Start { nodes }, rest))
+}
+
+/// The bundle that these tokens stand for.
+pub fn bundle(alloc: Global, tokens: &[Token]) -> Result<Start, ParseError>
+    requires { length tokens.now < 2 ^ 32 }
+    // What is read is the bundle of the text.
+    ensures found { IfOk result (λ s. IsText tokens.now s) }
+    // What stands for a bundle is read as that one, unless memory or brackets run out.
+    ensures only { (s : StartTree) → IsText tokens.now s → MatchResult result (λ found. found ≡ s) IsLimit }
+    // A token is refused exactly where those before it begin a text, and with it they begin none.
+    ensures refused { IfErr result (λ e. RefusedAt tokens.now e) }
+    // No more than 64 brackets were open.
+    ensures depth { OnOk result (room_after tokens.now 64 ≡ Some 64) }
+{
+    match start(alloc, tokens, DEPTH) {
+        Ok((found, [])) => Ok(found),
+        Ok((_, rest)) => Err(ParseError::Syntax {
+            token: (tokens.len() - rest.len()) as u32,
+        }),
+        Err(Refusal::Memory) => Err(ParseError::Memory),
+        Err(Refusal::Syntax { left }) => Err(ParseError::Syntax {
+            token: (tokens.len() - left) as u32,
+        }),
+        Err(Refusal::Deep { left }) => Err(ParseError::DepthLimit {
+            token: (tokens.len() - left) as u32,
+        }),
+    }
+}
