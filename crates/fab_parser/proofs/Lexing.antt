@@ -99,3 +99,11 @@ pub only_tokens : {bytes : List ℕ} {found : List Token} {at : ℕ} → Lexing 
 only_tokens {bytes = bytes} {found = found} {at = at} r h us d =
     let x = r.only us d in
     x.1 ∙ ap (λ z. found ++ z) (over_back (subst (λ z. Lexes at z x.0) (drop_of_length-le bytes h) x.2)) ∙ append-nil found
+
+-- each token takes a byte at least
+pub lexed_len : {at : ℕ} {bytes : List ℕ} {ts : List Token} → Lexes at bytes ts → length ts ≤ length bytes
+lexed_len over = omega arith
+lexed_len (blank {len = n} {bytes = bytes} e d) = omega (arith, lexed_len d, length-drop n bytes)
+lexed_len (token {len = n} {bytes = bytes} {kind = kind} e d) =
+    let t = piece_takes bytes (p.Spelled kind n) e in
+    omega (arith, lexed_len d, length-drop n bytes, t.some, t.within)

@@ -36,7 +36,7 @@ pub record Going {A B : Type 0} (R : List Token → A → List Token → Type 0)
   pub builds : (more : List Token) (v : B) (after : List Token) → S more v after → R (front ++ more) (f v) after
   pub only : (more : List Token) → SameHead b more → (u : A) (after : List Token) → R (front ++ more) u after → Follows may after → (v : B) × (u ≡ f v) × S more v after
 
-room_append : (p q : List Token) (room r : ℕ) → room_after p room ≡ Some r → room_after (p ++ q) room ≡ room_after q r
+pub room_append : (p q : List Token) (room r : ℕ) → room_after p room ≡ Some r → room_after (p ++ q) room ≡ room_after q r
 room_append [] q room r e = let same : room ≡ r = cc in ap (room_after q) same
 room_append (t ∷ p) q room r e = go (λ s h. room_append p q s r h) (room_by t.kind room) e
   where

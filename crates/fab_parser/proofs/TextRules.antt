@@ -1,14 +1,15 @@
 -- A whole text, part by part, and where it is refused.
-use Rattle.std.proofs.Common.{◌≡◌, ℕ, ◌-◌, Bool, List, [], ◌∷◌, ◌++◌, length, refl, sym, ap, subst, append_assoc, append-nil, length-append, arith}
+use Rattle.std.proofs.Common.{◌≡◌, ℕ, ◌-◌, Bool, Some, None, option_and_then, IsSome, List, [], ◌∷◌, ◌++◌, length, refl, sym, ap, ◌∙◌, subst, append_assoc, append-nil, length-append, arith}
 use Rattle.fab_base.specs.declared.token.Mark.TheVariants as m
 use Rattle.fab_base.specs.declared.token.Kind.{Kind}
 use Rattle.fab_base.specs.declared.token.Token.{Token}
 use Rattle.fab_base.specs.declared.start.Node.{Node}
 use Rattle.fab_base.specs.declared.start.Start.{Start}
+use Rattle.fab_base.specs.Depth.{room_after, room_by, KeepsDepth}
 use Rattle.fab_base.specs.Syntax.{Repeated, IsNode, IsStart, start}
 use Rattle.fab_parser.specs.Reading.{SameHead, Follows, Read, Refused, Deep, any, nothing}
 use Rattle.fab_parser.specs.Texts.{BadNext, BadToken, BadBracket}
-use Rattle.fab_parser.proofs.Rules.{Then, End, Sign, Going, turn, part, ending, extra, never, any_follows}
+use Rattle.fab_parser.proofs.Rules.{Then, End, Sign, Going, turn, part, ending, extra, never, any_follows, room_append}
 use Rattle.fab_parser.proofs.Rules as rules
 
 abbrev pub StartParts : Type 0
@@ -63,3 +64,13 @@ bad_bracket {ts = ts} {left = left} {token = token} r e = record {
 -- a bundle, and more behind it
 pub more_behind : {ts rest : List Token} {s : Start} → Read IsStart any 64 ts s rest → (rest ≡ [] → ⊥) → Refused IsStart nothing 64 ts (length rest)
 more_behind {ts = ts} r some = extra (part (ending (rules.start IsStart nothing 64 ts)) r (λ more v after q h. any_follows more)) some
+
+-- a text whose bracket is one too many opens too many
+pub too_deep : {ts : List Token} {token : ℕ} → BadBracket ts token → KeepsDepth ts → ⊥
+too_deep {ts = ts} r h = none (none_after r.opens) h
+  where
+    none_after : room_by r.next.kind 0 ≡ None → room_after ts 64 ≡ None
+    none_after o = ap (λ x. room_after x 64) r.cut ∙ room_append r.front (r.next ∷ r.back) 64 0 r.level ∙ ap (option_and_then (room_after r.back)) o
+
+    none : room_after ts 64 ≡ None → IsSome (room_after ts 64) → ⊥
+    none e s = let x = subst IsSome e s in cc

@@ -48,3 +48,9 @@ abbrev pub IsLimit : ParseError → Type 0
 IsLimit error.Memory = Unit {0}
 IsLimit (error.DepthLimit token) = Unit {0}
 IsLimit (error.Syntax token) = ⊥
+
+-- a fact where the limit on brackets is refused
+abbrev pub OnDepthLimit : ParseError → Type 0 → Type 0
+OnDepthLimit (error.DepthLimit token) P = P
+OnDepthLimit error.Memory P = Unit {0}
+OnDepthLimit (error.Syntax token) P = Unit {0}

@@ -78,6 +78,8 @@ pub fn tokens(alloc: Global, bytes: &[u8]) -> Result<Seq<Token>, LexError>
     ensures found { IfOk result (λ ts. Lexes 0 bytes.now ts) }
     // The text has no other tokens.
     ensures only { IfOk result (λ ts. (us : List TokenTree) → Lexes 0 bytes.now us → us ≡ ts) }
+    // Each takes a byte at least.
+    ensures count { IfOk result (λ ts. length ts ≤ length bytes.now) }
     // A place is refused exactly where the text before it is cut, and from there on it can't be.
     ensures refused { IfErr result (λ e. CutError bytes.now e) }
 {

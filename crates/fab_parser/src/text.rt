@@ -1,10 +1,10 @@
 //! A whole bundle.
-ghost use Rattle.std.specs.Prelude.{◌≡◌, ◌<◌, ◌^◌, length, List, MatchResult, IfOk, IfErr, OnOk, Some};
+ghost use Rattle.std.specs.Prelude.{◌≡◌, ◌<◌, ◌^◌, length, List, MatchResult, IfOk, IfErr, OnOk};
 ghost use Rattle.fab_base.specs.Syntax.{IsStart, IsText};
-ghost use Rattle.fab_base.specs.Depth.{room_after};
+ghost use Rattle.fab_base.specs.Depth.{KeepsDepth};
 ghost use Rattle.fab_base.specs.declared.start.Start.{Start as StartTree};
 ghost use Rattle.fab_parser.specs.Reading.{Read, Stops, any};
-ghost use Rattle.fab_parser.specs.Texts.{RefusedAt, IsLimit};
+ghost use Rattle.fab_parser.specs.Texts.{RefusedAt, IsLimit, OnDepthLimit};
 
 use crate::error::ParseError;
 use crate::nodes::nodes;
@@ -35,8 +35,9 @@ pub fn bundle(alloc: Global, tokens: &[Token]) -> Result<Start, ParseError>
     ensures only { (s : StartTree) → IsText tokens.now s → MatchResult result (λ found. found ≡ s) IsLimit }
     // A token is refused exactly where those before it begin a text, and with it they begin none.
     ensures refused { IfErr result (λ e. RefusedAt tokens.now e) }
-    // No more than 64 brackets were open.
-    ensures depth { OnOk result (room_after tokens.now 64 ≡ Some 64) }
+    // No more than 64 brackets are open at once, and more where the limit is refused.
+    ensures depth { OnOk result (KeepsDepth tokens.now) }
+    ensures deep { IfErr result (λ e. OnDepthLimit e (KeepsDepth tokens.now → ⊥)) }
 {
     match start(alloc, tokens, DEPTH) {
         Ok((found, [])) => Ok(found),

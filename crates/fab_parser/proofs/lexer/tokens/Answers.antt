@@ -1,7 +1,7 @@
 use Rattle.std.proofs.Common.{refl, sym, ap, ◌∙◌, arith}
 use Rattle.fab_base.specs.Tokens.{piece_at}
 use Rattle.fab_base.specs.declared.token.Piece.TheVariants as p
-use Rattle.fab_parser.proofs.Lexing.{came, from_here, after_blank, after_token, smaller, nothing_at, all_read, only_tokens}
+use Rattle.fab_parser.proofs.Lexing.{came, from_here, after_blank, after_token, smaller, nothing_at, all_read, only_tokens, lexed_len}
 use Rattle.fab_parser.proofs.lexer.tokens.Goals as goal
 
 pub text-preserved-in-Some-Blank : goal.text-preserved-in-Some-Blank
@@ -53,3 +53,6 @@ returns-clause-found c = all_read c.text.invariant c.text-test.false
 
 pub returns-clause-only : goal.returns-clause-only
 returns-clause-only c = only_tokens c.text.invariant c.text-test.false
+
+pub returns-clause-count : goal.returns-clause-count
+returns-clause-count c = lexed_len (all_read c.text.invariant c.text-test.false)

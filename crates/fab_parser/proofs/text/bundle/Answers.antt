@@ -1,6 +1,6 @@
 use Rattle.std.proofs.Common.{◌≡◌, length, refl, ap, arith}
 use Rattle.fab_parser.specs.Reading.{any, nothing}
-use Rattle.fab_parser.proofs.TextRules.{bad_token, bad_bracket, more_behind}
+use Rattle.fab_parser.proofs.TextRules.{bad_token, bad_bracket, more_behind, too_deep}
 use Rattle.fab_parser.proofs.text.bundle.Goals as goal
 
 pub returns-in-Ok-clause-refused : goal.returns-in-Ok-clause-refused
@@ -12,3 +12,6 @@ returns-in-Err-Syntax-clause-refused c = let r = rw c.in-Err-Syntax.field-0-is a
 
 pub returns-in-Err-Deep-clause-refused : goal.returns-in-Err-Deep-clause-refused
 returns-in-Err-Deep-clause-refused c = let r = rw c.in-Err-Deep.field-0-is at c.in-Err-Deep.ensures in bad_bracket r refl
+
+pub returns-in-Err-Deep-clause-deep : goal.returns-in-Err-Deep-clause-deep
+returns-in-Err-Deep-clause-deep c = let r = rw c.in-Err-Deep.field-0-is at c.in-Err-Deep.ensures in too_deep (bad_bracket r refl)

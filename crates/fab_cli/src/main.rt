@@ -1,0 +1,22 @@
+//! The program: standard input and output, the words of the command line, and the status's number.
+#![tactic(auto)]
+
+use fab_base::{StdSink, StdSource};
+use fab_top::{Status, fab};
+use std::env;
+use std::process::ExitCode;
+
+fn main(rt: HostRuntime) -> ExitCode {
+    let alloc = rt.alloc();
+    let mut source = StdSource::new(rt.stdin());
+    let mut sink = StdSink::new(rt.stdout());
+    // Words that aren't text are a faulty command line, as none are.
+    let status = match env::args(&rt) {
+        Err(_) => fab(alloc, &[], &mut source, &mut sink),
+        Ok(args) => match args.skip(1).collect::<Vec<String>>(alloc) {
+            Err(_) => Status::Memory,
+            Ok(words) => fab(alloc, &words, &mut source, &mut sink),
+        },
+    };
+    ExitCode::from(status.number())
+}

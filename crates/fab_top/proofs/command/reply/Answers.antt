@@ -1,0 +1,27 @@
+use Rattle.std.proofs.Common.{◌≡◌, [], refl, sym, subst, false, IsTrue}
+use Rattle.std.proofs.KnownBytes.{Keeps-refl}
+use Rattle.fab_base.specs.Evaluation.{Spells}
+use Rattle.fab_top.specs.Reply.{AskEvaluation, usage, evaluated, not_built, SpellsNone}
+use Rattle.fab_top.proofs.command.reply.Goals as goal
+
+not_so : {b : _} → b ≡ false → IsTrue b → ⊥
+not_so e h = cc
+
+pub returns-then-not-ask_evaluation-clause-given : goal.returns-then-not-ask_evaluation-clause-given
+returns-then-not-ask_evaluation-clause-given g c =
+    let no : AskEvaluation c.args.words.now → ⊥ = λ h. not_so c.if-not-ask_evaluation.true (c.ask_evaluation.ensures.1 h) in
+    ([], record { asked = λ h. absurd (no h); unasked = λ n. Keeps-refl (g.S.Source.left c.args.source.now) }, rw c.in_ok-from_slice.ensures (usage no))
+
+pub returns-in-Some-clause-given : goal.returns-in-Some-clause-given
+returns-in-Some-clause-given g c =
+    let yes : AskEvaluation c.args.words.now = c.ask_evaluation.ensures.0 c.if-not-ask_evaluation.false in
+    let m = rw c.in-Some.is at c.in_ok-start.ensures in
+    let p : Spells c.in_ok-text.text.items c.in-Some.start = subst (λ t. Spells t c.in-Some.start) c.deref.ensures.value m in
+    (c.in_ok-text.text.items, record { asked = λ h. c.in_ok-text.ensures.text; unasked = λ n. absurd (n yes) }, rw c.in_ok-text_of-in-Some.ensures (evaluated yes p))
+
+pub returns-clause-given : goal.returns-clause-given
+returns-clause-given g c =
+    let yes : AskEvaluation c.args.words.now = c.ask_evaluation.ensures.0 c.if-not-ask_evaluation.false in
+    let m = rw c.in-None.is at c.in_ok-start.ensures in
+    let n : SpellsNone c.in_ok-text.text.items = subst SpellsNone c.deref.ensures.value m in
+    (c.in_ok-text.text.items, record { asked = λ h. c.in_ok-text.ensures.text; unasked = λ n. absurd (n yes) }, rw c.in_ok-from_slice-in-None.ensures (not_built yes n))
