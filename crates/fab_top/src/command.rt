@@ -49,12 +49,7 @@ fn reply<S: Source>(
 }
 
 /// Replies, and says how it ended.
-fn run<S: Source, K: Sink>(
-    alloc: Global,
-    words: &[String],
-    source: &mut S,
-    sink: &mut K,
-) -> Status
+fn run<S: Source, K: Sink>(alloc: Global, words: &[String], source: &mut S, sink: &mut K) -> Status
     ensures ends { Ends words.now result (S.left source.old) (S.left source.new) (K.written sink.old) (K.written sink.new) }
     ensures unread { (AskEvaluation words.now → ⊥) → source.new ≡ source.old }
     ensures taken { TakesAtMost 1000001 (S.left source.old) (S.left source.new) }

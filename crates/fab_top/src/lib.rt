@@ -5,6 +5,8 @@ mod command;
 mod evaluation;
 mod reading;
 mod status;
+#[cfg(test)]
+mod tests;
 mod writing;
 
 pub use command::fab;
