@@ -4,7 +4,10 @@ ghost use Rattle.std.specs.Prelude.{Some};
 use crate::{Status, fab};
 use fab_base::{MemSink, MemSource, NoMemory, Seq, Sink, SinkError, SureSink, SureSource};
 use std::alloc::Global;
+use std::process::Abort;
 use std::test::Fail;
+
+const SMALLEST: &str = "worker w1;store s1;run{}";
 
 fn words_of(alloc: Global, words: &[&str]) -> Result<Vec<String>, NoMemory> {
     let mut made = Vec::new(alloc);
@@ -14,30 +17,40 @@ fn words_of(alloc: Global, words: &[&str]) -> Result<Vec<String>, NoMemory> {
     Ok(made)
 }
 
-/// The status and what is written for a text and the word `eval`.
-fn evaluated(alloc: Global, text: &[u8]) -> Result<(Status, Seq<u8>), NoMemory> {
+/// Evaluates a text, and compares the status and what is written.
+fn expect(
+    rt: &impl Abort,
+    alloc: Global,
+    text: &[u8],
+    status: Status,
+    line: &str,
+) -> Result<(), NoMemory> {
     let words = words_of(alloc, &["eval"])?;
     let mut source = SureSource::new(Seq::from_slice(alloc, text)?);
     let mut sink = SureSink::new(alloc)?;
-    let status = fab(alloc, &words, &mut source, &mut sink);
-    Ok((status, Seq::from_slice(alloc, sink.bytes())?))
+    let found = fab(alloc, &words, &mut source, &mut sink);
+    assert_eq!(rt; found, status);
+    assert_eq!(rt; sink.bytes(), line.as_bytes());
+    Ok(())
 }
 
 #[test]
-fn texts(rt: HostRuntime) -> Result<(), Fail> {
-    let good = [
-        "worker w1;store s1;run{}",
+fn good_texts(rt: HostRuntime) -> Result<(), Fail> {
+    for text in [
+        SMALLEST,
         "store s1;worker w1;run{}",
         "principal A;\r\n\tworker w1 ; principal b_2;store _s;\nrun { }\n",
         "// a comment\nworker w1;store s1;run{}// and one at the end",
         "worker worker1;store runs;run{}",
-    ];
-    for text in good {
-        let (status, written) = evaluated(rt.alloc(), text.as_bytes())?;
-        assert_eq!(rt; status, Status::Ok, "{text}");
-        assert_eq!(rt; written.as_slice(), b"end\n".as_slice(), "{text}");
+    ] {
+        expect(&rt, rt.alloc(), text.as_bytes(), Status::Ok, "end\n")?;
     }
-    let bad = [
+    Ok(())
+}
+
+#[test]
+fn other_texts(rt: HostRuntime) -> Result<(), Fail> {
+    for text in [
         "",
         "run{}",
         "worker w1;run{}",
@@ -48,7 +61,6 @@ fn texts(rt: HostRuntime) -> Result<(), Fail> {
         "hostile worker w1;store s1;run{}",
         "hostile principal A;worker w1;store s1;run{}",
         "worker w1;store s1;class C label P access P {} run{}",
-        "worker w1;store s1;run{root r:C@s1(99999999999999999999);}",
         "worker w1;store s1;run{}99999999999999999999",
         "worker w;store w;run{}",
         "principal w;worker w;store s;run{}",
@@ -62,69 +74,113 @@ fn texts(rt: HostRuntime) -> Result<(), Fail> {
         "worker w1;store s1;run{}$",
         "worker w1;store s1;run{}/ end",
         "worker w\u{e9};store s1;run{}",
-    ];
-    for text in bad {
-        let (status, written) = evaluated(rt.alloc(), text.as_bytes())?;
-        assert_eq!(rt; status, Status::NotBuilt, "{text}");
-        assert_eq!(rt; written.as_slice(), b"not built\n".as_slice(), "{text}");
+    ] {
+        expect(
+            &rt,
+            rt.alloc(),
+            text.as_bytes(),
+            Status::NotBuilt,
+            "not built\n",
+        )?;
     }
     Ok(())
 }
 
+/// A bundle whose worker's name has so many letters.
+fn long_name(alloc: Global, letters: u32) -> Result<String, NoMemory> {
+    let mut text = String::from_str(alloc, "worker ")?;
+    for _ in 0..letters {
+        text.push_str("x")?;
+    }
+    text.push_str(";store s1;run{}")?;
+    Ok(text)
+}
+
+/// A bundle with so many principals, nodes included.
+fn many_principals(alloc: Global, count: u32) -> Result<String, NoMemory> {
+    let mut text = String::from_str(alloc, "worker w1;store s1;")?;
+    for i in 2..count {
+        let line = format!(in alloc; "principal p{i};")?;
+        text.push_str(line.as_str())?;
+    }
+    text.push_str("run{}")?;
+    Ok(text)
+}
+
+/// The smallest bundle, and spaces up to so many bytes.
+fn padded(alloc: Global, len: usize) -> Result<Vec<u8>, NoMemory> {
+    let mut text = Vec::from_slice(alloc, SMALLEST.as_bytes())?;
+    text.resize(len, b' ')?;
+    Ok(text)
+}
+
 #[test]
-fn sizes(rt: HostRuntime) -> Result<(), Fail> {
+fn names_of_64_and_65_letters(rt: HostRuntime) -> Result<(), Fail> {
     let alloc = rt.alloc();
-    // A name of 64 letters, and one of 65.
-    for (letters, status) in [(64, Status::Ok), (65, Status::NotBuilt)] {
-        let mut text = String::from_str(alloc, "worker ")?;
-        for _ in 0..letters {
-            text.push_str("x")?;
-        }
-        text.push_str(";store s1;run{}")?;
-        assert_eq!(rt;
-            evaluated(alloc, text.as_bytes())?.0,
-            status,
-            "{letters} letters"
-        );
-    }
-    // 64 principals, nodes included, and 65.
-    for (others, status) in [(62, Status::Ok), (63, Status::NotBuilt)] {
-        let mut text = String::from_str(alloc, "worker w1;store s1;")?;
-        for i in 0..others {
-            let line = format!(in alloc; "principal p{i};")?;
-            text.push_str(line.as_str())?;
-        }
-        text.push_str("run{}")?;
-        assert_eq!(rt;
-            evaluated(alloc, text.as_bytes())?.0,
-            status,
-            "{others} others"
-        );
-    }
-    // A text of 1,000,000 bytes, most of them spaces, and one of a byte more.
-    for (len, status) in [(1_000_000, Status::Ok), (1_000_001, Status::NotBuilt)] {
-        let mut text = b"worker w1;store s1;run{}".to_vec(alloc)?;
-        while text.len() < len {
-            text.push(b' ')?;
-        }
-        assert_eq!(rt; evaluated(alloc, &text)?.0, status, "{len} bytes");
-    }
+    let text = long_name(alloc, 64)?;
+    expect(&rt, alloc, text.as_bytes(), Status::Ok, "end\n")?;
+    let text = long_name(alloc, 65)?;
+    expect(&rt, alloc, text.as_bytes(), Status::NotBuilt, "not built\n")?;
+    Ok(())
+}
+
+#[test]
+fn principals_64_and_65(rt: HostRuntime) -> Result<(), Fail> {
+    let alloc = rt.alloc();
+    let text = many_principals(alloc, 64)?;
+    expect(&rt, alloc, text.as_bytes(), Status::Ok, "end\n")?;
+    let text = many_principals(alloc, 65)?;
+    expect(&rt, alloc, text.as_bytes(), Status::NotBuilt, "not built\n")?;
+    Ok(())
+}
+
+#[test]
+fn bytes_1_000_000_and_one_more(rt: HostRuntime) -> Result<(), Fail> {
+    let alloc = rt.alloc();
+    expect(&rt, alloc, &padded(alloc, 1_000_000)?, Status::Ok, "end\n")?;
+    expect(
+        &rt,
+        alloc,
+        &padded(alloc, 1_000_001)?,
+        Status::NotBuilt,
+        "not built\n",
+    )?;
+    Ok(())
+}
+
+/// Words that ask for nothing.
+fn refuse(rt: &impl Abort, alloc: Global, words: &[&str]) -> Result<(), NoMemory> {
+    let words = words_of(alloc, words)?;
+    let text = Seq::from_slice(alloc, SMALLEST.as_bytes())?;
+    let mut source = MemSource::with_fails(alloc, text, Seq::new(alloc))?;
+    let mut sink = MemSink::with_fails(alloc, Seq::new(alloc))?;
+    let status = fab(alloc, &words, &mut source, &mut sink);
+    assert_eq!(rt; status, Status::Usage);
+    assert_eq!(rt; sink.bytes(), b"usage\n".as_slice());
     Ok(())
 }
 
 #[test]
 fn words(rt: HostRuntime) -> Result<(), Fail> {
     let alloc = rt.alloc();
-    let lists: [&[&str]; 5] = [&[], &["run"], &["eval", "eval"], &["Eval"], &[""]];
-    for list in lists {
-        let words = words_of(alloc, list)?;
-        let text = Seq::from_slice(alloc, b"worker w1;store s1;run{}")?;
-        let mut source = MemSource::with_fails(alloc, text, Seq::new(alloc))?;
-        let mut sink = MemSink::with_fails(alloc, Seq::new(alloc))?;
-        let status = fab(alloc, &words, &mut source, &mut sink);
-        assert_eq!(rt; status, Status::Usage, "{list:?}");
-        assert_eq!(rt; sink.bytes(), b"usage\n".as_slice(), "{list:?}");
-    }
+    refuse(&rt, alloc, &[])?;
+    refuse(&rt, alloc, &["run"])?;
+    refuse(&rt, alloc, &["eval", "eval"])?;
+    refuse(&rt, alloc, &["Eval"])?;
+    refuse(&rt, alloc, &[""])?;
+    Ok(())
+}
+
+#[test]
+fn second_read_fails(rt: HostRuntime) -> Result<(), Fail> {
+    let alloc = rt.alloc();
+    let words = words_of(alloc, &["eval"])?;
+    let text = Seq::from_slice(alloc, SMALLEST.as_bytes())?;
+    let mut source = MemSource::with_fails(alloc, text, Seq::from_slice(alloc, &[2])?)?;
+    let mut sink = SureSink::new(alloc)?;
+    let status = fab(alloc, &words, &mut source, &mut sink);
+    assert_eq!(rt; status, Status::ReadFault);
+    assert_eq!(rt; sink.bytes(), b"".as_slice());
     Ok(())
 }
 
@@ -158,6 +214,37 @@ impl Sink for Drip {
     }
 }
 
+/// What goes out where the write of this number fails.
+fn expect_front(
+    rt: &impl Abort,
+    alloc: Global,
+    fails_at: u32,
+    front: &str,
+) -> Result<(), NoMemory> {
+    let words = words_of(alloc, &["eval"])?;
+    let mut source = SureSource::new(Seq::from_slice(alloc, SMALLEST.as_bytes())?);
+    let mut sink = Drip {
+        bytes: Vec::new(alloc),
+        calls: 0,
+        fails_at,
+        faults: 0,
+    };
+    let status = fab(alloc, &words, &mut source, &mut sink);
+    assert_eq!(rt; status, Status::WriteFault);
+    assert_eq!(rt; sink.bytes.as_slice(), front.as_bytes());
+    Ok(())
+}
+
+#[test]
+fn a_write_fails(rt: HostRuntime) -> Result<(), Fail> {
+    let alloc = rt.alloc();
+    expect_front(&rt, alloc, 1, "")?;
+    expect_front(&rt, alloc, 2, "e")?;
+    expect_front(&rt, alloc, 3, "en")?;
+    expect_front(&rt, alloc, 4, "end")?;
+    Ok(())
+}
+
 /// A sink that takes nothing.
 #[derive(Drop)]
 struct Full {
@@ -178,50 +265,12 @@ impl Sink for Full {
 }
 
 #[test]
-fn faults(rt: HostRuntime) -> Result<(), Fail> {
+fn nothing_is_taken(rt: HostRuntime) -> Result<(), Fail> {
     let alloc = rt.alloc();
     let words = words_of(alloc, &["eval"])?;
-    let text = b"worker w1;store s1;run{}";
-    // The second read fails: nothing is written.
-    let fails = Seq::from_slice(alloc, &[2])?;
-    let mut source = MemSource::with_fails(alloc, Seq::from_slice(alloc, text)?, fails)?;
-    let mut sink = SureSink::new(alloc)?;
-    let status = fab(alloc, &words, &mut source, &mut sink);
-    assert_eq!(rt; status, Status::ReadFault);
-    assert_eq!(rt; sink.bytes(), b"".as_slice());
-    // A write fails at each call in turn: what went out is a front of the text.
-    for k in 1..5u32 {
-        let mut source = SureSource::new(Seq::from_slice(alloc, text)?);
-        let mut sink = Drip {
-            bytes: Vec::new(alloc),
-            calls: 0,
-            fails_at: k,
-            faults: 0,
-        };
-        let status = fab(alloc, &words, &mut source, &mut sink);
-        assert_eq!(rt; status, Status::WriteFault, "call {k}");
-        assert!(rt; b"end\n".starts_with(&sink.bytes), "call {k}");
-        assert_eq!(rt; sink.bytes.len() as u32 + 1, k);
-    }
-    // Nothing is taken.
-    let mut source = SureSource::new(Seq::from_slice(alloc, text)?);
+    let mut source = SureSource::new(Seq::from_slice(alloc, SMALLEST.as_bytes())?);
     let mut sink = Full { faults: 0 };
     let status = fab(alloc, &words, &mut source, &mut sink);
     assert_eq!(rt; status, Status::WriteFault);
     Ok(())
-}
-
-#[test]
-fn numbers(rt: HostRuntime) {
-    let table = [
-        (Status::Ok, 0),
-        (Status::Usage, 1),
-        (Status::ReadFault, 2),
-        (Status::WriteFault, 3),
-        (Status::Memory, 4),
-        (Status::NotBuilt, 11),
-    ];
-    for (status, number) in table {
-        assert_eq!(rt; status.number(), number);
-    }
 }
