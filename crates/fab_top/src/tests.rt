@@ -2,7 +2,9 @@
 ghost use Rattle.std.specs.Prelude.{Some};
 
 use crate::{Status, fab};
-use fab_base::{MemSink, MemSource, NoMemory, Seq, Sink, SinkError, SureSink, SureSource};
+use fab_base::{
+    Failed, MemSink, MemSource, NoMemory, Seq, Sink, SinkError, Source, SureSink, SureSource,
+};
 use std::alloc::Global;
 use std::process::Abort;
 use std::test::Fail;
@@ -181,6 +183,48 @@ fn second_read_fails(rt: HostRuntime) -> Result<(), Fail> {
     let status = fab(alloc, &words, &mut source, &mut sink);
     assert_eq!(rt; status, Status::ReadFault);
     assert_eq!(rt; sink.bytes(), b"".as_slice());
+    Ok(())
+}
+
+/// A source of spaces without end, which tells nothing.
+#[derive(Drop)]
+struct Spaces {
+    reads: u32,
+    longest: usize,
+    last: usize,
+}
+
+impl Source for Spaces {
+    ghost use Rattle.std.specs.Prelude.{None};
+
+    ghost left = { λ _. None };
+
+    ghost faults = { λ _. 0 };
+
+    fn read(&mut self, buf: &mut [u8]) -> Result<usize, Failed> {
+        self.reads = self.reads.saturating_add(1);
+        self.longest = self.longest.max(buf.len());
+        self.last = buf.len();
+        buf.fill(b' ');
+        Ok(buf.len())
+    }
+}
+
+#[test]
+fn pieces_of_65_536_bytes(rt: HostRuntime) -> Result<(), Fail> {
+    let alloc = rt.alloc();
+    let words = words_of(alloc, &["eval"])?;
+    let mut source = Spaces {
+        reads: 0,
+        longest: 0,
+        last: 0,
+    };
+    let mut sink = SureSink::new(alloc)?;
+    let status = fab(alloc, &words, &mut source, &mut sink);
+    assert_eq!(rt; status, Status::NotBuilt);
+    assert_eq!(rt; source.reads, 16);
+    assert_eq!(rt; source.longest, 65_536);
+    assert_eq!(rt; source.last, 16_961);
     Ok(())
 }
 
