@@ -1,3 +1,5 @@
 pub mod Arith
 pub mod Faults
+pub mod Labels
+pub mod Principals
 pub mod Sinks
