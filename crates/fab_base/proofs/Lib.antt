@@ -1,1 +1,2 @@
+pub mod LabelExamples
 pub mod Quotient
