@@ -1,0 +1,44 @@
+-- Chains of declared delegations, put together and taken apart.
+use Rattle.std.proofs.Common.{◌≡◌, ℕ, ◌⊎◌, ◌↔◌, List, [], ◌∷◌, ◌++◌, inl, inr, refl, sym, ap, subst, Contains}
+use Rattle.std.proofs.lemmas.List.Elements.{Contains-append_left, Contains-push, Contains-push_cases}
+use Rattle.fab_base.specs.Principals.{Leads}
+use Rattle.fab_principals.specs.Tables.{Reaches}
+
+-- what leads over some pairs leads over more
+pub Leads-more : (xs ys : List (ℕ × ℕ)) → ((p q : ℕ) → Contains xs (p, q) → Contains ys (p, q)) → (p : ℕ) (rest : List ℕ) (q : ℕ) → Leads xs p rest q → Leads ys p rest q
+Leads-more xs ys kept p [] q h = h
+Leads-more xs ys kept p (x ∷ rest) q h = (kept p x h.0, Leads-more xs ys kept x rest q h.1)
+
+pub Leads-append : (xs : List (ℕ × ℕ)) (p : ℕ) (one : List ℕ) (q : ℕ) (two : List ℕ) (r : ℕ) → Leads xs p one q → Leads xs q two r → Leads xs p (one ++ two) r
+Leads-append xs p [] q two r h k = subst (λ (w : ℕ). Leads xs w two r) (sym h) k
+Leads-append xs p (x ∷ one) q two r h k = (h.0, Leads-append xs x one q two r h.1 k)
+
+-- a way over one more pair goes over the old ones alone, or to that pair's first and from its second
+pub Leads-split : (xs : List (ℕ × ℕ)) (a b p : ℕ) (rest : List ℕ) (q : ℕ) → Leads (xs ++ (a, b) ∷ []) p rest q → Reaches xs p q ⊎ (Reaches xs p a × Reaches xs b q)
+Leads-split xs a b p [] q h = inl ([], h)
+Leads-split xs a b p (x ∷ rest) q h =
+    let further = Leads-split xs a b x rest q h.1 in
+    elim (Contains-push_cases xs (a, b) (p, x) h.0) [
+      inl old ↦ elim further [ inl way ↦ inl (x ∷ way.0, (old, way.1)) | inr ways ↦ inr ((x ∷ ways.0.0, (old, ways.0.1)), ways.1) ]
+    | inr new ↦
+      let first : (ℕ × ℕ) → ℕ = λ w. w.0 in
+      let second : (ℕ × ℕ) → ℕ = λ w. w.1 in
+      elim further [
+        inl way ↦ inr (([], sym (ap first new)), (way.0, subst (λ (w : ℕ). Leads xs w way.0 q) (sym (ap second new)) way.1))
+      | inr ways ↦ inr (([], sym (ap first new)), ways.1)
+      ]
+    ]
+
+pub Reaches-append : (xs : List (ℕ × ℕ)) (p q r : ℕ) → Reaches xs p q → Reaches xs q r → Reaches xs p r
+Reaches-append xs p q r one two = (one.0 ++ two.0, Leads-append xs p one.0 q two.0 r one.1 two.1)
+
+-- who reaches whom with one more pair
+pub Reaches-push : (xs : List (ℕ × ℕ)) (a b p q : ℕ) → Reaches (xs ++ (a, b) ∷ []) p q ↔ (Reaches xs p q ⊎ (Reaches xs p a × Reaches xs b q))
+Reaches-push xs a b p q =
+    let all = xs ++ (a, b) ∷ [] in
+    let kept : (u v : ℕ) → Contains xs (u, v) → Contains all (u, v) = λ u v h. Contains-append_left xs ((a, b) ∷ []) (u, v) h in
+    (λ way. Leads-split xs a b p way.0 q way.1,
+      λ either. elim either [
+        inl way ↦ (way.0, Leads-more xs all kept p way.0 q way.1)
+      | inr ways ↦ (ways.0.0 ++ b ∷ ways.1.0, Leads-append all p ways.0.0 a (b ∷ ways.1.0) q (Leads-more xs all kept p ways.0.0 a ways.0.1) (Contains-push xs (a, b), Leads-more xs all kept b ways.1.0 q ways.1.1))
+      ])

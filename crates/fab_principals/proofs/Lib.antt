@@ -1,0 +1,3 @@
+pub mod ChainLemmas
+pub mod SetLemmas
+pub mod TableLemmas

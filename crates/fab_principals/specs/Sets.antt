@@ -1,0 +1,7 @@
+-- Sets of numbers below 64, as bits.
+use Rattle.std.specs.Prelude.{ℕ, Bool, ◌==◌}
+use Rattle.std.specs.Int.{bit_at}
+
+-- bit k of the set stands for k
+unfoldable pub in_set : ℕ → ℕ → Bool
+in_set set k = bit_at set k == 1
