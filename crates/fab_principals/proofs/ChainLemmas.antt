@@ -1,7 +1,7 @@
 -- Chains of declared delegations, put together and taken apart.
-use Rattle.std.proofs.Common.{◌≡◌, ℕ, ◌⊎◌, ◌↔◌, List, [], ◌∷◌, ◌++◌, inl, inr, refl, sym, ap, subst, Contains}
-use Rattle.std.proofs.lemmas.List.Elements.{Contains-append_left, Contains-push, Contains-push_cases}
-use Rattle.fab_base.specs.Principals.{Leads}
+use Rattle.std.proofs.Common.{◌≡◌, ℕ, ◌⊎◌, ◌↔◌, List, [], ◌∷◌, ◌++◌, ◌<◌, inl, inr, refl, sym, ap, subst, Contains, All}
+use Rattle.std.proofs.lemmas.List.Elements.{Contains-append_left, Contains-push, Contains-push_cases, All-contains}
+use Rattle.fab_base.specs.Principals.{Delegations, Leads, IsChain, ActsFor}
 use Rattle.fab_principals.specs.Tables.{Reaches}
 
 -- what leads over some pairs leads over more
@@ -42,3 +42,18 @@ Reaches-push xs a b p q =
         inl way ↦ (way.0, Leads-more xs all kept p way.0 q way.1)
       | inr ways ↦ (ways.0.0 ++ b ∷ ways.1.0, Leads-append all p ways.0.0 a (b ∷ ways.1.0) q (Leads-more xs all kept p ways.0.0 a ways.0.1) (Contains-push xs (a, b), Leads-more xs all kept b ways.1.0 q ways.1.1))
       ])
+
+-- acting for is reaching by the declared pairs
+pub ActsFor-reaches : (d : Delegations) (p q : ℕ) → Reaches d.pairs p q ↔ ActsFor d p q
+ActsFor-reaches d p q = (λ way. (p ∷ way.0, (refl, way.1)), λ acts. back acts.0 acts.1)
+  where
+    back : (chain : List ℕ) → IsChain d p q chain → Reaches d.pairs p q
+    back [] h = absurd h
+    back (first ∷ rest) h = (rest, h.1)
+
+-- both ends of a way of at least one step are declared, so they are below the count
+pub Leads-ends : (xs : List (ℕ × ℕ)) (n : ℕ) → All (λ d. (d.0 < n) × (d.1 < n)) xs → (p : ℕ) (rest : List ℕ) (q : ℕ) → Leads xs p rest q → (p ≡ q) ⊎ ((p < n) × (q < n))
+Leads-ends xs n declared p [] q h = inl h
+Leads-ends xs n declared p (x ∷ rest) q h =
+    let here : (p < n) × (x < n) = All-contains (λ d. (d.0 < n) × (d.1 < n)) xs (p, x) declared h.0 in
+    elim (Leads-ends xs n declared x rest q h.1) [ inl same ↦ inr (here.0, subst (λ (w : ℕ). w < n) same here.1) | inr ends ↦ inr (here.0, ends.1) ]

@@ -1,3 +1,4 @@
 pub mod ChainLemmas
+pub mod RingLemmas
 pub mod SetLemmas
 pub mod TableLemmas

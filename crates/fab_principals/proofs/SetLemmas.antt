@@ -1,10 +1,10 @@
 -- What is in a set after each operation on sets.
-use Rattle.std.proofs.Common.{◌≡◌, ◌≢◌, ℕ, zero, suc, ◌+◌, ◌*◌, ◌/◌, ◌%◌, ◌^◌, ◌<◌, ◌≤◌, max, min, Bool, true, false, ◌||◌, ◌&&◌, ◌==◌, ◌⊎◌, ◌↔◌, inl, inr, refl, sym, ap, ◌∙◌, subst, arith, lit<, bit_and, bit_or, MatchOption, Option, Some, None}
+use Rattle.std.proofs.Common.{List, slice_index, IsTrue, ◌≡◌, ◌≢◌, ℕ, zero, suc, ◌+◌, ◌*◌, ◌/◌, ◌%◌, ◌^◌, ◌<◌, ◌≤◌, max, min, Bool, true, false, ◌||◌, ◌&&◌, ◌==◌, ◌⊎◌, ◌↔◌, inl, inr, refl, sym, ap, ◌∙◌, subst, arith, lit<, bit_and, bit_or, MatchOption, Option, Some, None}
 use Rattle.std.specs.Int.{bit_at, trailing_zeros, w64}
 use Rattle.std.proofs.lemmas.Nat.{one_shl, and_le_l}
 use Rattle.std.proofs.lemmas.Nat.Bits.{bit_at_or, bit_at_and, bit_at-lt, bit_at-pow_same, bit_at-pow_other, bit_at-zero, bit_at_above, shr_and_one, bit_at-trailing_zeros}
-use Rattle.std.proofs.lemmas.Bool.{cases_eq, eq-eqb, ne_eqb, eqb-true}
-use Rattle.fab_principals.specs.Sets.{in_set}
+use Rattle.std.proofs.lemmas.Bool.{cases_eq, eq-eqb, ne_eqb, eqb-true, and_parts, and_from, or_cases, or_left, or_right, both_ways, true_from_ne_false}
+use Rattle.fab_principals.specs.Sets.{in_set, Meets}
 
 pub in_set-shifted : (set k : ℕ) → (bit_and (set / 2 ^ k) 1 == 1) ≡ in_set set k
 unfolding in_set
@@ -69,3 +69,26 @@ common-lowest a b some fits =
     let small : bit_and a b < 2 ^ 64 = omega (arith, and_le_l a b) in
     let found = in_set-lowest (bit_and a b) positive small in
     (sym (in_set-and a b _) ∙ found.1, λ i below. sym (in_set-and a b i) ∙ found.2 i below)
+
+-- two sets meet where they have a bit in common
+pub meets-and : (a b : ℕ) → a < 2 ^ 64 → (t : Bool) → (t ≡ false → bit_and a b ≡ 0) → (t ≡ true → bit_and a b ≡ 0 → ⊥) → IsTrue t ↔ Meets a b
+meets-and a b fits t when_false when_true = (λ e. let found = common-lowest a b (when_true e) fits in let parts = and_parts _ _ found.0 in (trailing_zeros w64 (bit_and a b), parts.0, parts.1),
+  λ meets. true_from_ne_false t (λ e. both_ways _ (common-none a b (when_false e) meets.0) (and_from _ _ meets.1 meets.2)))
+
+-- one more row that meets the set, or doesn't
+pub sources_more : (rows : List ℕ) (set n found one wider : ℕ) → ((p : ℕ) → IsTrue (in_set found p) ↔ ((p < n) × Meets (slice_index rows p) set)) → Meets (slice_index rows n) set
+    → ((i : ℕ) → in_set wider i ≡ (in_set found i || in_set one i)) → ((i : ℕ) → in_set one i ≡ (i == n)) → (p : ℕ) → IsTrue (in_set wider p) ↔ ((p < n + 1) × Meets (slice_index rows p) set)
+sources_more rows set n found one wider known meets either is_one p =
+    (λ t. elim (or_cases _ _ (sym (either p) ∙ t)) [
+        inl old ↦ let k = (known p).0 old in (omega (arith, k.0), k.1)
+      | inr new ↦ let same : p ≡ n = eqb-true p n (sym (is_one p) ∙ new) in (omega arith, subst (λ (w : ℕ). Meets (slice_index rows w) set) (sym same) meets)
+      ],
+      λ h. either p ∙ elim (cases_eq p n) [
+        inl same ↦ or_right _ _ (is_one p ∙ eq-eqb p n same)
+      | inr other ↦ or_left _ _ ((known p).1 (omega (arith, h.0, other), h.1))
+      ])
+
+pub sources_same : (rows : List ℕ) (set n found : ℕ) → ((p : ℕ) → IsTrue (in_set found p) ↔ ((p < n) × Meets (slice_index rows p) set)) → (Meets (slice_index rows n) set → ⊥) → (p : ℕ) → IsTrue (in_set found p) ↔ ((p < n + 1) × Meets (slice_index rows p) set)
+sources_same rows set n found known misses p =
+    (λ t. let k = (known p).0 t in (omega (arith, k.0), k.1),
+      λ h. elim (cases_eq p n) [ inl same ↦ absurd (misses (subst (λ (w : ℕ). Meets (slice_index rows w) set) same h.1)) | inr other ↦ (known p).1 (omega (arith, h.0, other), h.1) ])

@@ -1,6 +1,6 @@
 //! Relations of principals as tables of sets, a row for each principal.
 
-ghost use Rattle.std.specs.Prelude.{◌≡◌, ℕ, ◌<◌, ◌≤◌, ◌||◌, ◌&&◌, length, slice_index, IfOk, All, Contains};
+ghost use Rattle.std.specs.Prelude.{◌≡◌, ℕ, ◌<◌, ◌≤◌, ◌^◌, ◌||◌, ◌&&◌, length, slice_index, IfOk, All, Contains};
 ghost use Rattle.fab_principals.specs.Sets.{in_set};
 ghost use Rattle.fab_principals.specs.Tables.{IsTable, Reaches};
 
@@ -61,7 +61,8 @@ pub fn direct_rows(
 ) -> Result<Vec<u64>, NoMemory>
     requires few { count ≤ 64 }
     requires declared { All (λ d. (d.0 < count) × (d.1 < count)) pairs.now }
-    ensures { IfOk result (λ rows. IsTable rows.items count (λ p q. Contains pairs.now (p, q))) }
+    ensures table { IfOk result (λ rows. IsTable rows.items count (λ p q. Contains pairs.now (p, q))) }
+    ensures fits { IfOk result (λ rows. All (λ row. row < 2 ^ 64) rows.items) }
 {
     let mut rows = vec![in alloc; 0; count as usize]?;
     for pair in pairs {
