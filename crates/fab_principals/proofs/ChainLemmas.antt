@@ -51,6 +51,12 @@ ActsFor-reaches d p q = (λ way. (p ∷ way.0, (refl, way.1)), λ acts. back act
     back [] h = absurd h
     back (first ∷ rest) h = (rest, h.1)
 
+pub ActsFor-refl : (d : Delegations) (p : ℕ) → ActsFor d p p
+ActsFor-refl d p = (p ∷ [], (refl, refl))
+
+pub ActsFor-trans : (d : Delegations) (p q r : ℕ) → ActsFor d p q → ActsFor d q r → ActsFor d p r
+ActsFor-trans d p q r one two = (ActsFor-reaches d p r).0 (Reaches-append d.pairs p q r ((ActsFor-reaches d p q).1 one) ((ActsFor-reaches d q r).1 two))
+
 -- both ends of a way of at least one step are declared, so they are below the count
 pub Leads-ends : (xs : List (ℕ × ℕ)) (n : ℕ) → All (λ d. (d.0 < n) × (d.1 < n)) xs → (p : ℕ) (rest : List ℕ) (q : ℕ) → Leads xs p rest q → (p ≡ q) ⊎ ((p < n) × (q < n))
 Leads-ends xs n declared p [] q h = inl h

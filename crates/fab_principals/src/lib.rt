@@ -2,8 +2,10 @@
 #![tactic(auto)]
 
 mod acts;
+mod laws;
 mod paths;
 mod sets;
 mod tables;
 
 pub use acts::Acts;
+pub use laws::acts_for_laws;
