@@ -1,5 +1,5 @@
 -- Labels of the decentralized label model: what policies deny, and which labels flow to which.
-use Rattle.std.specs.Prelude.{◌≡◌, ℕ, ◌⊎◌, List, [], ◌∷◌, take, Option, Some, None, slice_get, Any, All, IsBitSet}
+use Rattle.std.specs.Prelude.{ℕ, ◌⊎◌, List, [], ◌∷◌, take, Option, Some, None, IsSomeAnd, slice_get, Any, All, IsBitSet}
 use Rattle.fab_base.specs.declared.label.Policy.{Policy}
 use Rattle.fab_base.specs.declared.label.Label.{Label}
 use Rattle.fab_base.specs.Principals.{Delegations, ActsFor}
@@ -57,4 +57,4 @@ pub record Covers (d : Delegations) (j i : Policy) : Type 0 where
 -- the place of the first policy that covers i, and none where none does
 abbrev pub IsFirstCover : Delegations → List Policy → Policy → Option ℕ → Type 0
 IsFirstCover d policies i None = ¬ Any (λ j. Covers d j i) policies
-IsFirstCover d policies i (Some k) = Any (λ j. (slice_get policies k ≡ Some j) × Covers d j i) policies × (¬ Any (λ j. Covers d j i) (take k policies))
+IsFirstCover d policies i (Some k) = IsSomeAnd (slice_get policies k) (λ j. Covers d j i) × (¬ Any (λ j. Covers d j i) (take k policies))

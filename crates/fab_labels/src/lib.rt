@@ -1,0 +1,9 @@
+//! The flow of labels, by looking for policies that cover others.
+#![tactic(auto)]
+
+mod flow;
+mod policies;
+
+pub use flow::{
+    cover_conf, cover_integ, declass_ok, endorse_ok, flows, flows_conf, flows_integ,
+};
