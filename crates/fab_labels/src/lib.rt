@@ -2,8 +2,10 @@
 #![tactic(auto)]
 
 mod flow;
+mod laws;
 mod policies;
 
+pub use laws::{confidentiality_laws, flow_laws};
 pub use flow::{
     cover_conf, cover_integ, declass_ok, endorse_ok, flows, flows_conf, flows_integ,
 };
