@@ -43,8 +43,8 @@ pub deny_covered_with : (d : Delegations) (xs bs : List Policy) (set : ℕ) → 
 deny_covered_with d xs bs set covered p group (k, i, within, is, denies) =
     let found : Any (λ j. Covers d j i) bs ⊎ HasAuthority d set i.owner = subst (λ (w : Policy). Any (λ j. Covers d j w) bs ⊎ HasAuthority d set w.owner) is (covered k i within) in
     elim found [
-      inl other ↦ inl (other.0, other.1, other.2, other.3, Covers-denies d other.1 i p group other.4 denies)
-    | inr authority ↦ inr (authority.0, authority.1, Covers-denies d (alone authority.0) i p group (Authority-covers d authority.0 i authority.2) denies)
+      | inl other ↦ inl (other.0, other.1, other.2, other.3, Covers-denies d other.1 i p group other.4 denies)
+      | inr authority ↦ inr (authority.0, authority.1, Covers-denies d (alone authority.0) i p group (Authority-covers d authority.0 i authority.2) denies)
     ]
 
 -- ---- the group of all members of the others who act neither for i's owner nor for a member of i
@@ -65,25 +65,26 @@ denies_outsiders : (d : Delegations) (i : Policy) (bs : List Policy) → PolicyD
 denies_outsiders d i bs = record {
   owner = ActsFor-refl d i.owner;
   outside = All-weaker (λ m. not (acts_within d i m) ≡ true) (λ m. ¬ ActsForOne d m (i.owner ∷ i.others)) (λ m t one. both_ways (acts_within d i m) (not-true _ t) ((Decides-within d i m).1 one)) (outsiders d i bs)
-    (filter_passes (λ m. not (acts_within d i m)) (flat_map (λ j. j.others) bs));
+      (filter_passes (λ m. not (acts_within d i m)) (flat_map (λ j. j.others) bs));
 }
 
 -- what holds of what a filter keeps holds of each element that passes
 unfiltered : (p : ℕ → Bool) (P : ℕ → Type 0) (xs : List ℕ) → ByRecursion P (filter p xs) → ByRecursion (λ x. p x ≡ true → P x) xs
 unfiltered p P [] all = tt
 unfiltered p P (x ∷ xs) all = elim (cases_Bool (p x)) [
-      inl passes ↦
+  | inl passes ↦
       let both : ByRecursion P (x ∷ filter p xs) = subst (λ (b : Bool). ByRecursion P (cond b (x ∷ filter p xs) (filter p xs))) passes all in
       (λ t. both.0, unfiltered p P xs both.1)
-    | inr fails ↦
+  | inr fails ↦
       let rest : ByRecursion P (filter p xs) = subst (λ (b : Bool). ByRecursion P (cond b (x ∷ filter p xs) (filter p xs))) fails all in
       (λ t. absurd (both_ways _ fails t), unfiltered p P xs rest)
-    ]
+]
 
 All-parts : (P : ℕ → Type 0) (xs ys : List ℕ) → All P (xs ++ ys) → All P xs × All P ys
-All-parts P xs ys all =
-    (λ k e within. subst P (get_or_append_left xs ys e k within) (all k e (omega (arith, length-append xs ys))),
-      λ k e within. subst P (get_or-append-add xs ys k e) (all (length xs + k) e (omega (arith, length-append xs ys))))
+All-parts P xs ys all = (
+  λ k e within. subst P (get_or_append_left xs ys e k within) (all k e (omega (arith, length-append xs ys))),
+  λ k e within. subst P (get_or-append-add xs ys k e) (all (length xs + k) e (omega (arith, length-append xs ys))),
+)
 
 All-flat : (P : ℕ → Type 0) (js : List Policy) → All P (flat_map (λ (j : Policy). j.others) js) → (k : ℕ) (j : Policy) → k < length js → All P (get_or js k j).others
 All-flat P [] all k j within = absurd (omega arith)
@@ -102,16 +103,18 @@ covers_from_denial d i bs k j within is denies = record { owner = denies.owner; 
   where
     outside : All (λ m. not (acts_within d i m) ≡ true → ¬ ActsForOne d m (j.owner ∷ j.others)) (flat_map (λ w. w.others) bs)
     outside = All-from_recursion (λ m. not (acts_within d i m) ≡ true → ¬ ActsForOne d m (j.owner ∷ j.others)) (flat_map (λ w. w.others) bs)
-      (unfiltered (λ m. not (acts_within d i m)) (λ m. ¬ ActsForOne d m (j.owner ∷ j.others)) (flat_map (λ w. w.others) bs) (recursion_from_All (λ m. ¬ ActsForOne d m (j.owner ∷ j.others)) (outsiders d i bs) denies.outside))
+        (unfiltered (λ m. not (acts_within d i m)) (λ m. ¬ ActsForOne d m (j.owner ∷ j.others)) (flat_map (λ w. w.others) bs) (recursion_from_All (λ m. ¬ ActsForOne d m (j.owner ∷ j.others)) (outsiders d i bs) denies.outside))
+
     here : All (λ m. not (acts_within d i m) ≡ true → ¬ ActsForOne d m (j.owner ∷ j.others)) j.others
     here = subst (λ (w : Policy). All (λ m. not (acts_within d i m) ≡ true → ¬ ActsForOne d m (j.owner ∷ j.others)) w.others) is
-      (All-flat (λ m. not (acts_within d i m) ≡ true → ¬ ActsForOne d m (j.owner ∷ j.others)) bs outside k j within)
+        (All-flat (λ m. not (acts_within d i m) ≡ true → ¬ ActsForOne d m (j.owner ∷ j.others)) bs outside k j within)
+
     members : All (λ m. ActsForOne d m (i.owner ∷ i.others)) j.others
     members n e below = elim (cases_Bool (acts_within d i (get_or j.others n e))) [
-          inl inside ↦ (Decides-within d i (get_or j.others n e)).0 inside
-        | inr out ↦ absurd (here n e below (not_from_false _ out) (Any-tail (λ q. ActsFor d (get_or j.others n e) q) j.owner j.others
-            (n, get_or j.others n e, below, same_element j.others n e below, ActsFor-refl d (get_or j.others n e))))
-        ]
+      | inl inside ↦ (Decides-within d i (get_or j.others n e)).0 inside
+      | inr out ↦ absurd (here n e below (not_from_false _ out) (Any-tail (λ q. ActsFor d (get_or j.others n e) q) j.owner j.others
+          (n, get_or j.others n e, below, same_element j.others n e below, ActsFor-refl d (get_or j.others n e))))
+    ]
 
 pub covered_by_denial : (d : Delegations) (xs bs : List Policy) → ((p : ℕ) (group : List ℕ) → Deny d xs p group → Deny d bs p group) → All (λ i. Any (λ j. Covers d j i) bs) xs
 covered_by_denial d xs bs flows k e within =
@@ -123,8 +126,8 @@ pub covered_by_denial_with : (d : Delegations) (xs bs : List Policy) (set : ℕ)
 covered_by_denial_with d xs bs set flows k e within =
     let i = get_or xs k e in
     elim (flows i.owner (outsiders d i bs) (k, i, within, same_policy xs k e within, denies_outsiders d i bs)) [
-      inl found ↦ inl (found.0, found.1, found.2, found.3, covers_from_denial d i bs found.0 found.1 found.2 found.3 found.4)
-    | inr alone_one ↦ inr (alone_one.0, alone_one.1, alone_one.2.owner)
+      | inl found ↦ inl (found.0, found.1, found.2, found.3, covers_from_denial d i bs found.0 found.1 found.2 found.3 found.4)
+      | inr alone_one ↦ inr (alone_one.0, alone_one.1, alone_one.2.owner)
     ]
 
 -- ---- for the laws

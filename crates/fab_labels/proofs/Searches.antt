@@ -46,17 +46,18 @@ Any-cases P x xs (suc k, y, within, is, p) = inr (k, y, omega arith, is, p)
 
 -- the first element that has P, where those before it don't
 pub first_found : {X : Type 0} (P : X → Type 0) (xs : List X) (k : ℕ) (x : X) → k < length xs → x ≡ get_or xs k x → P x → AllWithin (λ y. ¬ P y) xs 0 k → IsSomeAnd (slice_get xs k) P × (Any P (take k xs) → ⊥)
-first_found {X} P xs k x within is p none =
-    (subst (λ (o : Option X). IsSomeAnd o P) (sym (slice_get_read xs (length xs) k x refl within is)) p,
-      λ (j, y, below, at, q).
-        let inside : j < k = omega (arith, length-take k xs) in
-        none j y (omega arith) inside (subst P (sym (sym (get_or-take k xs j y inside) ∙ at)) q))
+first_found {X} P xs k x within is p none = (
+  subst (λ (o : Option X). IsSomeAnd o P) (sym (slice_get_read xs (length xs) k x refl within is)) p,
+  λ (j, y, below, at, q).
+      let inside : j < k = omega (arith, length-take k xs) in
+      none j y (omega arith) inside (subst P (sym (sym (get_or-take k xs j y inside) ∙ at)) q),
+)
 
 -- the bits of a set are below 64
 pub bit_below : (set o : ℕ) → set < 2 ^ 64 → IsBitSet set o → o < 64
 bit_below set o fits bit = elim (cases_lt o 64) [
-      inl below ↦ below
-    | inr high ↦
+  | inl below ↦ below
+  | inr high ↦
       let none : bit_at set o ≡ 0 = bit_at_above set 64 o fits high in
       absurd (bit (and_pow set o ∙ ap (λ b. b * 2 ^ o) none ∙ omega arith))
-    ]
+]

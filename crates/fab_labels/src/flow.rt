@@ -9,7 +9,7 @@ use fab_principals::Acts;
 pub fn flows(acts: &Acts, a: &Label, b: &Label) -> bool
     ensures { IsTrue result ↔ Flows acts.now a.now b.now }
 {
-    flows_conf(acts, a, b) && flows_integ(acts, a, b)
+    flows_integ(acts, a, b) && flows_conf(acts, a, b)
 }
 
 /// Whether the confidentiality of a flows to that of b.

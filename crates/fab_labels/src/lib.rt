@@ -4,8 +4,5 @@
 mod flow;
 mod laws;
 mod policies;
-
+pub use flow::{cover_conf, cover_integ, declass_ok, endorse_ok, flows, flows_conf, flows_integ};
 pub use laws::{confidentiality_laws, flow_laws};
-pub use flow::{
-    cover_conf, cover_integ, declass_ok, endorse_ok, flows, flows_conf, flows_integ,
-};

@@ -8,7 +8,7 @@ use Rattle.fab_labels.proofs.policies.are_covered_with.Goals as goal
 pub returns-then-not-is_covered_with : goal.returns-then-not-is_covered_with
 returns-then-not-is_covered_with c =
     no (All-not (λ i. Any (λ j. Covers c.args.acts.now j i) c.args.by.now ⊎ HasAuthority c.args.acts.now c.args.set i.owner) c.args.policies.now c.loop-i.i-index c.i-item.result c.loop-i-test.true c.i-item.is
-      (iff_false c.is_covered_with.ensures c.if-not-is_covered_with.true))
+    (iff_false c.is_covered_with.ensures c.if-not-is_covered_with.true))
 
 pub loop-i-preserved : goal.loop-i-preserved
 loop-i-preserved c =
