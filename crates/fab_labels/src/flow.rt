@@ -7,28 +7,28 @@ use fab_principals::Acts;
 
 /// Whether a flows to b: b allows no reading that a forbids, and a forbids each writing that b does.
 pub fn flows(acts: &Acts, a: &Label, b: &Label) -> bool
-    ensures { IsTrue result ↔ Flows acts.now a.now b.now }
+    ensures exact { IsTrue result ↔ Flows acts.now a.now b.now }
 {
     flows_integ(acts, a, b) && flows_conf(acts, a, b)
 }
 
 /// Whether the confidentiality of a flows to that of b.
 pub fn flows_conf(acts: &Acts, a: &Label, b: &Label) -> bool
-    ensures { IsTrue result ↔ FlowsConf acts.now a.now b.now }
+    ensures exact { IsTrue result ↔ FlowsConf acts.now a.now b.now }
 {
     are_covered(acts, a.conf.as_slice(), b.conf.as_slice())
 }
 
 /// Whether the integrity of a flows to that of b.
 pub fn flows_integ(acts: &Acts, a: &Label, b: &Label) -> bool
-    ensures { IsTrue result ↔ FlowsInteg acts.now a.now b.now }
+    ensures exact { IsTrue result ↔ FlowsInteg acts.now a.now b.now }
 {
     are_covered(acts, b.integ.as_slice(), a.integ.as_slice())
 }
 
 /// Whether a may be declassified to b with the authority of the principals whose bits are set.
 pub fn declass_ok(acts: &Acts, a: &Label, b: &Label, authority: u64) -> bool
-    ensures { IsTrue result ↔ DeclassifyOk acts.now a.now b.now authority }
+    ensures exact { IsTrue result ↔ DeclassifyOk acts.now a.now b.now authority }
 {
     are_covered_with(acts, a.conf.as_slice(), b.conf.as_slice(), authority)
         && flows_integ(acts, a, b)
@@ -36,7 +36,7 @@ pub fn declass_ok(acts: &Acts, a: &Label, b: &Label, authority: u64) -> bool
 
 /// Whether a may be endorsed to b with the authority of the principals whose bits are set.
 pub fn endorse_ok(acts: &Acts, a: &Label, b: &Label, authority: u64) -> bool
-    ensures { IsTrue result ↔ EndorseOk acts.now a.now b.now authority }
+    ensures exact { IsTrue result ↔ EndorseOk acts.now a.now b.now authority }
 {
     flows_conf(acts, a, b)
         && are_covered_with(acts, b.integ.as_slice(), a.integ.as_slice(), authority)
@@ -46,7 +46,7 @@ pub fn endorse_ok(acts: &Acts, a: &Label, b: &Label, authority: u64) -> bool
 pub fn cover_conf(acts: &Acts, a: &Label, b: &Label, i: u32) -> Option<u32>
     requires within { i < length a.now.conf }
     requires countable { length b.now.conf ≤ 2 ^ 32 }
-    ensures { IfSome (slice_get a.now.conf i) (λ policy. IsFirstCover acts.now b.now.conf policy result) }
+    ensures first { IfSome (slice_get a.now.conf i) (λ policy. IsFirstCover acts.now b.now.conf policy result) }
 {
     first_cover(acts, b.conf.as_slice(), &a.conf.as_slice()[i as usize])
 }
@@ -55,7 +55,7 @@ pub fn cover_conf(acts: &Acts, a: &Label, b: &Label, i: u32) -> Option<u32>
 pub fn cover_integ(acts: &Acts, a: &Label, b: &Label, j: u32) -> Option<u32>
     requires within { j < length b.now.integ }
     requires countable { length a.now.integ ≤ 2 ^ 32 }
-    ensures { IfSome (slice_get b.now.integ j) (λ policy. IsFirstCover acts.now a.now.integ policy result) }
+    ensures first { IfSome (slice_get b.now.integ j) (λ policy. IsFirstCover acts.now a.now.integ policy result) }
 {
     first_cover(acts, a.integ.as_slice(), &b.integ.as_slice()[j as usize])
 }

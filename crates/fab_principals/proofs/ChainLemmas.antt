@@ -25,10 +25,10 @@ Leads-split xs ys a b more p [] q h = inl ([], h)
 Leads-split xs ys a b more p (x ∷ rest) q h =
     let further = Leads-split xs ys a b more x rest q h.1 in
     elim (more.cases p x h.0) [
-      inl old ↦ elim further [ inl way ↦ inl (x ∷ way.0, (old, way.1)) | inr ways ↦ inr ((x ∷ ways.0.0, (old, ways.0.1)), ways.1) ]
-    | inr new ↦ elim further [
-        inl way ↦ inr (([], sym new.0), (way.0, subst (λ (w : ℕ). Leads xs w way.0 q) (sym new.1) way.1))
-      | inr ways ↦ inr (([], sym new.0), ways.1)
+      | inl old ↦ elim further [ inl way ↦ inl (x ∷ way.0, (old, way.1)) | inr ways ↦ inr ((x ∷ ways.0.0, (old, ways.0.1)), ways.1) ]
+      | inr new ↦ elim further [
+        | inl way ↦ inr (([], sym new.0), (way.0, subst (λ (w : ℕ). Leads xs w way.0 q) (sym new.1) way.1))
+        | inr ways ↦ inr (([], sym new.0), ways.1)
       ]
     ]
 
@@ -37,12 +37,13 @@ Reaches-append xs p q r one two = (one.0 ++ two.0, Leads-append xs p one.0 q two
 
 -- who reaches whom with one more pair
 pub Reaches-more : (xs ys : List (ℕ × ℕ)) (a b : ℕ) → HasMore xs ys a b → (p q : ℕ) → Reaches ys p q ↔ (Reaches xs p q ⊎ (Reaches xs p a × Reaches xs b q))
-Reaches-more xs ys a b more p q =
-    (λ way. Leads-split xs ys a b more p way.0 q way.1,
-      λ either. elim either [
-        inl way ↦ (way.0, Leads-more xs ys more.kept p way.0 q way.1)
-      | inr ways ↦ (ways.0.0 ++ b ∷ ways.1.0, Leads-append ys p ways.0.0 a (b ∷ ways.1.0) q (Leads-more xs ys more.kept p ways.0.0 a ways.0.1) (more.added, Leads-more xs ys more.kept b ways.1.0 q ways.1.1))
-      ])
+Reaches-more xs ys a b more p q = (
+  λ way. Leads-split xs ys a b more p way.0 q way.1,
+  λ either. elim either [
+    | inl way ↦ (way.0, Leads-more xs ys more.kept p way.0 q way.1)
+    | inr ways ↦ (ways.0.0 ++ b ∷ ways.1.0, Leads-append ys p ways.0.0 a (b ∷ ways.1.0) q (Leads-more xs ys more.kept p ways.0.0 a ways.0.1) (more.added, Leads-more xs ys more.kept b ways.1.0 q ways.1.1))
+  ],
+)
 
 same_pair : (a b p q : ℕ) (d e : ℕ × ℕ) → d ≡ (a, b) → e ≡ (p, q) → d ≡ e → (a ≡ p) × (b ≡ q)
 same_pair a b p q d e is_d is_e same =
@@ -53,17 +54,17 @@ same_pair a b p q d e is_d is_e same =
 
 pub Reaches-push : (xs : List (ℕ × ℕ)) (a b p q : ℕ) → Reaches (xs ++ (a, b) ∷ []) p q ↔ (Reaches xs p q ⊎ (Reaches xs p a × Reaches xs b q))
 Reaches-push xs a b p q = Reaches-more xs (xs ++ (a, b) ∷ []) a b (record {
-    kept = λ u v h. Contains-append_left xs ((a, b) ∷ []) (u, v) h;
-    added = Contains-push xs (a, b);
-    cases = λ u v h. elim (Contains-push_cases xs (a, b) (u, v) h) [ inl old ↦ inl old | inr new ↦ inr (same_pair a b u v (a, b) (u, v) refl refl new) ];
-  }) p q
+  kept = λ u v h. Contains-append_left xs ((a, b) ∷ []) (u, v) h;
+  added = Contains-push xs (a, b);
+  cases = λ u v h. elim (Contains-push_cases xs (a, b) (u, v) h) [ inl old ↦ inl old | inr new ↦ inr (same_pair a b u v (a, b) (u, v) refl refl new) ];
+}) p q
 
 pub Reaches-cons : (d : ℕ × ℕ) (xs : List (ℕ × ℕ)) (p q : ℕ) → Reaches (d ∷ xs) p q ↔ (Reaches xs p q ⊎ (Reaches xs p d.0 × Reaches xs d.1 q))
 Reaches-cons d xs p q = Reaches-more xs (d ∷ xs) d.0 d.1 (record {
-    kept = λ u v (k, within, is). (suc k, omega arith, is);
-    added = (zero, omega arith, refl);
-    cases = cases;
-  }) p q
+  kept = λ u v (k, within, is). (suc k, omega arith, is);
+  added = (zero, omega arith, refl);
+  cases = cases;
+}) p q
   where
     cases : (u v : ℕ) → Contains (d ∷ xs) (u, v) → Contains xs (u, v) ⊎ ((d.0 ≡ u) × (d.1 ≡ v))
     cases u v (zero, within, is) = inr (same_pair d.0 d.1 u v d (u, v) refl refl is)

@@ -11,10 +11,13 @@ use Rattle.fab_principals.proofs.SetLemmas.{common-none, common-lowest}
 
 -- who is near by one more step
 pub IsNear-more : (rows : List ℕ) (q k x : ℕ) → IsNear rows q (k + 1) x ↔ (IsNear rows q k x ⊎ ((x < length rows) × ((y : ℕ) × IsTrue (in_set (slice_index rows x) y) × IsNear rows q k y)))
-IsNear-more rows q k x = (λ near. split near.0 near.1 near.2, λ either. elim either [
-      inl old ↦ (old.0, old.1, omega (arith, old.2))
+IsNear-more rows q k x = (
+  λ near. split near.0 near.1 near.2,
+  λ either. elim either [
+    | inl old ↦ (old.0, old.1, omega (arith, old.2))
     | inr step ↦ (step.1.0 ∷ step.1.2.0, (step.0, step.1.1, step.1.2.1), omega (arith, step.1.2.2))
-    ])
+  ],
+)
   where
     split : (rest : List ℕ) → RowsLead rows x rest q → length rest ≤ k + 1 → IsNear rows q k x ⊎ ((x < length rows) × ((y : ℕ) × IsTrue (in_set (slice_index rows x) y) × IsNear rows q k y))
     split [] lead short = inl ([], lead, omega arith)
@@ -24,15 +27,16 @@ IsNear-more rows q k x = (λ near. split near.0 near.1 near.2, λ either. elim e
 pub ring_more : (rows : List ℕ) (q k near found wider : ℕ) → ((x : ℕ) → IsTrue (in_set near x) ↔ IsNear rows q k x) → ((x : ℕ) → IsTrue (in_set found x) ↔ ((x < length rows) × Meets (slice_index rows x) near))
     → ((x : ℕ) → in_set wider x ≡ (in_set near x || in_set found x)) → (x : ℕ) → IsTrue (in_set wider x) ↔ IsNear rows q (k + 1) x
 ring_more rows q k near found wider newest sources either x =
-    let more = IsNear-more rows q k x in
-    (λ t. more.1 (elim (or_cases _ _ (sym (either x) ∙ t)) [
-        inl old ↦ inl ((newest x).0 old)
-      | inr step ↦ let from = (sources x).0 step in inr (from.0, (from.1.0, from.1.1, (newest from.1.0).0 from.1.2))
+    let more = IsNear-more rows q k x in (
+      λ t. more.1 (elim (or_cases _ _ (sym (either x) ∙ t)) [
+        | inl old ↦ inl ((newest x).0 old)
+        | inr step ↦ let from = (sources x).0 step in inr (from.0, (from.1.0, from.1.1, (newest from.1.0).0 from.1.2))
       ]),
       λ h. either x ∙ elim (more.0 h) [
-        inl old ↦ or_left _ _ ((newest x).1 old)
-      | inr step ↦ or_right _ _ ((sources x).1 (step.0, (step.1.0, step.1.1, (newest step.1.0).1 step.1.2)))
-      ])
+        | inl old ↦ or_left _ _ ((newest x).1 old)
+        | inr step ↦ or_right _ _ ((sources x).1 (step.0, (step.1.0, step.1.1, (newest step.1.0).1 step.1.2)))
+      ],
+    )
 
 -- where the next ring is the same, whoever has a way to q is in it
 pub ring_whole : (rows : List ℕ) (q k near found wider : ℕ) → ((x : ℕ) → IsTrue (in_set near x) ↔ IsNear rows q k x) → ((x : ℕ) → IsTrue (in_set found x) ↔ ((x < length rows) × Meets (slice_index rows x) near))
@@ -47,11 +51,11 @@ ring_whole rows q k near found wider newest sources either same p (x ∷ rest) l
 pub rings_push : (rows : List ℕ) (q : ℕ) (rings : List ℕ) (near : ℕ) → ((j x : ℕ) → j < length rings → IsTrue (in_set (slice_index rings j) x) ↔ IsNear rows q j x) → ((x : ℕ) → IsTrue (in_set near x) ↔ IsNear rows q (length rings) x)
     → (j x : ℕ) → j < length rings + 1 → IsTrue (in_set (slice_index (rings ++ near ∷ []) j) x) ↔ IsNear rows q j x
 rings_push rows q rings near ring newest j x below = elim (cases_lt j (length rings)) [
-      inl inside ↦ rw (get_or_append_left rings (near ∷ []) 0 j inside) (ring j x inside)
-    | inr past ↦
+  | inl inside ↦ rw (get_or_append_left rings (near ∷ []) 0 j inside) (ring j x inside)
+  | inr past ↦
       let last : j ≡ length rings = omega arith in
       rw (last, get_or_push rings near 0 (length rings) refl) (newest x)
-    ]
+]
 
 -- from outside the inner rings one step leads into the next one
 pub AreRings-meets : (rows : List ℕ) (q : ℕ) (rings : List ℕ) (k p : ℕ) → AreRings rows q rings (suc k) p → (p < length rows) × Meets (slice_index rows p) (slice_index rings k)
@@ -104,16 +108,22 @@ best_more rows q rings fits k p rs rest_best = record { leads = (meets.0, both.0
   where
     next : ℕ
     next = trailing_zeros w64 (bit_and (slice_index rows p) (slice_index rings k))
+
     meets : (p < length rows) × Meets (slice_index rows p) (slice_index rings k)
     meets = AreRings-meets rows q rings k p rs
+
     some : bit_and (slice_index rows p) (slice_index rings k) ≡ 0 → ⊥
     some e = both_ways _ (common-none _ _ e meets.1.0) (and_from _ _ meets.1.1 meets.1.2)
+
     lowest : ((in_set (slice_index rows p) next && in_set (slice_index rings k) next) ≡ true) × ((i : ℕ) → i < next → (in_set (slice_index rows p) i && in_set (slice_index rings k) i) ≡ false)
     lowest = common-lowest (slice_index rows p) (slice_index rings k) some (fits p)
+
     both : IsTrue (in_set (slice_index rows p) next) × IsTrue (in_set (slice_index rings k) next)
     both = and_parts _ _ lowest.0
+
     inner : IsBestWay rows q k next (inward rows rings k next)
     inner = rest_best next (AreRings-next rows q rings k p next rs both.0 both.1)
+
     least : (other : List ℕ) → RowsLead rows p other q → length other ≡ suc k → IsNoGreater (next ∷ inward rows rings k next) other
     least [] lead same = absurd (omega arith)
     least (y ∷ rest) lead same =
@@ -121,8 +131,8 @@ best_more rows q rings fits k p rs rest_best = record { leads = (meets.0, both.0
         let in_ring : IsTrue (in_set (slice_index rings k) y) = (rs.ring k y (omega arith)).1 (rest, lead.2, omega arith) in
         let not_below : y < next → ⊥ = λ below. both_ways _ (lowest.1 y below) (and_from _ _ lead.1 in_ring) in
         elim (cases_eq next y) [
-          inl same_next ↦ inr (same_next, inner.least rest (subst (λ (w : ℕ). RowsLead rows w rest q) (sym same_next) lead.2) short)
-        | inr other ↦ inl (elim (cases_lt next y) [ inl above ↦ above | inr below ↦ absurd (not_below (omega arith)) ])
+          | inl same_next ↦ inr (same_next, inner.least rest (subst (λ (w : ℕ). RowsLead rows w rest q) (sym same_next) lead.2) short)
+          | inr other ↦ inl (elim (cases_lt next y) [ inl above ↦ above | inr below ↦ absurd (not_below (omega arith)) ])
         ]
 
 pub inward-best : (rows : List ℕ) (q : ℕ) (rings : List ℕ) (fits : (i : ℕ) → slice_index rows i < 2 ^ 64) (k p : ℕ) → AreRings rows q rings k p → IsBestWay rows q k p (inward rows rings k p)
@@ -162,11 +172,14 @@ walk-best rows d rings fits table declared k p q rs chain walked = subst (λ (c 
   where
     way : List ℕ
     way = inward rows rings k p
+
     best : IsBestWay rows q k p way
     best = inward-best rows q rings fits k p rs
+
     shortest : (other : List ℕ) → IsChain d p q other → length (p ∷ way) ≤ length other
     shortest [] h = absurd h
     shortest (x ∷ rest) h = let enough : k ≤ length rest = AreRings-shortest rows q rings k p rs rest (Leads-rows rows d.count d.pairs table declared p rest q h.1) in omega (arith, best.steps)
+
     least : (other : List ℕ) → IsChain d p q other → length other ≡ length (p ∷ way) → IsNoGreater (p ∷ way) other
     least [] h same = absurd h
     least (x ∷ rest) h same = inr (sym h.0, best.least rest (Leads-rows rows d.count d.pairs table declared p rest q h.1) (omega (arith, best.steps)))

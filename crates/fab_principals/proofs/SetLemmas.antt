@@ -72,23 +72,27 @@ common-lowest a b some fits =
 
 -- two sets meet where they have a bit in common
 pub meets-and : (a b : ℕ) → a < 2 ^ 64 → (t : Bool) → (t ≡ false → bit_and a b ≡ 0) → (t ≡ true → bit_and a b ≡ 0 → ⊥) → IsTrue t ↔ Meets a b
-meets-and a b fits t when_false when_true = (λ e. let found = common-lowest a b (when_true e) fits in let parts = and_parts _ _ found.0 in (trailing_zeros w64 (bit_and a b), parts.0, parts.1),
-  λ meets. true_from_ne_false t (λ e. both_ways _ (common-none a b (when_false e) meets.0) (and_from _ _ meets.1 meets.2)))
+meets-and a b fits t when_false when_true = (
+  λ e. let found = common-lowest a b (when_true e) fits in let parts = and_parts _ _ found.0 in (trailing_zeros w64 (bit_and a b), parts.0, parts.1),
+  λ meets. true_from_ne_false t (λ e. both_ways _ (common-none a b (when_false e) meets.0) (and_from _ _ meets.1 meets.2)),
+)
 
 -- one more row that meets the set, or doesn't
 pub sources_more : (rows : List ℕ) (set n found one wider : ℕ) → ((p : ℕ) → IsTrue (in_set found p) ↔ ((p < n) × Meets (slice_index rows p) set)) → Meets (slice_index rows n) set
     → ((i : ℕ) → in_set wider i ≡ (in_set found i || in_set one i)) → ((i : ℕ) → in_set one i ≡ (i == n)) → (p : ℕ) → IsTrue (in_set wider p) ↔ ((p < n + 1) × Meets (slice_index rows p) set)
-sources_more rows set n found one wider known meets either is_one p =
-    (λ t. elim (or_cases _ _ (sym (either p) ∙ t)) [
-        inl old ↦ let k = (known p).0 old in (omega (arith, k.0), k.1)
-      | inr new ↦ let same : p ≡ n = eqb-true p n (sym (is_one p) ∙ new) in (omega arith, subst (λ (w : ℕ). Meets (slice_index rows w) set) (sym same) meets)
-      ],
-      λ h. either p ∙ elim (cases_eq p n) [
-        inl same ↦ or_right _ _ (is_one p ∙ eq-eqb p n same)
-      | inr other ↦ or_left _ _ ((known p).1 (omega (arith, h.0, other), h.1))
-      ])
+sources_more rows set n found one wider known meets either is_one p = (
+  λ t. elim (or_cases _ _ (sym (either p) ∙ t)) [
+    | inl old ↦ let k = (known p).0 old in (omega (arith, k.0), k.1)
+    | inr new ↦ let same : p ≡ n = eqb-true p n (sym (is_one p) ∙ new) in (omega arith, subst (λ (w : ℕ). Meets (slice_index rows w) set) (sym same) meets)
+  ],
+  λ h. either p ∙ elim (cases_eq p n) [
+    | inl same ↦ or_right _ _ (is_one p ∙ eq-eqb p n same)
+    | inr other ↦ or_left _ _ ((known p).1 (omega (arith, h.0, other), h.1))
+  ],
+)
 
 pub sources_same : (rows : List ℕ) (set n found : ℕ) → ((p : ℕ) → IsTrue (in_set found p) ↔ ((p < n) × Meets (slice_index rows p) set)) → (Meets (slice_index rows n) set → ⊥) → (p : ℕ) → IsTrue (in_set found p) ↔ ((p < n + 1) × Meets (slice_index rows p) set)
-sources_same rows set n found known misses p =
-    (λ t. let k = (known p).0 t in (omega (arith, k.0), k.1),
-      λ h. elim (cases_eq p n) [ inl same ↦ absurd (misses (subst (λ (w : ℕ). Meets (slice_index rows w) set) same h.1)) | inr other ↦ (known p).1 (omega (arith, h.0, other), h.1) ])
+sources_same rows set n found known misses p = (
+  λ t. let k = (known p).0 t in (omega (arith, k.0), k.1),
+  λ h. elim (cases_eq p n) [ inl same ↦ absurd (misses (subst (λ (w : ℕ). Meets (slice_index rows w) set) same h.1)) | inr other ↦ (known p).1 (omega (arith, h.0, other), h.1) ],
+)

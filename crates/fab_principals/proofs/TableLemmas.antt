@@ -27,12 +27,13 @@ pub IsTable-granted : (old new : List ℕ) (n : ℕ) (xs : List (ℕ × ℕ)) (a
 IsTable-granted old new n xs a b b_in table size granted = record {
   size = size;
   bits = λ p q below.
-    let pushed = Reaches-push xs a b p q in
-    let here = table.bits p q below in
-    let first = table.bits p a below in
-    let second = table.bits b q b_in in
-    (λ t. pushed.1 (elim (or_cases _ _ (sym (granted p q below) ∙ t)) [ inl old_one ↦ inl (here.0 old_one) | inr both ↦ let parts = and_parts _ _ both in inr (first.0 parts.0, second.0 parts.1) ]),
-      λ way. granted p q below ∙ elim (pushed.0 way) [ inl old_way ↦ or_left _ _ (here.1 old_way) | inr ways ↦ or_right _ _ (and_from _ _ (first.1 ways.0) (second.1 ways.1)) ]);
+      let pushed = Reaches-push xs a b p q in
+      let here = table.bits p q below in
+      let first = table.bits p a below in
+      let second = table.bits b q b_in in (
+        λ t. pushed.1 (elim (or_cases _ _ (sym (granted p q below) ∙ t)) [ inl old_one ↦ inl (here.0 old_one) | inr both ↦ let parts = and_parts _ _ both in inr (first.0 parts.0, second.0 parts.1) ]),
+        λ way. granted p q below ∙ elim (pushed.0 way) [ inl old_way ↦ or_left _ _ (here.1 old_way) | inr ways ↦ or_right _ _ (and_from _ _ (first.1 ways.0) (second.1 ways.1)) ],
+      );
 }
 
 -- one more pair whose first reached its second before
@@ -40,7 +41,7 @@ pub IsTable-kept : (rows : List ℕ) (n : ℕ) (xs : List (ℕ × ℕ)) (a b : �
 IsTable-kept rows n xs a b known table =
     IsTable-same rows n (λ p q. Reaches xs p q) (λ p q. Reaches (xs ++ (a, b) ∷ []) p q)
     (λ p q. let pushed = Reaches-push xs a b p q in
-      (λ way. pushed.1 (inl way), λ way. elim (pushed.0 way) [ inl old_way ↦ old_way | inr ways ↦ Reaches-append xs p b q (Reaches-append xs p a b ways.0 known) ways.1 ]))
+    (λ way. pushed.1 (inl way), λ way. elim (pushed.0 way) [ inl old_way ↦ old_way | inr ways ↦ Reaches-append xs p b q (Reaches-append xs p a b ways.0 known) ways.1 ]))
     table
 
 -- the empty table
@@ -48,8 +49,8 @@ pub IsTable-zero : (n : ℕ) → IsTable (replicate n 0) n (λ p q. Contains {X 
 IsTable-zero n = record {
   size = length-replicate n 0;
   bits = λ p q below.
-    let empty : in_set (slice_index (replicate n 0) p) q ≡ false = ap (λ r. in_set r q) (get_or-replicate n p 0 0 below) ∙ in_set-zero q in
-    (λ t. absurd (both_ways _ empty t), λ h. absurd (omega (arith, h.1)));
+      let empty : in_set (slice_index (replicate n 0) p) q ≡ false = ap (λ r. in_set r q) (get_or-replicate n p 0 0 below) ∙ in_set-zero q in
+      (λ t. absurd (both_ways _ empty t), λ h. absurd (omega (arith, h.1)));
 }
 
 -- one row gains one number
@@ -58,26 +59,31 @@ pub IsTable-gained : (rows : List ℕ) (n : ℕ) (xs : List (ℕ × ℕ)) (a b r
 IsTable-gained rows n xs a b row a_in table gained = record {
   size = length-set rows a row ∙ table.size;
   bits = λ p q below. elim (cases_eq p a) [
-      inl same ↦ subst (λ (w : ℕ). (in_set (slice_index (set rows a row) w) q ≡ true) ↔ Contains (xs ++ (a, b) ∷ []) (w, q)) (sym same) (at_row q)
-    | inr other ↦ (λ t. Contains-append_left xs ((a, b) ∷ []) (p, q) ((table.bits p q below).0 (ap (λ r. in_set r q) (sym (get_or-set_other rows a p row 0 other)) ∙ t)),
-        λ h. ap (λ r. in_set r q) (get_or-set_other rows a p row 0 other) ∙ (table.bits p q below).1 (elim (Contains-push_cases xs (a, b) (p, q) h) [
-          inl old ↦ old
+    | inl same ↦ subst (λ (w : ℕ). (in_set (slice_index (set rows a row) w) q ≡ true) ↔ Contains (xs ++ (a, b) ∷ []) (w, q)) (sym same) (at_row q)
+    | inr other ↦ (
+      λ t. Contains-append_left xs ((a, b) ∷ []) (p, q) ((table.bits p q below).0 (ap (λ r. in_set r q) (sym (get_or-set_other rows a p row 0 other)) ∙ t)),
+      λ h. ap (λ r. in_set r q) (get_or-set_other rows a p row 0 other) ∙ (table.bits p q below).1 (elim (Contains-push_cases xs (a, b) (p, q) h) [
+        | inl old ↦ old
         | inr new ↦ let first : (ℕ × ℕ) → ℕ = λ w. w.0 in absurd (other (sym (ap first new)))
-        ]))
-    ];
+      ]),
+    )
+  ];
 }
   where
     is_row : slice_index (set rows a row) a ≡ row
     is_row = let within : a < length rows = omega (arith, table.size) in get_or-set_same rows a row 0 within
+
     at_row : (q : ℕ) → (in_set (slice_index (set rows a row) a) q ≡ true) ↔ Contains (xs ++ (a, b) ∷ []) (a, q)
-    at_row q = (λ t. elim (or_cases _ _ (sym (gained q) ∙ ap (λ r. in_set r q) (sym is_row) ∙ t)) [
-          inl old ↦ Contains-append_left xs ((a, b) ∷ []) (a, q) ((table.bits a q a_in).0 old)
+    at_row q = (
+      λ t. elim (or_cases _ _ (sym (gained q) ∙ ap (λ r. in_set r q) (sym is_row) ∙ t)) [
+        | inl old ↦ Contains-append_left xs ((a, b) ∷ []) (a, q) ((table.bits a q a_in).0 old)
         | inr new ↦ subst (λ (w : ℕ). Contains (xs ++ (a, b) ∷ []) (a, w)) (sym (eqb-true q b new)) (Contains-push xs (a, b))
-        ],
+      ],
       λ h. ap (λ r. in_set r q) is_row ∙ gained q ∙ elim (Contains-push_cases xs (a, b) (a, q) h) [
-          inl old ↦ or_left _ _ ((table.bits a q a_in).1 old)
+        | inl old ↦ or_left _ _ ((table.bits a q a_in).1 old)
         | inr new ↦ let second : (ℕ × ℕ) → ℕ = λ w. w.1 in or_right _ _ (eq-eqb q b (sym (ap second new)))
-        ])
+      ],
+    )
 
 -- the row that was read
 read_row : (rows : List ℕ) (k r : ℕ) → k < length rows → r ≡ get_or rows k r → r ≡ slice_index rows k

@@ -34,7 +34,7 @@ impl Acts {
     pub fn close(alloc: Global, n: u16, pairs: &[(u16, u16)]) -> Result<Acts, NoMemory>
         requires few { n ≤ 64 }
         requires declared { All (λ d. (d.0 < n) × (d.1 < n)) pairs.now }
-        ensures { IfOk result (λ acts. acts ≡ record { count = n; pairs = pairs.now }) }
+        ensures given { IfOk result (λ acts. acts ≡ record { count = n; pairs = pairs.now }) }
     {
         let direct = direct_rows(alloc, n, pairs)?;
         let closed = closed_rows(alloc, n, pairs)?;
@@ -48,7 +48,7 @@ impl Acts {
 
     /// Whether p acts for q. A number that is no principal acts for itself alone.
     pub fn acts(&self, p: u16, q: u16) -> bool
-        ensures { IsTrue result ↔ ActsFor self.now p q }
+        ensures exact { IsTrue result ↔ ActsFor self.now p q }
     {
         if p < self.count && q < self.count {
             contains(self.closed[p as usize], q)

@@ -6,5 +6,4 @@ ghost use Rattle.fab_base.specs.Principals.{Delegations, ActsFor};
 pub fn acts_for_laws()
     ensures reflexive { (d : Delegations) (p : ℕ) → ActsFor d p p }
     ensures transitive { (d : Delegations) (p q r : ℕ) → ActsFor d p q → ActsFor d q r → ActsFor d p r }
-{
-}
+{}

@@ -23,12 +23,7 @@ fn sources(rows: &[u64], set: u64) -> u64
 }
 
 /// The rings round q that don't have p, if p is in any.
-pub fn rings(
-    alloc: Global,
-    rows: &[u64],
-    p: u16,
-    q: u16,
-) -> Result<Option<Vec<u64>>, NoMemory>
+pub fn rings(alloc: Global, rows: &[u64], p: u16, q: u16) -> Result<Option<Vec<u64>>, NoMemory>
     requires few { length rows.now ≤ 64 }
     requires p_small { p < 64 }
     requires q_small { q < 64 }

@@ -33,11 +33,7 @@ fn grant(rows: &mut [u64], a: u16, gained: u64)
 }
 
 /// Who acts for whom. A pair that adds nothing costs one look.
-pub fn closed_rows(
-    alloc: Global,
-    count: u16,
-    pairs: &[(u16, u16)],
-) -> Result<Vec<u64>, NoMemory>
+pub fn closed_rows(alloc: Global, count: u16, pairs: &[(u16, u16)]) -> Result<Vec<u64>, NoMemory>
     requires few { count ≤ 64 }
     requires declared { All (λ d. (d.0 < count) × (d.1 < count)) pairs.now }
     ensures { IfOk result (λ rows. IsTable rows.items count (λ p q. Reaches pairs.now p q)) }
@@ -54,11 +50,7 @@ pub fn closed_rows(
 }
 
 /// Who was declared to act for whom.
-pub fn direct_rows(
-    alloc: Global,
-    count: u16,
-    pairs: &[(u16, u16)],
-) -> Result<Vec<u64>, NoMemory>
+pub fn direct_rows(alloc: Global, count: u16, pairs: &[(u16, u16)]) -> Result<Vec<u64>, NoMemory>
     requires few { count ≤ 64 }
     requires declared { All (λ d. (d.0 < count) × (d.1 < count)) pairs.now }
     ensures table { IfOk result (λ rows. IsTable rows.items count (λ p q. Contains pairs.now (p, q))) }

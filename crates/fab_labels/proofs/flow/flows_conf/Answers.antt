@@ -4,4 +4,4 @@ use Rattle.fab_labels.proofs.flow.flows_conf.Goals as goal
 pub returns : goal.returns
 returns c =
     let covered = rw (c.as_slice.ensures, c.as_slice-2.ensures) at c.are_covered.ensures in
-    (λ t. deny_covered c.args.acts.now c.args.a.now.conf c.args.b.now.conf (covered.0 t), λ flows. covered.1 (covered_by_denial c.args.acts.now c.args.a.now.conf c.args.b.now.conf flows))
+    record { exact = (λ t. deny_covered c.args.acts.now c.args.a.now.conf c.args.b.now.conf (covered.0 t), λ flows. covered.1 (covered_by_denial c.args.acts.now c.args.a.now.conf c.args.b.now.conf flows)) }

@@ -8,5 +8,5 @@ pub returns-else-acts : goal.returns-else-acts
 returns-else-acts c =
     let among = rw c.as_slice.ensures at c.acts_for_member.ensures in (
       λ t. Any-tail (λ q. ActsFor c.args.acts.now c.args.m q) c.args.policy.now.owner c.args.policy.now.others (among.0 t),
-      λ any. elim (Any-cases (λ q. ActsFor c.args.acts.now c.args.m q) c.args.policy.now.owner c.args.policy.now.others any) [ inl acts ↦ absurd (iff_false c.acts.ensures c.if-acts.false acts) | inr acts ↦ among.1 acts ],
+      λ any. elim (Any-cases (λ q. ActsFor c.args.acts.now c.args.m q) c.args.policy.now.owner c.args.policy.now.others any) [ inl acts ↦ absurd (iff_false c.acts.ensures.exact c.if-acts.false acts) | inr acts ↦ among.1 acts ],
     )

@@ -19,15 +19,15 @@ loop-wider-preserved c =
     let longer : length c.push.new.self.items ≡ length old + 1 = omega (arith, ap length pushed, length-append old (c.loop-wider.near ∷ [])) in
     record {
       ring = λ j x below. subst (λ (rings : List ℕ). IsTrue (in_set (slice_index rings j) x) ↔ IsNear rows c.args.q j x) (sym pushed)
-        (rings_push rows c.args.q old c.loop-wider.near c.loop-wider.invariant.ring c.loop-wider.invariant.newest j x (omega arith));
+          (rings_push rows c.args.q old c.loop-wider.near c.loop-wider.invariant.ring c.loop-wider.invariant.newest j x (omega arith));
       far = λ j below near. elim (cases_lt j (length old)) [
-          inl inside ↦ c.loop-wider.invariant.far j inside near
+        | inl inside ↦ c.loop-wider.invariant.far j inside near
         | inr past ↦
-          let last : j ≡ length old = omega arith in
-          let there : IsNear rows c.args.q (length old) c.args.p = subst (λ (k : ℕ). IsNear rows c.args.q k c.args.p) last near in
-          both_ways _ (sym c.contains.ensures ∙ c.loop-wider-test.true) ((c.loop-wider.invariant.newest c.args.p).1 there)
-        ];
+            let last : j ≡ length old = omega arith in
+            let there : IsNear rows c.args.q (length old) c.args.p = subst (λ (k : ℕ). IsNear rows c.args.q k c.args.p) last near in
+            both_ways _ (sym c.contains.ensures ∙ c.loop-wider-test.true) ((c.loop-wider.invariant.newest c.args.p).1 there)
+      ];
       newest = λ x. subst (λ (k : ℕ). IsTrue (in_set c.union-wider.result x) ↔ IsNear rows c.args.q k x) (sym longer)
-        (ring_more rows c.args.q (length old) c.loop-wider.near c.sources.result c.union-wider.result c.loop-wider.invariant.newest c.sources.ensures c.union-wider.ensures.either x);
+          (ring_more rows c.args.q (length old) c.loop-wider.near c.sources.result c.union-wider.result c.loop-wider.invariant.newest c.sources.ensures c.union-wider.ensures.either x);
       fits = omega arith;
     }

@@ -12,8 +12,8 @@ pub loop-p-preserved : goal.loop-p-preserved
 loop-p-preserved c =
     let rows = c.args.rows.now in
     elim c.if-meets.branch [
-      then-meets w ↦ λ p. subst (λ (set : ℕ). IsTrue (in_set set p) ↔ ((p < c.loop-p.p + 1) × Meets (slice_index rows p) c.args.set)) (sym w.found-is)
-        (sources_more rows c.args.set c.loop-p.p c.loop-p.found w.only.result w.union-found.result c.loop-p.invariant (c.meets.ensures.0 w.if-meets.true) w.union-found.ensures.either w.only.ensures p)
-    | else-meets w ↦ λ p. subst (λ (set : ℕ). IsTrue (in_set set p) ↔ ((p < c.loop-p.p + 1) × Meets (slice_index rows p) c.args.set)) (sym w.found-is)
-        (sources_same rows c.args.set c.loop-p.p c.loop-p.found c.loop-p.invariant (λ meets. both_ways _ w.if-meets.false (c.meets.ensures.1 meets)) p)
+      | then-meets w ↦ λ p. subst (λ (set : ℕ). IsTrue (in_set set p) ↔ ((p < c.loop-p.p + 1) × Meets (slice_index rows p) c.args.set)) (sym w.found-is)
+          (sources_more rows c.args.set c.loop-p.p c.loop-p.found w.only.result w.union-found.result c.loop-p.invariant (c.meets.ensures.0 w.if-meets.true) w.union-found.ensures.either w.only.ensures p)
+      | else-meets w ↦ λ p. subst (λ (set : ℕ). IsTrue (in_set set p) ↔ ((p < c.loop-p.p + 1) × Meets (slice_index rows p) c.args.set)) (sym w.found-is)
+          (sources_same rows c.args.set c.loop-p.p c.loop-p.found c.loop-p.invariant (λ meets. both_ways _ w.if-meets.false (c.meets.ensures.1 meets)) p)
     ]

@@ -11,15 +11,15 @@ loop-pair-init c = IsTable-start c.in_ok-rows.rows.items c.args.count c.in_ok-ro
 pub loop-pair-preserved : goal.loop-pair-preserved
 loop-pair-preserved c =
     elim c.if-not-contains.branch [
-      then-not-contains w ↦
-        let granted = rw w.deref_mut.ensures.value at w.grant.ensures in
-        let size : length w.grant.new.rows ≡ length c.loop-pair.rows.items = omega (arith, ap length w.deref_mut.ensures.value) in
-        let length_is : length w.grant.new.rows ≡ c.loop-pair.rows.len = omega (arith, size, c.loop-pair.rows.ok) in
-        let more = closed_more c.loop-pair.rows.items w.grant.new.rows c.args.count c.args.pairs.now c.loop-pair.pair-index w.index-gained.result.now c.loop-pair-test.true
+      | then-not-contains w ↦
+          let granted = rw w.deref_mut.ensures.value at w.grant.ensures in
+          let size : length w.grant.new.rows ≡ length c.loop-pair.rows.items = omega (arith, ap length w.deref_mut.ensures.value) in
+          let length_is : length w.grant.new.rows ≡ c.loop-pair.rows.len = omega (arith, size, c.loop-pair.rows.ok) in
+          let more = closed_more c.loop-pair.rows.items w.grant.new.rows c.args.count c.args.pairs.now c.loop-pair.pair-index w.index-gained.result.now c.loop-pair-test.true
           (c.requires.declared c.loop-pair.pair-index (0, 0) c.loop-pair-test.true).1 c.loop-pair.invariant size w.index-gained.ensures granted in
-        rw (w.rows-is, with_items_is c.loop-pair.rows w.grant.new.rows length_is) more
-    | else-not-contains w ↦ rw (w.rows-is) (closed_same c.loop-pair.rows.items c.args.count c.args.pairs.now c.loop-pair.pair-index c.index.result.now c.loop-pair-test.true
-        (c.requires.declared c.loop-pair.pair-index (0, 0) c.loop-pair-test.true).0 c.loop-pair.invariant c.index.ensures (sym c.contains.ensures ∙ w.if-not-contains.false))
+          rw (w.rows-is, with_items_is c.loop-pair.rows w.grant.new.rows length_is) more
+      | else-not-contains w ↦ rw (w.rows-is) (closed_same c.loop-pair.rows.items c.args.count c.args.pairs.now c.loop-pair.pair-index c.index.result.now c.loop-pair-test.true
+          (c.requires.declared c.loop-pair.pair-index (0, 0) c.loop-pair-test.true).0 c.loop-pair.invariant c.index.ensures (sym c.contains.ensures ∙ w.if-not-contains.false))
     ]
 
 pub returns : goal.returns

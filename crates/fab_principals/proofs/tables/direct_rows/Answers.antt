@@ -19,8 +19,8 @@ loop-pair-init c = subst (λ (w : List ℕ). StartsWell w c.args.count) (sym (c.
 pub loop-pair-preserved : goal.loop-pair-preserved
 loop-pair-preserved c = record {
   table = direct_more c.loop-pair.rows.items c.args.count c.args.pairs.now c.loop-pair.pair-index c.index.result.now c.union.result c.loop-pair-test.true
-    (c.requires.declared c.loop-pair.pair-index (0, 0) c.loop-pair-test.true).0 c.loop-pair.invariant.table c.index.ensures
-    (λ q. c.union.ensures.either q ∙ ap (λ t. in_set c.index.result.now q || t) (c.only.ensures q));
+      (c.requires.declared c.loop-pair.pair-index (0, 0) c.loop-pair-test.true).0 c.loop-pair.invariant.table c.index.ensures
+      (λ q. c.union.ensures.either q ∙ ap (λ t. in_set c.index.result.now q || t) (c.only.ensures q));
   fits = All-set (λ row. row < 2 ^ 64) c.loop-pair.rows.items (get_or c.args.pairs.now c.loop-pair.pair-index (0, 0)).0 c.union.result (omega arith) c.loop-pair.invariant.fits;
 }
 

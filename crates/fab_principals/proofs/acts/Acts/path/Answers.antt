@@ -11,8 +11,8 @@ returns-in-None-clause-none c =
     let direct = c.self.inside.direct.items in
     let none = rw (c.in-None.is, c.as_slice-rows.ensures.value) at c.in_ok-rings.ensures.none in
     let unreached : ActsFor c.args.self.now c.args.p c.args.q → ⊥ =
-      subst (λ (d : Delegations). ActsFor d c.args.p c.args.q → ⊥) c.self.view_is
-      (no_chain direct (delegations c.self.inside) c.self.invariant.direct c.self.invariant.declared c.args.p c.args.q none) in
+    subst (λ (d : Delegations). ActsFor d c.args.p c.args.q → ⊥) c.self.view_is
+    (no_chain direct (delegations c.self.inside) c.self.invariant.direct c.self.invariant.declared c.args.p c.args.q none) in
     (λ _. unreached, λ _. refl)
 
 pub returns-in_ok-chain-in-Some-clause-some : goal.returns-in_ok-chain-in-Some-clause-some
