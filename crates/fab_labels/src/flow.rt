@@ -5,7 +5,7 @@ use crate::policies::{are_covered, are_covered_with, first_cover};
 use fab_base::Label;
 use fab_principals::Acts;
 
-/// Whether a flows to b: b allows no reading that a forbids, and a forbids each writing that b does.
+/// Whether a flows to b: b forbids each reading that a does, and a each writing that b does.
 pub fn flows(acts: &Acts, a: &Label, b: &Label) -> bool
     ensures exact { IsTrue result ↔ Flows acts.now a.now b.now }
 {

@@ -14,6 +14,8 @@ pub fn flow_laws()
 /// A further policy of confidentiality never lets a label flow where it didn't, and a label without
 /// policies flows to every label in confidentiality.
 pub fn confidentiality_laws()
-    ensures further { (d : Delegations) (a b : AnyLabel) (policy : AnyPolicy) → FlowsConf d (record a { conf = a.conf ++ policy ∷ [] }) b → FlowsConf d a b }
+    ensures further { (d : Delegations) (a b : AnyLabel) (policy : AnyPolicy)
+        → FlowsConf d (record a { conf = a.conf ++ policy ∷ [] }) b
+        → FlowsConf d a b }
     ensures free { (d : Delegations) (a b : AnyLabel) → a.conf ≡ [] → FlowsConf d a b }
 {}

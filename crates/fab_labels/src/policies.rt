@@ -27,7 +27,8 @@ fn acts_within(acts: &Acts, m: u16, policy: &Policy) -> bool
 }
 
 fn all_within(acts: &Acts, members: &[u16], policy: &Policy) -> bool
-    ensures { IsTrue result ↔ All (λ m. ActsForOne acts.now m (policy.now.owner ∷ policy.now.others)) members.now }
+    ensures { IsTrue result
+        ↔ All (λ m. ActsForOne acts.now m (policy.now.owner ∷ policy.now.others)) members.now }
 {
     for m in members {
         if !acts_within(acts, *m, policy) {
@@ -86,7 +87,8 @@ fn has_authority(acts: &Acts, set: u64, owner: u16) -> bool
 }
 
 fn is_covered_with(acts: &Acts, i: &Policy, by: &[Policy], set: u64) -> bool
-    ensures { IsTrue result ↔ (Any (λ j. Covers acts.now j i.now) by.now ⊎ HasAuthority acts.now set i.now.owner) }
+    ensures { IsTrue result
+        ↔ (Any (λ j. Covers acts.now j i.now) by.now ⊎ HasAuthority acts.now set i.now.owner) }
 {
     is_covered(acts, i, by) || has_authority(acts, set, i.owner)
 }
@@ -94,7 +96,8 @@ fn is_covered_with(acts: &Acts, i: &Policy, by: &[Policy], set: u64) -> bool
 /// Whether each of these policies is covered by one of the others, or somebody in the set acts
 /// for its owner.
 pub fn are_covered_with(acts: &Acts, policies: &[Policy], by: &[Policy], set: u64) -> bool
-    ensures { IsTrue result ↔ All (λ i. Any (λ j. Covers acts.now j i) by.now ⊎ HasAuthority acts.now set i.owner) policies.now }
+    ensures { IsTrue result
+        ↔ All (λ i. Any (λ j. Covers acts.now j i) by.now ⊎ HasAuthority acts.now set i.owner) policies.now }
 {
     for i in policies {
         if !is_covered_with(acts, i, by, set) {
