@@ -1,3 +1,4 @@
 pub mod Quotient
 mod Examples
+mod LabelExamples
 mod SyntaxExamples

@@ -2,8 +2,10 @@ pub mod Arith
 pub mod Depth
 pub mod Evaluation
 pub mod Faults
+pub mod Labels
 pub mod Limits
 pub mod Names
+pub mod Principals
 pub mod Sinks
 pub mod Syntax
 pub mod Tokens

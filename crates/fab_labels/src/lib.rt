@@ -1,0 +1,11 @@
+//! The flow of labels, by looking for policies that cover others.
+#![tactic(auto)]
+
+mod flow;
+mod laws;
+mod policies;
+#[cfg(test)]
+mod tests;
+
+pub use flow::{cover_conf, cover_integ, declass_ok, endorse_ok, flows, flows_conf, flows_integ};
+pub use laws::{confidentiality_laws, flow_laws};
