@@ -1,6 +1,6 @@
 -- What the calls of a journal do to what it holds, and when they may fail.
-use Rattle.std.specs.Prelude.{◌≡◌, ◌≤◌, ℕ, Bool, IsTrue, List, ◌++◌, length, take, Result, Ok, Err, IsErrOf}
-use Rattle.fab_base.specs.Faults.{Rose, Calls}
+use Rattle.std.specs.Prelude.{◌≡◌, ◌↔◌, ◌≤◌, ℕ, Bool, IsTrue, List, ◌++◌, length, take, Result, Ok, Err, IsErrOf, Contains, min, ◌==◌, ◌&&◌}
+use Rattle.fab_base.specs.Faults.{Rose, Calls, next_call}
 use Rattle.fab_device.specs.declared.traits.JournalError.{JournalError}
 use Rattle.fab_device.specs.declared.traits.JournalError.TheVariants.{Failed, Memory}
 
@@ -35,3 +35,18 @@ pub record Held : Type 0 where
 pub record HeldWithCalls : Type 0 where
   pub held : Held
   pub calls : Calls
+
+-- how many bytes are synced, at most all
+abbrev pub synced_of : Held → ℕ
+synced_of held = min held.synced (length held.content)
+
+-- no call is listed, and none has failed
+abbrev pub never_fails : Calls → Bool
+never_fails calls = (length calls.fails == 0) && (calls.faults == 0)
+
+-- a call that is counted: it fails exactly where it is listed, and then it changes nothing
+pub record CountsCall (old new : HeldWithCalls) (Fails : Type 0) : Type 0 where
+  pub listed : Fails ↔ Contains old.calls.fails (next_call old.calls)
+  pub nothing : Fails → new.held ≡ old.held
+  pub made : new.calls.made ≡ next_call old.calls
+  pub list : new.calls.fails ≡ old.calls.fails

@@ -2,6 +2,7 @@
 use Rattle.std.specs.Prelude.{◌++◌, ◌∷◌, [], ℕ, List, Option, Some, None, map, filter, find, reverse, Contains}
 use Rattle.std.specs.Option.{option_map}
 use Rattle.std.specs.Str.{bytes_eq}
+use Rattle.fab_device.specs.Devices.{Held, HeldWithCalls, synced_of}
 
 -- A journal that was kept: its node's name, and what it held.
 pub record Entry : Type 0 where
@@ -26,3 +27,15 @@ all_under node pairs = map (λ pair. pair.1) (filter (λ pair. bytes_eq pair.0 n
 -- the last that stands under a name
 abbrev pub last_under : {T : Type 0} → List ℕ → List (List ℕ × T) → Option T
 last_under node pairs = option_map (λ pair. pair.1) (find (λ pair. bytes_eq pair.0 node) (reverse pairs))
+
+-- what a kept journal held
+abbrev pub sure_entry : List ℕ × Held → Entry
+sure_entry pair = record { node = pair.0; content = pair.1.content; synced = synced_of pair.1; faults = 0 }
+
+abbrev pub mem_entry : List ℕ × HeldWithCalls → Entry
+mem_entry pair = record (sure_entry (pair.0, pair.1.held)) { faults = pair.1.calls.faults }
+
+-- Which calls of which nodes' journals fail, and the journals that were kept.
+pub record MemKeeper : Type 0 where
+  pub fails : List (List ℕ × ℕ)
+  pub kept : List (List ℕ × HeldWithCalls)

@@ -1,8 +1,11 @@
 //! A journal in memory that never fails.
-ghost use Rattle.std.specs.Prelude.{◌≡◌, [], take, IfOk, length};
+ghost use Rattle.std.specs.Prelude.{◌≡◌, [], IfOk};
+ghost use Rattle.std.specs.Option.{option_copied};
+ghost use Rattle.fab_device.specs.Kept.{last_under};
 
-use crate::traits::{Journal, JournalError};
-use fab_base::{Failed, NoMemory, Seq};
+use crate::shelf::last_of;
+use crate::traits::{Journal, JournalError, Journals};
+use fab_base::{Failed, NoMemory, Seq, Text};
 use std::alloc::Global;
 use std::marker::Model;
 
@@ -52,12 +55,13 @@ impl SureJournal {
 }
 
 impl Journal for SureJournal {
-    ghost use Rattle.std.specs.Prelude.{true, min, length, refl};
+    ghost use Rattle.std.specs.Prelude.{true, refl};
+    ghost use Rattle.fab_device.specs.Devices.{synced_of};
     ghost use Rattle.std.proofs.Common.{arith};
 
     ghost content = { λ j. j.content };
 
-    ghost synced = { λ j. min j.synced (length j.content) };
+    ghost synced = { synced_of };
 
     ghost room = { λ j. j.room };
 
@@ -91,6 +95,64 @@ impl Journal for SureJournal {
     fn restart(&mut self, keep: u64) -> Result<(), Failed> {
         self.bytes.truncate(keep as usize);
         self.synced = keep as usize;
+        Ok(())
+    }
+}
+
+/// Makes journals in memory that never fail, and keeps what it is given.
+#[derive(Debug, Drop)]
+pub struct SureJournals {
+    alloc: Global,
+    kept: Vec<(Text, SureJournal)>,
+}
+
+impl Model for SureJournals {
+    ghost use Rattle.std.specs.Prelude.{List, ℕ};
+    ghost use Rattle.fab_device.specs.Devices.{Held};
+
+    ghost Value = { List (List ℕ × Held) };
+
+    ghost view = { λ s. s.kept.items };
+}
+
+impl SureJournals {
+    /// Nothing is kept yet.
+    pub fn new(alloc: Global) -> Result<SureJournals, NoMemory>
+        ensures { IfOk result (λ s. s ≡ []) }
+    {
+        Ok(SureJournals {
+            alloc,
+            kept: Vec::new(alloc),
+        })
+    }
+
+    /// The last journal that was kept under this name.
+    pub fn kept(&self, node: &str) -> Option<&SureJournal>
+        ensures { option_copied result ≡ last_under node.now self.now }
+    {
+        last_of(self.kept.as_slice(), node)
+    }
+}
+
+impl Journals for SureJournals {
+    ghost use Rattle.std.specs.Prelude.{Some, [], map};
+    ghost use Rattle.fab_device.specs.Kept.{sure_entry};
+
+    type Item = SureJournal;
+
+    ghost may_fail = { λ _. Some [] };
+
+    ghost kept = { λ s. Some (map sure_entry s) };
+
+    ghost faults = { λ _. 0 };
+
+    fn make(&mut self, _node: &str) -> Result<SureJournal, JournalError> {
+        Ok(SureJournal::new(self.alloc)?)
+    }
+
+    fn keep(&mut self, node: &str, journal: SureJournal) -> Result<(), NoMemory> {
+        let name = Text::make(self.alloc, node)?;
+        self.kept.push((name, journal))?;
         Ok(())
     }
 }

@@ -1,4 +1,4 @@
-ghost use Rattle.std.specs.Prelude.{◌≡◌, ◌+◌, ◌≤◌, ℕ, Bool, IsTrue, List, Option, [], length, take, MatchResult, IfOk, OnOk, OnErr, IsErr, IsErrOf};
+ghost use Rattle.std.specs.Prelude.{◌≡◌, ◌+◌, ◌≤◌, ℕ, Bool, IsTrue, List, Option, [], length, take, MatchResult, IsOk, IfOk, OnOk, OnErr, IsErr, IsErrOf};
 ghost use Rattle.fab_base.specs.Faults.{HasCause};
 ghost use Rattle.fab_device.specs.Devices.{AppendAdds, IsFrontFrom, JournalCause, KeepsSure};
 ghost use Rattle.fab_device.specs.Kept.{Entry, CannotFail, with_entry};
@@ -59,6 +59,7 @@ pub trait Journal {
     /// Makes room, and changes nothing else.
     fn reserve(&mut self, more: u64) -> Result<(), NoMemory>
         ensures made { OnOk result (more ≤ room self.new) }
+        ensures fits { more ≤ room self.old → IsOk result }
         ensures room { room self.old ≤ room self.new }
         ensures content { content self.new ≡ content self.old }
         ensures synced { synced self.new ≡ synced self.old }
