@@ -1,1 +1,2 @@
+pub mod MessageExamples
 pub mod Quotient

@@ -1,3 +1,5 @@
 pub mod Arith
 pub mod Faults
+pub mod FieldSpelling
+pub mod MessageSpelling
 pub mod Sinks
