@@ -11,3 +11,6 @@ pub use files::{FileJournal, FileJournals};
 pub use memory::{MemJournal, MemJournals};
 pub use sure::{SureJournal, SureJournals};
 pub use traits::{Journal, JournalError, Journals};
+
+#[cfg(test)]
+mod tests;
