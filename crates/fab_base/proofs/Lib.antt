@@ -1,2 +1,4 @@
+pub mod JournalExamples
 pub mod MessageExamples
 pub mod Quotient
+pub mod Torn
