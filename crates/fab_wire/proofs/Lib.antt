@@ -1,0 +1,4 @@
+pub mod FieldLaws
+pub mod Loop
+pub mod NumberLaws
+pub mod ReaderLaws
