@@ -3,3 +3,4 @@ pub mod Loop
 pub mod MessageLaws
 pub mod NumberLaws
 pub mod ReaderLaws
+pub mod WholeLaws

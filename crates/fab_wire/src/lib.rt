@@ -1,14 +1,21 @@
 //! Messages as bytes.
 #![tactic(auto)]
 
+mod decoder;
+mod error;
 mod fields;
+mod laws;
 mod lists;
 mod messages;
 mod numbers;
 mod stop;
 
+pub use decoder::decode;
+pub use error::DecodeError;
 pub use fields::{oid_of, tid_of, value_of};
+pub use laws::{
+    no_spelling_begins_another, one_message_a_spelling, spelling_is_read_as_its_message,
+};
 pub use lists::{items_of, object_of};
-pub use messages::whole_of;
 pub use numbers::{byte_of, count_of, u16_of, u32_of};
 pub use stop::Stop;
