@@ -9,6 +9,7 @@ mod lists;
 mod messages;
 mod numbers;
 mod stop;
+mod writing;
 
 pub use decoder::decode;
 pub use error::DecodeError;
@@ -19,3 +20,4 @@ pub use laws::{
 pub use lists::{items_of, object_of};
 pub use numbers::{byte_of, count_of, u16_of, u32_of};
 pub use stop::Stop;
+pub use writing::{put_oid, put_tid, put_u8, put_u16, put_u32, put_value};
