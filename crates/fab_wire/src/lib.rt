@@ -5,6 +5,7 @@ mod decoder;
 mod error;
 mod fields;
 mod laws;
+mod list_writing;
 mod lists;
 mod messages;
 mod numbers;
@@ -17,6 +18,7 @@ pub use fields::{oid_of, tid_of, value_of};
 pub use laws::{
     no_spelling_begins_another, one_message_a_spelling, spelling_is_read_as_its_message,
 };
+pub use list_writing::{put_items, put_object};
 pub use lists::{items_of, object_of};
 pub use numbers::{byte_of, count_of, u16_of, u32_of};
 pub use stop::Stop;
