@@ -2,6 +2,7 @@
 #![tactic(auto)]
 
 mod decoder;
+mod encoder;
 mod error;
 mod fields;
 mod laws;
@@ -13,6 +14,7 @@ mod stop;
 mod writing;
 
 pub use decoder::decode;
+pub use encoder::encode;
 pub use error::DecodeError;
 pub use fields::{oid_of, tid_of, value_of};
 pub use laws::{
