@@ -1,7 +1,7 @@
 -- The bytes of the fields that messages and journal records are made of, and what has such bytes. Every number
 -- is big-endian. A value's and an object's version is that of the message or journal that it stands in.
 use Rattle.std.specs.Prelude.{ℕ, ◌<◌, ◌≤◌, ◌^◌, List, [], ◌∷◌, ◌++◌, length, FitsSigned}
-use Rattle.std.specs.List.{flat_map, AllByRecursion}
+use Rattle.std.specs.List.{flat_map, All, AllByRecursion}
 use Rattle.std.specs.Int.{w16, w32, to_be_bytes, cast_unsigned}
 use Rattle.fab_base.specs.declared.object.Tid.{Tid}
 use Rattle.fab_base.specs.declared.object.Oid.{Oid}
@@ -100,3 +100,11 @@ pub record AreItems (version : ℕ) (i : Items) : Type 0 where
   pub writes : AllByRecursion (IsWrite version) i.writes
   pub creates_count : length i.creates ≤ 256
   pub creates : AllByRecursion (IsCreate version) i.creates
+
+-- the counts alone: what of this the types of the code don't keep
+pub record KeepsItems (i : Items) : Type 0 where
+  pub reads : length i.reads ≤ 1024
+  pub writes : length i.writes ≤ 256
+  pub written : All (λ w. length w.2.fields ≤ 16) i.writes
+  pub creates : length i.creates ≤ 256
+  pub created : All (λ c. length c.1.fields ≤ 16) i.creates

@@ -6,7 +6,7 @@ use Rattle.fab_base.specs.declared.message.Answer.{Answer}
 use Rattle.fab_base.specs.declared.message.Answer.TheVariants as answers
 use Rattle.fab_base.specs.declared.message.Message.{Message}
 use Rattle.fab_base.specs.declared.message.Message.TheVariants as messages
-use Rattle.fab_base.specs.FieldSpelling.{four_bytes, tid_bytes, IsTid, oid_bytes, IsOid, object_bytes, IsObject, items_bytes, AreItems}
+use Rattle.fab_base.specs.FieldSpelling.{four_bytes, tid_bytes, IsTid, oid_bytes, IsOid, object_bytes, IsObject, items_bytes, AreItems, KeepsItems}
 
 -- why a Fetch is denied, one byte
 abbrev pub why_bytes : Why → List ℕ
@@ -64,6 +64,12 @@ IsBody version (messages.Inquire tid) = IsTid tid
 pub record IsMessage (version : ℕ) (m : Message) : Type 0 where
   pub known : version ≡ 1
   pub body : IsBody version m
+
+-- the counts alone: what of this the types of the code don't keep
+abbrev pub KeepsCounts : Message → Type 0
+KeepsCounts (messages.Object tid oid number object) = length object.fields ≤ 16
+KeepsCounts (messages.Prepare tid items) = KeepsItems items
+KeepsCounts _ = Unit {0}
 
 -- the bytes are the spelling of the message
 abbrev pub Spells : List ℕ → Message → Type 0
