@@ -5,7 +5,7 @@ use Rattle.fab_base.specs.declared.object.Tid.{Tid}
 use Rattle.fab_base.specs.declared.object.Value.TheVariants.{Null}
 use Rattle.fab_base.specs.declared.entry.Entry.{Entry}
 use Rattle.fab_base.specs.declared.entry.Entry.TheVariants.{Decided, Closed, Boot, Prepared, Refused, Applied, Released, BootSeen}
-use Rattle.fab_base.specs.JournalSpelling.{header_bytes, body_bytes, record_bytes, journal_bytes, IsEntry, AreStores, IsOutcome, IsReadAs, framed, IsBadPlace}
+use Rattle.fab_base.specs.JournalSpelling.{opening, header_bytes, body_bytes, record_bytes, journal_bytes, IsEntry, AreStores, IsOutcome, IsReadAs, framed, GoesWrongAt}
 use Rattle.fab_base.proofs.Torn.{short_is_torn, cut_is_torn}
 
 -- the first attempt of worker 0 in its first boot
@@ -68,33 +68,25 @@ no_named_failure h = let e : 2 ≡ 65535 = h.unnamed (λ named. omega (arith, na
 -- a journal of the Decided record: whole, without its last byte, and with less than a header
 whole_is_read : IsReadAs (journal_bytes 1 0 (decided ∷ [])) (decided ∷ []) 32
 whole_is_read = inr (record {
-  node = 0;
-  in_range = lit< tt;
-  entries_fit = (decided_is_spelled, tt);
-  within = lit≤ tt;
-  spelled = refl;
-  torn = short_is_torn _ (lit< tt);
+  front = record { node = 0; in_range = lit< tt; entries_fit = (decided_is_spelled, tt); within = lit≤ tt; spelled = refl };
+  torn = short_is_torn _ (lit< tt)
 })
 
 torn_is_dropped : IsReadAs (take 31 (journal_bytes 1 0 (decided ∷ []))) [] 8
 torn_is_dropped = inr (record {
-  node = 0;
-  in_range = lit< tt;
-  entries_fit = tt;
-  within = lit≤ tt;
-  spelled = refl;
-  torn = cut_is_torn _ (lit< tt);
+  front = record { node = 0; in_range = lit< tt; entries_fit = tt; within = lit≤ tt; spelled = refl };
+  torn = cut_is_torn _ (lit< tt)
 })
 
 torn_header_is_nothing : IsReadAs (70 ∷ 65 ∷ 66 ∷ []) [] 0
 torn_header_is_nothing = inl (record { node = 0; in_range = lit< tt; shorter = lit< tt; begins = refl }, refl, refl)
 
 -- another first byte is bad at 0, version 2 at 5
-bad_letter : IsBadPlace (71 ∷ 65 ∷ []) 0
-bad_letter = inl (record { within = lit< tt; known = lit< tt; same = refl; wrong = λ e. let same : 71 ≡ 70 = ap (λ o. unwrap_or o 0) e in omega (arith, same) })
+bad_letter : GoesWrongAt (71 ∷ 65 ∷ []) 0
+bad_letter = inl (record { within = lit< tt; known = lit< tt; same = refl; wrong = λ e. omega (arith, e) })
 
-bad_version : IsBadPlace (70 ∷ 65 ∷ 66 ∷ 74 ∷ 0 ∷ 2 ∷ 0 ∷ 0 ∷ []) 5
-bad_version = inl (record { within = lit< tt; known = lit< tt; same = refl; wrong = λ e. let same : 2 ≡ 1 = ap (λ o. unwrap_or o 0) e in omega (arith, same) })
+bad_version : GoesWrongAt (70 ∷ 65 ∷ 66 ∷ 74 ∷ 0 ∷ 2 ∷ 0 ∷ 0 ∷ []) 5
+bad_version = inl (record { within = lit< tt; known = lit< tt; same = refl; wrong = λ e. omega (arith, e) })
 
 -- no body begins with the kind 9
 kind_is_low : (entry : Entry) (more : List ℕ) → get_or (body_bytes entry ++ more) 0 0 ≤ 8
@@ -112,20 +104,16 @@ no_kind_nine entry rest more (inl e) = omega (arith, ap (λ xs. get_or xs 0 0) e
 no_kind_nine entry rest more (inr e) = omega (arith, ap (λ xs. get_or xs 0 0) e, kind_is_low entry more)
 
 -- the Decided record with the kind 9 is bad at its kind, byte 12
-kind_nine_is_bad : IsBadPlace (header_bytes 1 0 ++ framed (9 ∷ drop 1 (body_bytes decided))) 12
+kind_nine_is_bad : GoesWrongAt (header_bytes 1 0 ++ framed (9 ∷ drop 1 (body_bytes decided))) 12
 kind_nine_is_bad = inr (record {
-  node = 0;
-  in_range = lit< tt;
-  before = [];
-  body = 9 ∷ drop 1 (body_bytes decided);
-  more = [];
-  place = 4;
-  before_fits = tt;
-  length_fits = lit< tt;
-  spelled = refl;
-  unspelled = λ entry fits e. no_kind_nine entry (drop 1 (body_bytes decided)) [] (inl e);
-  wrong = inl (0, refl, (lit< tt, (decided, body_bytes decided, decided_is_spelled, inl refl), λ g. no_kind_nine g.0 [] g.1 g.3));
-  at_place = refl;
+  before = []; start = 8;
+  front = record { node = 0; in_range = lit< tt; entries_fit = tt; within = lit≤ tt; spelled = refl };
+  body = 9 ∷ drop 1 (body_bytes decided); more = []; length_fits = lit< tt; follows = refl; place = 4;
+  bad = record {
+    unspelled = λ entry fits e. no_kind_nine entry (drop 1 (body_bytes decided)) [] (inl e);
+    wrong = inl (0, refl, (lit< tt, (decided, body_bytes decided, decided_is_spelled, inl refl), λ g. no_kind_nine g.0 [] g.1 g.3))
+  };
+  at_place = refl
 })
 
 -- a Boot with a length of 6 and a byte more is bad at its length, byte 8
@@ -142,19 +130,18 @@ no_entry_of_six (Applied tid) kind len = omega (arith, kind)
 no_entry_of_six (Released tid) kind len = omega (arith, kind)
 no_entry_of_six (BootSeen worker boot) kind len = omega (arith, kind)
 
-longer_is_bad : IsBadPlace (header_bytes 1 0 ++ framed boot_and_more) 8
+longer_is_bad : GoesWrongAt (header_bytes 1 0 ++ framed boot_and_more) 8
 unfolding boot_and_more
 longer_is_bad = inr (record {
-  node = 0;
-  in_range = lit< tt;
-  before = [];
-  body = boot_and_more;
-  more = [];
-  place = 0;
-  before_fits = tt;
-  length_fits = lit< tt;
-  spelled = refl;
-  unspelled = λ entry fits e. no_entry_of_six entry (ap (λ xs. get_or xs 0 0) (sym e)) (ap length (sym e));
-  wrong = inr (refl, (Boot 2, 0 ∷ [], record { known = refl; body = lit< tt }, inr refl));
-  at_place = refl;
+  before = []; start = 8;
+  front = record { node = 0; in_range = lit< tt; entries_fit = tt; within = lit≤ tt; spelled = refl };
+  body = boot_and_more; more = []; length_fits = lit< tt; follows = refl; place = 0;
+  bad = record {
+    unspelled = λ entry fits e. no_entry_of_six entry (ap (λ xs. get_or xs 0 0) (sym e)) (ap length (sym e));
+    wrong = inr (refl, (Boot 2, 0 ∷ [], record { known = refl; body = lit< tt }, inr refl))
+  };
+  at_place = refl
 })
+
+opening_is : opening ≡ take 6 (header_bytes 1 258)
+opening_is = refl

@@ -1,6 +1,6 @@
 -- Journals as bytes: a header, and then records, each its body behind the body's length. What a crash leaves of
 -- one may end inside a record; the records before that are its whole part.
-use Rattle.std.specs.Prelude.{◌≡◌, ◌≢◌, ◌⊎◌, ℕ, ◌+◌, ◌<◌, ◌≤◌, ◌^◌, Option, Some, None, List, [], ◌∷◌, ◌++◌, length, take, drop, slice_get}
+use Rattle.std.specs.Prelude.{◌≡◌, ◌≢◌, ◌⊎◌, ℕ, ◌+◌, ◌<◌, ◌≤◌, ◌^◌, Option, Some, None, List, [], ◌∷◌, ◌++◌, length, take, drop, slice_index}
 use Rattle.std.specs.List.{flat_map, AllByRecursion}
 use Rattle.fab_base.specs.declared.object.Value.{Value}
 use Rattle.fab_base.specs.declared.entry.Entry.{Entry}
@@ -97,13 +97,17 @@ pub record IsTornHeader (bytes : List ℕ) : Type 0 where
 abbrev pub IsTorn : List ℕ → Type 0
 IsTorn bytes = (body more : List ℕ) → length body < 2 ^ 32 → bytes ≢ framed body ++ more
 
--- The whole part of the bytes: a header and these entries' records are so many bytes, and no whole record follows.
-pub record IsWholePart (bytes : List ℕ) (entries : List Entry) (len : ℕ) : Type 0 where
+-- the first len bytes are a journal of these entries
+pub record IsSpelledTo (bytes : List ℕ) (entries : List Entry) (len : ℕ) : Type 0 where
   pub node : ℕ
   pub in_range : node < 2 ^ 16
   pub entries_fit : AreEntries 1 entries
   pub within : len ≤ length bytes
   pub spelled : take len bytes ≡ journal_bytes 1 node entries
+
+-- The whole part of the bytes is a journal of these entries, and so long: no whole record follows.
+pub record IsWholePart (bytes : List ℕ) (entries : List Entry) (len : ℕ) : Type 0 where
+  pub front : IsSpelledTo bytes entries len
   pub torn : IsTorn (drop len bytes)
 
 -- the bytes are read as these entries, whole in their first len bytes; of a torn header nothing is read
@@ -115,35 +119,43 @@ pub record IsFirstWrong (right bytes : List ℕ) (at : ℕ) : Type 0 where
   pub within : at < length bytes
   pub known : at < length right
   pub same : take at bytes ≡ take at right
-  pub wrong : slice_get bytes at ≢ slice_get right at
+  pub wrong : slice_index bytes at ≢ slice_index right at
 
 -- The bytes go along with some body as far as both go: they begin one, or begin with one.
 abbrev pub GoesAlong : List ℕ → Type 0
 GoesAlong bytes = (entry : Entry) × (more : List ℕ) × IsEntry 1 entry × ((bytes ++ more ≡ body_bytes entry) ⊎ (bytes ≡ body_bytes entry ++ more))
 
--- Where a record of this body goes wrong, counted from its length's first byte: at the first byte of the body that
--- goes along with no body. Where there is none, the length is wrong, and the place is the length.
+-- the first byte of a body with which it goes along with no body of any length
 abbrev pub IsWrongByte : List ℕ → ℕ → Type 0
 IsWrongByte body at = (at < length body) × GoesAlong (take at body) × (GoesAlong (take (at + 1) body) → ⊥)
 
-abbrev pub IsWrongIn : List ℕ → ℕ → Type 0
-IsWrongIn body place = ((at : ℕ) × (place ≡ 4 + at) × IsWrongByte body at) ⊎ ((place ≡ 0) × GoesAlong body)
+-- A record's body that is no spelling, and where, counted from the first byte of its length: at its first wrong
+-- byte. Where there is none, a body is spelled, but is shorter or longer than the length says: the length is wrong.
+pub record IsBadBody (body : List ℕ) (place : ℕ) : Type 0 where
+  pub unspelled : (entry : Entry) → IsEntry 1 entry → body ≢ body_bytes entry
+  pub wrong : ((at : ℕ) × (place ≡ 4 + at) × IsWrongByte body at) ⊎ ((place ≡ 0) × GoesAlong body)
 
--- the first whole record that is no spelling: what stands before it is spelled, and there it goes wrong
+-- the first whole record that is no spelling: a journal stands before it, and there it goes wrong
 pub record IsBadRecord (bytes : List ℕ) (at : ℕ) : Type 0 where
-  pub node : ℕ
-  pub in_range : node < 2 ^ 16
   pub before : List Entry
+  pub start : ℕ
+  pub front : IsSpelledTo bytes before start
   pub body : List ℕ
   pub more : List ℕ
-  pub place : ℕ
-  pub before_fits : AreEntries 1 before
   pub length_fits : length body < 2 ^ 32
-  pub spelled : bytes ≡ journal_bytes 1 node before ++ framed body ++ more
-  pub unspelled : (entry : Entry) → IsEntry 1 entry → body ≢ body_bytes entry
-  pub wrong : IsWrongIn body place
-  pub at_place : at ≡ length (journal_bytes 1 node before) + place
+  pub follows : drop start bytes ≡ framed body ++ more
+  pub place : ℕ
+  pub bad : IsBadBody body place
+  pub at_place : at ≡ start + place
 
--- the place where bytes that are read as no entries go wrong: in the header, or in a whole record
-abbrev pub IsBadPlace : List ℕ → ℕ → Type 0
-IsBadPlace bytes at = IsFirstWrong (take 6 (header_bytes 1 0)) bytes at ⊎ IsBadRecord bytes at
+-- where bytes go wrong: in the header, whose node may be any, or in a whole record
+abbrev pub opening : List ℕ
+opening = 70 ∷ 65 ∷ 66 ∷ 74 ∷ 0 ∷ 1 ∷ []
+
+abbrev pub GoesWrongAt : List ℕ → ℕ → Type 0
+GoesWrongAt bytes at = IsFirstWrong opening bytes at ⊎ IsBadRecord bytes at
+
+-- the place where bytes that are read as no entries go wrong
+pub record IsBadPlace (bytes : List ℕ) (at : ℕ) : Type 0 where
+  pub unread : (entries : List Entry) (len : ℕ) → IsReadAs bytes entries len → ⊥
+  pub wrong : GoesWrongAt bytes at
