@@ -31,7 +31,7 @@ high_is high low h l = omega arith
 low_is : (high low : ℕ) → high < 256 → low < 256 → (high * 256 + low) % 256 ≡ low
 low_is high low h l = omega arith
 
-two_bytes_of : (high low : ℕ) → high < 256 → low < 256 → two_bytes (high * 256 + low) ≡ high ∷ low ∷ []
+pub two_bytes_of : (high low : ℕ) → high < 256 → low < 256 → two_bytes (high * 256 + low) ≡ high ∷ low ∷ []
 two_bytes_of high low h l = rw (high_is high low h l, low_is high low h l) refl
 
 -- a number of two bytes that begins so
@@ -47,7 +47,6 @@ both_are x high low rest after lt e =
     omega (arith, h, l)
 
 module _ (low high : ℕ) (ordered : low ≤ high) (small : high < 65536) where
-
   -- the least number within the bounds that begins so
   least : (b : ℕ) → low ≤ b * 256 + 255 → b * 256 ≤ high → b < 256
       → (r : ℕ) × IsWithin low high (b * 256 + r) × (two_bytes (b * 256 + r) ≡ b ∷ r ∷ [])
@@ -83,7 +82,14 @@ module _ (low high : ℕ) (ordered : low ≤ high) (small : high < 65536) where
 
   stops : (bytes : List ℕ) (left : ℕ) → IsBytes bytes → between_at low high bytes ≡ Err left → Stops two_bytes (IsWithin low high) bytes left
   stops [] left isb e = record {
-    front = []; back = []; cut = refl; left_is = cc; next = low; next_fits = (omega arith, ordered); more = two_bytes low; begins = refl;
+    front = [];
+    back = [];
+    cut = refl;
+    left_is = cc;
+    next = low;
+    next_fits = (omega arith, ordered);
+    more = two_bytes low;
+    begins = refl;
     bad = λ b rest tail eb. absurd cc;
   }
   stops (a ∷ []) left isb e =
@@ -92,17 +98,31 @@ module _ (low high : ℕ) (ordered : low ≤ high) (small : high < 65536) where
             let f = rw h.0 at e in
             let n = least a h.1 h.2 (isb 0) in
             record {
-              front = a ∷ []; back = []; cut = refl; left_is = cc; next = a * 256 + n.0; next_fits = n.1; more = n.0 ∷ []; begins = n.2;
-              bad = λ b rest tail eb. absurd cc
+              front = a ∷ [];
+              back = [];
+              cut = refl;
+              left_is = cc;
+              next = a * 256 + n.0;
+              next_fits = n.1;
+              more = n.0 ∷ [];
+              begins = n.2;
+              bad = λ b rest tail eb. absurd cc;
             }
         | inr h ↦
             let f = rw h.0 at e in
             record {
-              front = []; back = a ∷ []; cut = refl; left_is = cc; next = low; next_fits = (omega arith, ordered); more = two_bytes low; begins = refl;
+              front = [];
+              back = a ∷ [];
+              cut = refl;
+              left_is = cc;
+              next = low;
+              next_fits = (omega arith, ordered);
+              more = two_bytes low;
+              begins = refl;
               bad = λ b rest tail eb x after fx ex.
                   let same : a ≡ b = cc in
                   let first = first_is x b tail after (omega (arith, fx.1)) ex in
-                  h.1 (omega (arith, same, first, fx.0)) (omega (arith, same, first, fx.1))
+                  h.1 (omega (arith, same, first, fx.0)) (omega (arith, same, first, fx.1));
             }
       ]
   stops (a ∷ c ∷ bytes) left isb e =
@@ -114,21 +134,35 @@ module _ (low high : ℕ) (ordered : low ≤ high) (small : high < 65536) where
                   let f = rw (h.0, k.0) at e in
                   let n = least a h.1 h.2 (isb 0) in
                   record {
-                    front = a ∷ []; back = c ∷ bytes; cut = refl; left_is = cc; next = a * 256 + n.0; next_fits = n.1; more = n.0 ∷ []; begins = n.2;
+                    front = a ∷ [];
+                    back = c ∷ bytes;
+                    cut = refl;
+                    left_is = cc;
+                    next = a * 256 + n.0;
+                    next_fits = n.1;
+                    more = n.0 ∷ [];
+                    begins = n.2;
                     bad = λ b rest tail eb x after fx ex.
                         let same : c ≡ b = cc in
                         let both = both_are x a b tail after (omega (arith, fx.1)) ex in
-                        k.1 (omega (arith, same, both, fx.0)) (omega (arith, same, both, fx.1))
+                        k.1 (omega (arith, same, both, fx.0)) (omega (arith, same, both, fx.1));
                   }
             ]
         | inr h ↦
             let f = rw h.0 at e in
             record {
-              front = []; back = a ∷ c ∷ bytes; cut = refl; left_is = cc; next = low; next_fits = (omega arith, ordered); more = two_bytes low; begins = refl;
+              front = [];
+              back = a ∷ c ∷ bytes;
+              cut = refl;
+              left_is = cc;
+              next = low;
+              next_fits = (omega arith, ordered);
+              more = two_bytes low;
+              begins = refl;
               bad = λ b rest tail eb x after fx ex.
                   let same : a ≡ b = cc in
                   let first = first_is x b tail after (omega (arith, fx.1)) ex in
-                  h.1 (omega (arith, same, first, fx.0)) (omega (arith, same, first, fx.1))
+                  h.1 (omega (arith, same, first, fx.0)) (omega (arith, same, first, fx.1));
             }
       ]
 

@@ -64,11 +64,11 @@ ascending_reads zero low le =
 ascending_reads (suc n) low le =
     respelled (λ xs. flat_map two_bytes xs) (λ xs. AscendFrom low xs × (length xs ≡ suc n))
     (chosen_reads (λ store. made (λ (stores : List ℕ). store ∷ stores) (ascending_at n (store + 1))) first_of (λ xs. flat_map two_bytes (rest_of xs)) (AreLater n)
-      (between_reads low (65535 - n) (omega arith) (omega arith))
-      (λ a fa. made_reads (λ (stores : List ℕ). a ∷ stores) (λ xs. flat_map two_bytes (rest_of xs)) (λ xs. AreLater n xs × (first_of xs ≡ a))
-        (ascending_reads n (a + 1) (omega (arith, fa.1)))
-        (λ xs fx. (refl, ((ap suc fx.1, fx.0), refl)))
-        (one_more n a)))
+    (between_reads low (65535 - n) (omega arith) (omega arith))
+    (λ a fa. made_reads (λ (stores : List ℕ). a ∷ stores) (λ xs. flat_map two_bytes (rest_of xs)) (λ xs. AreLater n xs × (first_of xs ≡ a))
+    (ascending_reads n (a + 1) (omega (arith, fa.1)))
+    (λ xs fx. (refl, ((ap suc fx.1, fx.0), refl)))
+    (one_more n a)))
     (opened n low)
     (λ xs h. closed_up n low xs (omega arith) h)
     (taken_apart n low)
@@ -78,7 +78,7 @@ unfolding stores_at
 stores_reads =
     respelled stores_bytes AreStores
     (chosen_reads (λ count. ascending_at count 0) (λ (xs : List ℕ). length xs) (λ xs. flat_map two_bytes xs) (AscendFrom 0) two_reads
-      (λ n small. ascending_reads n 0 (omega (arith, small))))
+    (λ n small. ascending_reads n 0 (omega (arith, small))))
     (λ xs fx. refl) (λ xs h. record { count = h.0; ascend = h.1 }) (λ xs h. (h.count, h.ascend))
 
 -- ---- results
@@ -127,7 +127,14 @@ result_bad version tag bytes left s other b rest tail eb (Some v) after fits e =
 result_stops : (version : ℕ) (bytes : List ℕ) (left : ℕ) → IsBytes bytes → result_at bytes ≡ Err left → Stops result_bytes (IsResult version) bytes left
 unfolding result_at
 result_stops version [] left isb e = record {
-  front = []; back = []; cut = refl; left_is = cc; next = None; next_fits = tt; more = 3 ∷ []; begins = refl;
+  front = [];
+  back = [];
+  cut = refl;
+  left_is = cc;
+  next = None;
+  next_fits = tt;
+  more = 3 ∷ [];
+  begins = refl;
   bad = λ b rest tail eb. absurd cc;
 }
 result_stops version (tag ∷ bytes) left isb e =
@@ -139,8 +146,15 @@ result_stops version (tag ∷ bytes) left isb e =
             | inl bad ↦
                 let s = (value_reads version).stops (tag ∷ bytes) left isb bad in
                 record {
-                  front = s.front; back = s.back; cut = s.cut; left_is = s.left_is; next = Some s.next; next_fits = s.next_fits; more = s.more; begins = s.begins;
-                  bad = result_bad version tag bytes left s h.1
+                  front = s.front;
+                  back = s.back;
+                  cut = s.cut;
+                  left_is = s.left_is;
+                  next = Some s.next;
+                  next_fits = s.next_fits;
+                  more = s.more;
+                  begins = s.begins;
+                  bad = result_bad version tag bytes left s h.1;
                 }
             | inr ok ↦ absurd cc
           ]
@@ -174,7 +188,7 @@ outcome_is p h = record {
   least = h.0.0;
   greatest = h.0.1;
   in_range = omega (arith, h.1.1);
-  unnamed = λ unnamed. elim (least_is p.0) [ inl l ↦ absurd (unnamed l.0) | inr l ↦ omega (arith, l.1, h.1.0, h.1.1) ]
+  unnamed = λ unnamed. elim (least_is p.0) [ inl l ↦ absurd (unnamed l.0) | inr l ↦ omega (arith, l.1, h.1.0, h.1.1) ];
 }
 
 outcome_from : (p : ℕ × ℕ) → IsOutcome p.0 p.1 → ((1 ≤ p.0) × (p.0 ≤ 9)) × ((least_node p.0 ≤ p.1) × (p.1 ≤ 65535))
@@ -187,11 +201,11 @@ unfolding outcome_at
 outcome_reads =
     respelled outcome_bytes (λ p. IsOutcome p.0 p.1)
     (chosen_reads (λ o. made (λ (node : ℕ). (o, node)) (between_at (least_node o) 65535)) (λ (p : ℕ × ℕ). p.0) (λ (p : ℕ × ℕ). two_bytes p.1) (λ (p : ℕ × ℕ). (least_node p.0 ≤ p.1) × (p.1 ≤ 65535))
-      (byte_reads 1 9 (omega arith))
-      (λ o fo. made_reads (λ (node : ℕ). (o, node)) (λ (p : ℕ × ℕ). two_bytes p.1) (λ (p : ℕ × ℕ). ((least_node p.0 ≤ p.1) × (p.1 ≤ 65535)) × (p.0 ≡ o))
-        (between_reads (least_node o) 65535 (least_fits o) (omega arith))
-        (λ n fn. (refl, (fn, refl)))
-        (λ p fp. (p.1, (subst (λ (y : ℕ). (least_node y ≤ p.1) × (p.1 ≤ 65535)) fp.1 fp.0), ap (λ (y : ℕ). (y, p.1)) (sym fp.1)))))
+    (byte_reads 1 9 (omega arith))
+    (λ o fo. made_reads (λ (node : ℕ). (o, node)) (λ (p : ℕ × ℕ). two_bytes p.1) (λ (p : ℕ × ℕ). ((least_node p.0 ≤ p.1) × (p.1 ≤ 65535)) × (p.0 ≡ o))
+    (between_reads (least_node o) 65535 (least_fits o) (omega arith))
+    (λ n fn. (refl, (fn, refl)))
+    (λ p fp. (p.1, (subst (λ (y : ℕ). (least_node y ≤ p.1) × (p.1 ≤ 65535)) fp.1 fp.0), ap (λ (y : ℕ). (y, p.1)) (sym fp.1)))))
     (λ p fp. refl)
     outcome_is
     outcome_from

@@ -1,3 +1,5 @@
 pub mod Ascending
 pub mod Between
+pub mod Bodies
 pub mod EntryLaws
+pub mod Journals

@@ -5,7 +5,8 @@ mod append;
 mod entries;
 mod error;
 mod fields;
+mod records;
 
 pub use append::append_synced;
-pub use entries::entry_of;
 pub use error::RecordError;
+pub use records::read_records;
