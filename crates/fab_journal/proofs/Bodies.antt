@@ -1,6 +1,6 @@
 -- What reading a body tells of it.
-use Rattle.std.proofs.Common.{◌≡◌, ◌≢◌, ℕ, suc, ◌+◌, ◌-◌, ◌<◌, ◌≤◌, List, [], ◌∷◌, ◌++◌, length, take, Result, Ok, Err, refl, sym, ap, subst, ◌∙◌, append_assoc, length-append, arith, inl, inr}
-use Rattle.std.proofs.lemmas.List.{append-nil, take-append-le, take_all}
+use Rattle.std.proofs.Common.{◌≡◌, ◌≢◌, ℕ, ◌+◌, ◌-◌, ◌≤◌, List, [], ◌∷◌, ◌++◌, length, take, Result, Ok, Err, refl, sym, ap, subst, ◌∙◌, append_assoc, length-append, arith, inl, inr}
+use Rattle.std.proofs.lemmas.List.{append-nil}
 use Rattle.std.proofs.Math.Seq.{take-append_seam, take-append-add}
 use Rattle.fab_base.specs.declared.entry.Entry.{Entry}
 use Rattle.fab_base.specs.JournalSpelling.{body_bytes, IsEntry, GoesAlong, IsBadBody}
@@ -33,7 +33,7 @@ is_shorter body e (b ∷ rest) isb r len =
           let pair : (e, b ∷ rest) ≡ (e', []) = ok_is (e, b ∷ rest) (e', []) two in
           let none : b ∷ rest ≡ [] = ap (λ (q : Entry × List ℕ). q.1) pair in
           cc;
-      wrong = inr (refl, (e, b ∷ rest, g.1, inr g.0))
+      wrong = inr (refl, (e, b ∷ rest, g.1, inr g.0));
     }
 
 not_spelled : (body : List ℕ) (left : ℕ) → entry_at body ≡ Err left → (e : Entry) → IsEntry 1 e → body ≢ body_bytes e
@@ -52,7 +52,7 @@ is_cut body isb r =
     let whole : body ≡ s.front = whole_front body s.front s.back s.cut s.left_is in
     record {
       unspelled = not_spelled body 0 r;
-      wrong = inr (refl, (s.next, s.more, s.next_fits, inl (ap (λ (t : List ℕ). t ++ s.more) whole ∙ sym s.begins)))
+      wrong = inr (refl, (s.next, s.more, s.next_fits, inl (ap (λ (t : List ℕ). t ++ s.more) whole ∙ sym s.begins)));
     }
 
 -- one byte of it is wrong
@@ -78,9 +78,15 @@ wrong_from body left r some s (b ∷ rest) eb =
     let bad : IsBadBody body (4 + length s.front) =
     record {
       unspelled = not_spelled body left r;
-      wrong = inl (length s.front, refl, (omega (arith, len, left_is, some),
-        (s.next, s.more, s.next_fits, inl (ap (λ (t : List ℕ). t ++ s.more) taken ∙ sym s.begins)),
-        no_along body left s b rest (take (length s.front + 1) body) eb one_more))
+      wrong = inl (
+        length s.front,
+        refl,
+        (
+          omega (arith, len, left_is, some),
+          (s.next, s.more, s.next_fits, inl (ap (λ (t : List ℕ). t ++ s.more) taken ∙ sym s.begins)),
+          no_along body left s b rest (take (length s.front + 1) body) eb one_more,
+        ),
+      );
     } in
     (subst (λ (n : ℕ). IsBadBody body (4 + n)) at bad, omega (arith, len, left_is))
 

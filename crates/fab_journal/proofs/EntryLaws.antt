@@ -1,5 +1,5 @@
 -- Entries and their fields keep to what readers keep to.
-use Rattle.std.proofs.Common.{◌≡◌, ◌≢◌, ℕ, zero, suc, ◌+◌, ◌-◌, ◌*◌, ◌^◌, ◌<◌, ◌≤◌, Bool, true, false, eqb, leb, ltb, ◌&&◌, Option, Some, None, List, [], ◌∷◌, ◌++◌, length, Result, Ok, Err, refl, sym, ap, subst, ◌∙◌, append_assoc, arith, inl, inr, ◌⊎◌}
+use Rattle.std.proofs.Common.{◌≡◌, ◌≢◌, ℕ, zero, suc, ◌+◌, ◌-◌, ◌^◌, ◌<◌, ◌≤◌, Option, Some, None, List, [], ◌∷◌, ◌++◌, length, Result, Ok, Err, refl, sym, ap, subst, ◌∙◌, append_assoc, arith, inl, inr, ◌⊎◌}
 use Rattle.std.specs.List.{flat_map}
 use Rattle.std.proofs.lemmas.Bool.Decides.{eqb_tells, leb_tells}
 use Rattle.std.proofs.lemmas.List.{nil_from_length}
@@ -11,7 +11,7 @@ use Rattle.fab_base.specs.declared.entry.Entry.{Entry}
 use Rattle.fab_base.specs.declared.entry.Entry.TheVariants as entries
 use Rattle.fab_base.specs.FieldSpelling.{two_bytes, four_bytes, tid_bytes, IsTid, value_bytes, IsValue, items_bytes, AreItems}
 use Rattle.fab_base.specs.JournalSpelling.{result_bytes, IsResult, stores_bytes, AscendFrom, AreStores, NamesNode, IsOutcome, body_bytes, IsEntryBody, IsEntry}
-use Rattle.fab_wire.specs.Reading.{◌>>=◌, both, made, chosen, number_at, byte_at, tid_at, value_at, items_at}
+use Rattle.fab_wire.specs.Reading.{◌>>=◌, made, value_at}
 use Rattle.fab_wire.proofs.ReaderLaws.{IsBytes, Reads, Stops, bind_ok, bind_err, ok_is, made_reads, chosen_reads, both_reads, respelled, nothing_reads}
 use Rattle.fab_wire.proofs.NumberLaws.{two_reads, four_reads, byte_reads}
 use Rattle.fab_wire.proofs.FieldLaws.{tid_reads, value_reads, items_reads}

@@ -1,22 +1,21 @@
 -- Journals record by record.
-use Rattle.std.proofs.Common.{◌≡◌, ◌≢◌, ℕ, zero, suc, ◌+◌, ◌-◌, ◌*◌, ◌^◌, ◌<◌, ◌≤◌, List, [], ◌∷◌, ◌++◌, length, get_or, take, drop, refl, sym, ap, subst, ◌∙◌, append_assoc, length-append, arith, inl, inr, ◌⊎◌}
-use Rattle.std.specs.List.{flat_map, AllByRecursion}
-use Rattle.std.proofs.lemmas.List.{append-nil, take-append-drop, take-append-le, length-take-le, length-drop}
-use Rattle.std.proofs.Math.Seq.{take-append_seam, drop-append_seam, take-append-add, drop-append-add}
+use Rattle.std.proofs.Common.{◌≡◌, ℕ, ◌+◌, ◌-◌, ◌*◌, ◌^◌, ◌<◌, ◌≤◌, List, [], ◌∷◌, ◌++◌, length, take, drop, refl, sym, ap, ◌∙◌, append_assoc, length-append, arith}
+use Rattle.std.proofs.lemmas.List.{append-nil, take-append-drop, take_all, length-take-le, length-drop}
+use Rattle.std.proofs.Math.Seq.{take-append_seam, drop-append_seam}
 use Rattle.fab_base.specs.declared.entry.Entry.{Entry}
 use Rattle.fab_base.specs.FieldSpelling.{two_bytes, four_bytes}
-use Rattle.fab_base.specs.JournalSpelling.{opening, header_bytes, body_bytes, IsEntry, framed, record_bytes, records_bytes, journal_bytes, AreEntries, IsTornHeader, IsTorn, IsSpelledTo, IsWholePart, IsReadAs, IsFirstWrong, IsBadBody, IsBadRecord, GoesWrongAt, IsBadPlace}
+use Rattle.fab_base.specs.JournalSpelling.{opening, header_bytes, body_bytes, IsEntry, framed, record_bytes, records_bytes, journal_bytes, AreEntries, IsTornHeader, IsSpelledTo}
 use Rattle.fab_base.proofs.Torn.{number_in, number_in-framed, length-framed}
-use Rattle.fab_wire.proofs.ReaderLaws.{IsBytes, one_reading}
+use Rattle.fab_wire.proofs.ReaderLaws.{IsBytes}
 use Rattle.fab_journal.proofs.Between.{two_bytes_of}
-use Rattle.fab_journal.proofs.EntryLaws.{entry_reads}
 
 -- ---- one body at the front
 
 same_parts : (a b x y : List ℕ) → length a ≡ length b → a ++ x ≡ b ++ y → (a ≡ b) × (x ≡ y)
-same_parts a b x y len e =
-    (sym (take-append_seam a x) ∙ ap (take (length a)) e ∙ ap (λ (n : ℕ). take n (b ++ y)) len ∙ take-append_seam b y,
-      sym (drop-append_seam a x) ∙ ap (drop (length a)) e ∙ ap (λ (n : ℕ). drop n (b ++ y)) len ∙ drop-append_seam b y)
+same_parts a b x y len e = (
+  sym (take-append_seam a x) ∙ ap (take (length a)) e ∙ ap (λ (n : ℕ). take n (b ++ y)) len ∙ take-append_seam b y,
+  sym (drop-append_seam a x) ∙ ap (drop (length a)) e ∙ ap (λ (n : ℕ). drop n (b ++ y)) len ∙ drop-append_seam b y,
+)
 
 pub same_front : (a b x y : List ℕ) → length a < 2 ^ 32 → length b < 2 ^ 32 → framed a ++ x ≡ framed b ++ y → (a ≡ b) × (x ≡ y)
 same_front a b x y la lb e =
@@ -58,8 +57,10 @@ torn_header (a ∷ b ∷ c ∷ d ∷ e ∷ f ∷ []) isb lt same = record { node
 torn_header (a ∷ b ∷ c ∷ d ∷ e ∷ f ∷ g ∷ []) isb lt same =
     let node : two_bytes (g * 256 + 0) ≡ g ∷ 0 ∷ [] = two_bytes_of g 0 (isb 6) (omega arith) in
     record {
-      node = g * 256 + 0; in_range = omega (arith, isb 6); shorter = lt;
-      begins = ap (λ (t : List ℕ). t ++ g ∷ []) same ∙ ap (λ (t : List ℕ). opening ++ take 1 t) (sym node)
+      node = g * 256 + 0;
+      in_range = omega (arith, isb 6);
+      shorter = lt;
+      begins = ap (λ (t : List ℕ). t ++ g ∷ []) same ∙ ap (λ (t : List ℕ). opening ++ take 1 t) (sym node);
     }
 torn_header (a ∷ b ∷ c ∷ d ∷ e ∷ f ∷ g ∷ h ∷ bytes) isb lt same = absurd (omega (arith, lt))
 
@@ -92,7 +93,14 @@ spelled_further bytes entries at body e s follows one same =
     ap (λ (n : ℕ). take n bytes) (omega (arith, cut, len, length-append (take at bytes) (framed body))) ∙ ap (take (length (take at bytes ++ framed body))) (whole ∙ sym (append_assoc (take at bytes) (framed body) (drop (4 + length body) (drop at bytes))))
     ∙ take-append_seam (take at bytes ++ framed body) (drop (4 + length body) (drop at bytes)) in
     record {
-      node = s.node; in_range = s.in_range; entries_fit = AreEntries-push entries e s.entries_fit one; within = omega (arith, total);
+      node = s.node;
+      in_range = s.in_range;
+      entries_fit = AreEntries-push entries e s.entries_fit one;
+      within = omega (arith, total);
       spelled = taken ∙ ap (λ (t : List ℕ). t ++ framed body) s.spelled ∙ append_assoc (header_bytes 1 s.node) (records_bytes entries) (framed body)
-        ∙ ap (λ (t : List ℕ). header_bytes 1 s.node ++ (records_bytes entries ++ framed t)) same ∙ ap (λ (t : List ℕ). header_bytes 1 s.node ++ t) (sym (records-push entries e))
+          ∙ ap (λ (t : List ℕ). header_bytes 1 s.node ++ (records_bytes entries ++ framed t)) same ∙ ap (λ (t : List ℕ). header_bytes 1 s.node ++ t) (sym (records-push entries e));
     }
+
+-- what a slice from a place on holds
+pub from_place : (at : ℕ) (bytes : List ℕ) → take (length bytes - at) (drop at bytes) ≡ drop at bytes
+from_place at bytes = take_all (length bytes - at) (drop at bytes) (omega (arith, length-drop at bytes))

@@ -3,3 +3,5 @@ pub mod Between
 pub mod Bodies
 pub mod EntryLaws
 pub mod Journals
+pub mod Lengths
+pub mod OneReading

@@ -3,7 +3,7 @@ use Rattle.std.specs.Prelude.{ℕ, zero, suc, ◌+◌, ◌-◌, ◌*◌, Bool, O
 use Rattle.fab_base.specs.declared.object.Value.{Value}
 use Rattle.fab_base.specs.declared.entry.Entry.{Entry}
 use Rattle.fab_base.specs.declared.entry.Entry.TheVariants as entries
-use Rattle.fab_wire.specs.Reading.{Reader, ◌>>=◌, both, made, chosen, number_at, byte_at, tid_at, value_at, items_at}
+use Rattle.fab_wire.specs.Reading.{Reader, both, made, chosen, number_at, byte_at, tid_at, value_at, items_at}
 
 -- some number within the bounds has this first byte
 abbrev pub may_begin : ℕ → ℕ → ℕ → Bool

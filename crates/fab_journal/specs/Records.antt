@@ -1,7 +1,7 @@
 -- What reading a journal's records gives.
 use Rattle.std.specs.Prelude.{◌≡◌, ℕ, ◌+◌, ◌<◌, ◌^◌, List, ◌++◌, length, take, drop, Option, Some, None, Result, Ok, Err}
 use Rattle.fab_base.specs.declared.entry.Entry.{Entry}
-use Rattle.fab_base.specs.JournalSpelling.{body_bytes, IsEntry, framed, IsTorn, IsReadAs, IsFirstWrong, IsBadBody, GoesWrongAt, IsBadPlace}
+use Rattle.fab_base.specs.JournalSpelling.{body_bytes, IsEntry, framed, IsTorn, IsReadAs, IsFirstWrong, IsBadBody, IsBadPlace}
 use Rattle.fab_journal.specs.declared.error.RecordError.{RecordError}
 use Rattle.fab_journal.specs.declared.error.RecordError.TheVariants.{Memory, Bad}
 

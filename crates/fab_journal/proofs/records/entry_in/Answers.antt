@@ -1,5 +1,4 @@
-use Rattle.std.proofs.Common.{◌≡◌, ◌≢◌, ◌<◌, ◌+◌, ◌-◌, ℕ, length, Err, arith, rules, subst, eqb-true}
-use Rattle.fab_base.specs.JournalSpelling.{IsBadBody}
+use Rattle.std.proofs.Common.{◌≡◌, ◌≢◌, ℕ, length, Err, arith, rules, subst}
 use Rattle.fab_wire.proofs.ReaderLaws.{IsBytes}
 use Rattle.fab_journal.specs.EntryReading.{entry_at}
 use Rattle.fab_journal.proofs.Bodies.{is_spelled, is_shorter, is_cut, is_wrong}
