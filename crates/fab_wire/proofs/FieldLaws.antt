@@ -128,7 +128,9 @@ unfolding items_at
 items_reads version =
     made_reads (λ p. record { reads = p.0; writes = p.1.0; creates = p.1.1 }) items_bytes (AreItems version)
     (both_reads (counted_reads (count_reads 4 (omega arith)) read_reads)
-      (both_reads (counted_reads (count_reads 1 (omega arith)) (write_reads version)) (counted_reads (count_reads 1 (omega arith)) (create_reads version))))
-    (λ p fp. (append_assoc (two_bytes (length p.0) ++ flat_map read_bytes p.0) (two_bytes (length p.1.0) ++ flat_map write_bytes p.1.0) (two_bytes (length p.1.1) ++ flat_map create_bytes p.1.1),
-      record { reads_count = fp.0.0; reads = fp.0.1; writes_count = fp.1.0.0; writes = fp.1.0.1; creates_count = fp.1.1.0; creates = fp.1.1.1 }))
+    (both_reads (counted_reads (count_reads 1 (omega arith)) (write_reads version)) (counted_reads (count_reads 1 (omega arith)) (create_reads version))))
+    (λ p fp. (
+      append_assoc (two_bytes (length p.0) ++ flat_map read_bytes p.0) (two_bytes (length p.1.0) ++ flat_map write_bytes p.1.0) (two_bytes (length p.1.1) ++ flat_map create_bytes p.1.1),
+      record { reads_count = fp.0.0; reads = fp.0.1; writes_count = fp.1.0.0; writes = fp.1.0.1; creates_count = fp.1.1.0; creates = fp.1.1.1 },
+    ))
     (λ i fi. ((i.reads, (i.writes, i.creates)), ((fi.reads_count, fi.reads), ((fi.writes_count, fi.writes), (fi.creates_count, fi.creates))), refl))

@@ -1,5 +1,7 @@
 -- Messages keep to what readers keep to.
 use Rattle.std.proofs.Common.{◌≡◌, ℕ, zero, suc, ◌+◌, ◌-◌, ◌*◌, ◌^◌, ◌<◌, ◌≤◌, Bool, true, false, cond, eqb, List, [], ◌∷◌, ◌++◌, length, take, Result, Ok, Err, refl, sym, ap, subst, ◌∙◌, append_assoc, arith, inl, inr}
+use Rattle.std.specs.List.{AllByRecursion}
+use Rattle.std.proofs.lemmas.List.Elements.{All-from_recursion}
 use Rattle.fab_base.specs.declared.object.Tid.{Tid}
 use Rattle.fab_base.specs.declared.object.Oid.{Oid}
 use Rattle.fab_base.specs.declared.object.Object.{Object}
@@ -10,8 +12,8 @@ use Rattle.fab_base.specs.declared.message.Answer.{Answer}
 use Rattle.fab_base.specs.declared.message.Answer.TheVariants as answers
 use Rattle.fab_base.specs.declared.message.Message.{Message}
 use Rattle.fab_base.specs.declared.message.Message.TheVariants as messages
-use Rattle.fab_base.specs.FieldSpelling.{four_bytes, tid_bytes, IsTid, oid_bytes, IsOid, object_bytes, IsObject, items_bytes, AreItems}
-use Rattle.fab_base.specs.MessageSpelling.{why_bytes, answer_bytes, IsAnswer, kind_and_body, message_bytes, IsBody, IsMessage}
+use Rattle.fab_base.specs.FieldSpelling.{four_bytes, tid_bytes, IsTid, oid_bytes, IsOid, object_bytes, IsObject, items_bytes, AreItems, IsWrite, IsCreate}
+use Rattle.fab_base.specs.MessageSpelling.{why_bytes, answer_bytes, IsAnswer, kind_and_body, message_bytes, IsBody, IsMessage, KeepsCounts}
 use Rattle.fab_wire.specs.Reading.{byte_at, why_at, answer_by, answer_at, body_by, message_at, chosen}
 use Rattle.fab_wire.proofs.ReaderLaws.{Reads, made_reads, chosen_reads, both_reads, respelled, nothing_reads}
 use Rattle.fab_wire.proofs.NumberLaws.{four_reads, byte_reads}
@@ -353,5 +355,34 @@ unfolding message_at
 message_reads =
     respelled (message_bytes 1) (IsMessage 1)
     (chosen_reads (λ version. chosen (byte_at 1 9) body_by) (λ m. 1) kind_and_body (IsBody 1) (byte_reads 1 1 (omega arith))
-      (λ a fa. respelled kind_and_body (λ m. IsBody 1 m × (1 ≡ a)) (kind_reads 1) (λ m fm. refl) (λ m h. (h, omega (arith, fa.0, fa.1))) (λ m h. h.0)))
+    (λ a fa. respelled kind_and_body (λ m. IsBody 1 m × (1 ≡ a)) (kind_reads 1) (λ m fm. refl) (λ m h. (h, omega (arith, fa.0, fa.1))) (λ m h. h.0)))
     (λ m fm. refl) (λ m h. record { known = refl; body = h.1 }) (λ m h. ((omega arith, omega arith), h.body))
+
+-- what has a spelling keeps the counts
+writes_kept : (version : ℕ) (ws : List (Oid × ℕ × Object)) → AllByRecursion (IsWrite version) ws → AllByRecursion (λ w. length w.2.fields ≤ 16) ws
+writes_kept version [] h = tt
+writes_kept version (w ∷ ws) h = (h.0.object.count, writes_kept version ws h.1)
+
+creates_kept : (version : ℕ) (cs : List (Oid × Object)) → AllByRecursion (IsCreate version) cs → AllByRecursion (λ c. length c.1.fields ≤ 16) cs
+creates_kept version [] h = tt
+creates_kept version (c ∷ cs) h = (h.0.object.count, creates_kept version cs h.1)
+
+counts_kept : (version : ℕ) (m : Message) → IsBody version m → KeepsCounts m
+counts_kept version (messages.Fetch tid oid) h = tt
+counts_kept version (messages.Object tid oid number object) h = h.3.count
+counts_kept version (messages.Deny tid oid why) h = tt
+counts_kept version (messages.Prepare tid items) h = record {
+  reads = h.1.reads_count;
+  writes = h.1.writes_count;
+  written = All-from_recursion (λ (w : Oid × ℕ × Object). length w.2.fields ≤ 16) items.writes (writes_kept version items.writes h.1.writes);
+  creates = h.1.creates_count;
+  created = All-from_recursion (λ (c : Oid × Object). length c.1.fields ≤ 16) items.creates (creates_kept version items.creates h.1.creates);
+}
+counts_kept version (messages.Vote tid answer) h = tt
+counts_kept version (messages.Commit tid) h = tt
+counts_kept version (messages.Abort tid) h = tt
+counts_kept version (messages.Boot boot) h = tt
+counts_kept version (messages.Inquire tid) h = tt
+
+pub can_be_encoded : (version : ℕ) (m : Message) → IsMessage version m → KeepsCounts m
+can_be_encoded version m h = counts_kept version m h.body

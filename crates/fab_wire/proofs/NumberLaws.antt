@@ -85,10 +85,15 @@ number_reads n text limit wide = record {
       let k : n ≡ length bytes + rest = omega arith in
       let front : take n padded ≡ bytes ++ take rest (replicate n 0) = ap (λ (m : ℕ). take m padded) k ∙ take-append-add bytes (replicate n 0) rest in
       record {
-        front = bytes; back = []; cut = sym (append-nil bytes); left_is = g.1;
-        next = big_number n padded; next_fits = wide.below padded isp; more = take rest (replicate n 0);
+        front = bytes;
+        back = [];
+        cut = sym (append-nil bytes);
+        left_is = g.1;
+        next = big_number n padded;
+        next_fits = wide.below padded isp;
+        more = take rest (replicate n 0);
         begins = wide.back padded (omega (arith, length-append bytes (replicate n 0), length-replicate {A = ℕ} n 0)) isp ∙ front;
-        bad = λ b others tail eb. absurd cc
+        bad = λ b others tail eb. absurd cc;
       };
 }
 
@@ -119,7 +124,14 @@ byte_found low high (b ∷ bytes) x rest e =
 
 byte_stops : (low high : ℕ) → low ≤ high → (bytes : List ℕ) (left : ℕ) → byte_at low high bytes ≡ Err left → Stops (λ b. b ∷ []) (λ b. (low ≤ b) × (b ≤ high)) bytes left
 byte_stops low high le [] left e = record {
-  front = []; back = []; cut = refl; left_is = cc; next = low; next_fits = (omega arith, le); more = low ∷ []; begins = refl;
+  front = [];
+  back = [];
+  cut = refl;
+  left_is = cc;
+  next = low;
+  next_fits = (omega arith, le);
+  more = low ∷ [];
+  begins = refl;
   bad = λ b rest tail eb. absurd cc;
 }
 byte_stops low high le (b ∷ bytes) left e =
@@ -128,8 +140,15 @@ byte_stops low high le (b ∷ bytes) left e =
       | inr h ↦
           let f = rw h.0 at e in
           record {
-            front = []; back = b ∷ bytes; cut = refl; left_is = cc; next = low; next_fits = (omega arith, le); more = low ∷ []; begins = refl;
-            bad = λ c rest tail eb x after fx ex. let same : x ≡ b = cc in h.1 (subst (λ (y : ℕ). low ≤ y) same fx.0) (subst (λ (y : ℕ). y ≤ high) same fx.1)
+            front = [];
+            back = b ∷ bytes;
+            cut = refl;
+            left_is = cc;
+            next = low;
+            next_fits = (omega arith, le);
+            more = low ∷ [];
+            begins = refl;
+            bad = λ c rest tail eb x after fx ex. let same : x ≡ b = cc in h.1 (subst (λ (y : ℕ). low ≤ y) same fx.0) (subst (λ (y : ℕ). y ≤ high) same fx.1);
           }
     ]
 
@@ -197,7 +216,14 @@ count_again most m x rest le =
 
 count_stops : (most : ℕ) → most < 256 → (bytes : List ℕ) (left : ℕ) → IsBytes bytes → count_at most bytes ≡ Err left → Stops two_bytes (λ n. n ≤ most * 256) bytes left
 count_stops most m [] left isb e = record {
-  front = []; back = []; cut = refl; left_is = cc; next = 0; next_fits = omega arith; more = 0 ∷ 0 ∷ []; begins = refl;
+  front = [];
+  back = [];
+  cut = refl;
+  left_is = cc;
+  next = 0;
+  next_fits = omega arith;
+  more = 0 ∷ 0 ∷ [];
+  begins = refl;
   bad = λ b rest tail eb. absurd cc;
 }
 count_stops most m (high ∷ []) left isb e =
@@ -205,18 +231,31 @@ count_stops most m (high ∷ []) left isb e =
       | inl h ↦
           let f = rw h.0 at e in
           record {
-            front = high ∷ []; back = []; cut = refl; left_is = cc; next = high * 256 + 0; next_fits = omega (arith, h.1); more = 0 ∷ [];
+            front = high ∷ [];
+            back = [];
+            cut = refl;
+            left_is = cc;
+            next = high * 256 + 0;
+            next_fits = omega (arith, h.1);
+            more = 0 ∷ [];
             begins = two_bytes_of high 0 (isb 0) (omega arith);
-            bad = λ b rest tail eb. absurd cc
+            bad = λ b rest tail eb. absurd cc;
           }
       | inr h ↦
           let f = rw h.0 at e in
           record {
-            front = []; back = high ∷ []; cut = refl; left_is = cc; next = 0; next_fits = omega arith; more = 0 ∷ 0 ∷ []; begins = refl;
+            front = [];
+            back = high ∷ [];
+            cut = refl;
+            left_is = cc;
+            next = 0;
+            next_fits = omega arith;
+            more = 0 ∷ 0 ∷ [];
+            begins = refl;
             bad = λ b rest tail eb x after fx ex.
                 let same : high ≡ b = cc in
                 let first = first_is x b tail after (omega (arith, fx)) ex in
-                omega (arith, h.1, same, first, fx)
+                omega (arith, h.1, same, first, fx);
           }
     ]
 count_stops most m (high ∷ low ∷ bytes) left isb e =
@@ -227,22 +266,35 @@ count_stops most m (high ∷ low ∷ bytes) left isb e =
             | inr k ↦
                 let f = rw (h.0, k.0) at e in
                 record {
-                  front = high ∷ []; back = low ∷ bytes; cut = refl; left_is = cc; next = high * 256 + 0; next_fits = omega (arith, h.1); more = 0 ∷ [];
+                  front = high ∷ [];
+                  back = low ∷ bytes;
+                  cut = refl;
+                  left_is = cc;
+                  next = high * 256 + 0;
+                  next_fits = omega (arith, h.1);
+                  more = 0 ∷ [];
                   begins = two_bytes_of high 0 (isb 0) (omega arith);
                   bad = λ b rest tail eb x after fx ex.
                       let same : low ≡ b = cc in
                       let both = both_are x high b tail after (omega (arith, fx)) ex in
-                      omega (arith, k.1, same, both, fx)
+                      omega (arith, k.1, same, both, fx);
                 }
           ]
       | inr h ↦
           let f = rw h.0 at e in
           record {
-            front = []; back = high ∷ low ∷ bytes; cut = refl; left_is = cc; next = 0; next_fits = omega arith; more = 0 ∷ 0 ∷ []; begins = refl;
+            front = [];
+            back = high ∷ low ∷ bytes;
+            cut = refl;
+            left_is = cc;
+            next = 0;
+            next_fits = omega arith;
+            more = 0 ∷ 0 ∷ [];
+            begins = refl;
             bad = λ b rest tail eb x after fx ex.
                 let same : high ≡ b = cc in
                 let first = first_is x b tail after (omega (arith, fx)) ex in
-                omega (arith, h.1, same, first, fx)
+                omega (arith, h.1, same, first, fx);
           }
     ]
 

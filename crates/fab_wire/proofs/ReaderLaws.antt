@@ -81,12 +81,18 @@ made_reads {A = A} {C = C} {read = read} {text = text} {fits = fits} f text' fit
             let s = r.stops bytes left isb bad in
             let t = to s.next s.next_fits in
             record {
-              front = s.front; back = s.back; cut = s.cut; left_is = s.left_is;
-              next = f s.next; next_fits = t.1; more = s.more; begins = t.0 ∙ s.begins;
+              front = s.front;
+              back = s.back;
+              cut = s.cut;
+              left_is = s.left_is;
+              next = f s.next;
+              next_fits = t.1;
+              more = s.more;
+              begins = t.0 ∙ s.begins;
               bad = λ b rest tail eb c after fc ec.
                   let back = from c fc in
                   let same : text back.0 ++ after ≡ text' c ++ after = ap (λ (x : List ℕ). x ++ after) (sym (to back.0 back.1).0 ∙ ap text' back.2) in
-                  s.bad b rest tail eb back.0 after back.1 (same ∙ ec)
+                  s.bad b rest tail eb back.0 after back.1 (same ∙ ec);
             }
         | inr ok ↦ absurd cc
       ];
@@ -122,26 +128,35 @@ chosen_reads {A = A} {C = C} {first = first} {text1 = text1} {fits1 = fits1} sec
             let p = r.stops bytes left isb bad in
             let c = (s p.next p.next_fits).some in
             record {
-              front = p.front; back = p.back; cut = p.cut; left_is = p.left_is;
-              next = c.0; next_fits = (subst fits1 (sym c.1.1) p.next_fits, c.1.0); more = p.more ++ text2 c.0;
+              front = p.front;
+              back = p.back;
+              cut = p.cut;
+              left_is = p.left_is;
+              next = c.0;
+              next_fits = (subst fits1 (sym c.1.1) p.next_fits, c.1.0);
+              more = p.more ++ text2 c.0;
               begins = ap (λ (a : A). text1 a ++ text2 c.0) c.1.1 ∙ ap (λ (x : List ℕ). x ++ text2 c.0) p.begins ∙ append_assoc p.front p.more (text2 c.0);
               bad = λ b rest tail eb x after fx ex.
-                  p.bad b rest tail eb (tag x) (text2 x ++ after) fx.0 (sym (append_assoc (text1 (tag x)) (text2 x) after) ∙ ex)
+                  p.bad b rest tail eb (tag x) (text2 x ++ after) fx.0 (sym (append_assoc (text1 (tag x)) (text2 x) after) ∙ ex);
             }
         | inr ok ↦
             let g = r.found bytes ok.0.0 ok.0.1 isb ok.1 in
             let isr : IsBytes ok.0.1 = IsBytes-rest (text1 ok.0.0) ok.0.1 (subst IsBytes g.0 isb) in
             let p = (s ok.0.0 g.1).stops ok.0.1 left isr ok.2 in
             record {
-              front = text1 ok.0.0 ++ p.front; back = p.back;
+              front = text1 ok.0.0 ++ p.front;
+              back = p.back;
               cut = g.0 ∙ ap (λ (x : List ℕ). text1 ok.0.0 ++ x) p.cut ∙ sym (append_assoc (text1 ok.0.0) p.front p.back);
-              left_is = p.left_is; next = p.next; next_fits = (subst fits1 (sym p.next_fits.1) g.1, p.next_fits.0); more = p.more;
+              left_is = p.left_is;
+              next = p.next;
+              next_fits = (subst fits1 (sym p.next_fits.1) g.1, p.next_fits.0);
+              more = p.more;
               begins = ap (λ (a : A). text1 a ++ text2 p.next) p.next_fits.1 ∙ ap (λ (x : List ℕ). text1 ok.0.0 ++ x) p.begins ∙ sym (append_assoc (text1 ok.0.0) p.front p.more);
               bad = λ b rest tail eb x after fx ex.
                   let regrouped : text1 (tag x) ++ (text2 x ++ after) ≡ text1 ok.0.0 ++ (p.front ++ (b ∷ tail)) =
                   sym (append_assoc (text1 (tag x)) (text2 x) after) ∙ ex ∙ append_assoc (text1 ok.0.0) p.front (b ∷ tail) in
                   let one = one_reading r (tag x) ok.0.0 (text2 x ++ after) (p.front ++ (b ∷ tail)) fx.0 g.1 regrouped in
-                  p.bad b rest tail eb x after (fx.1, one.0) one.1
+                  p.bad b rest tail eb x after (fx.1, one.0) one.1;
             }
       ];
 }
@@ -167,8 +182,15 @@ respelled {read = read} text' fits' r same to from = record {
   stops = λ bytes left isb e.
       let s = r.stops bytes left isb e in
       record {
-        front = s.front; back = s.back; cut = s.cut; left_is = s.left_is; next = s.next; next_fits = to s.next s.next_fits; more = s.more; begins = same s.next (to s.next s.next_fits) ∙ s.begins;
-        bad = λ b rest tail eb x after fx ex. s.bad b rest tail eb x after (from x fx) (ap (λ (t : List ℕ). t ++ after) (sym (same x fx)) ∙ ex)
+        front = s.front;
+        back = s.back;
+        cut = s.cut;
+        left_is = s.left_is;
+        next = s.next;
+        next_fits = to s.next s.next_fits;
+        more = s.more;
+        begins = same s.next (to s.next s.next_fits) ∙ s.begins;
+        bad = λ b rest tail eb x after fx ex. s.bad b rest tail eb x after (from x fx) (ap (λ (t : List ℕ). t ++ after) (sym (same x fx)) ∙ ex);
       };
 }
 

@@ -83,8 +83,8 @@ stopped bytes left s =
     let longest : IsLongestFront bytes (length s.front) =
     longest_front bytes s.front s.back s.cut (s.more, s.next, (1, s.next_fits, sym s.begins))
     (λ b rest tail eb h.
-        let a = at_one ((s.front ++ (b ∷ tail)) ++ h.0) h.1 h.2 in
-        s.bad b rest (tail ++ h.0) eb h.1 [] a.0 (append-nil (message_bytes 1 h.1) ∙ sym a.1 ∙ append_assoc s.front (b ∷ tail) h.0)) in
+    let a = at_one ((s.front ++ (b ∷ tail)) ++ h.0) h.1 h.2 in
+    s.bad b rest (tail ++ h.0) eb h.1 [] a.0 (append-nil (message_bytes 1 h.1) ∙ sym a.1 ∙ append_assoc s.front (b ∷ tail) h.0)) in
     (omega arith, subst (λ (n : ℕ). IsLongestFront bytes n) at longest)
 
 followed : (bytes : List ℕ) (m : Message) (rest : List ℕ) → bytes ≡ message_bytes 1 m ++ rest → IsMessage 1 m → (length rest ≤ length bytes) × IsLongestFront bytes (length bytes - length rest)
@@ -94,8 +94,8 @@ followed bytes m rest cut fits =
     let longest : IsLongestFront bytes (length (message_bytes 1 m)) =
     longest_front bytes (message_bytes 1 m) rest cut ([], m, (1, fits, append-nil (message_bytes 1 m)))
     (λ b others tail eb h.
-        let e = nothing_follows (message_bytes 1 m) ((b ∷ tail) ++ h.0) m h.1 (1, fits, refl) (h.2.0, h.2.1, sym (append_assoc (message_bytes 1 m) (b ∷ tail) h.0) ∙ h.2.2) in
-        absurd cc) in
+    let e = nothing_follows (message_bytes 1 m) ((b ∷ tail) ++ h.0) m h.1 (1, fits, refl) (h.2.0, h.2.1, sym (append_assoc (message_bytes 1 m) (b ∷ tail) h.0) ∙ h.2.2) in
+    absurd cc) in
     (omega arith, subst (λ (n : ℕ). IsLongestFront bytes n) at longest)
 
 pub whole_place : (bytes : List ℕ) (left : ℕ) → IsBytes bytes → all_of bytes ≡ Err left → (left ≤ length bytes) × IsLongestFront bytes (length bytes - left)

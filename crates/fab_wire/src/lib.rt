@@ -18,10 +18,14 @@ pub use encoder::encode;
 pub use error::DecodeError;
 pub use fields::{oid_of, tid_of, value_of};
 pub use laws::{
-    no_spelling_begins_another, one_message_a_spelling, spelling_is_read_as_its_message,
+    no_spelling_begins_another, one_message_a_spelling, spelled_messages_can_be_encoded,
+    spelling_is_read_as_its_message,
 };
 pub use list_writing::{put_items, put_object};
 pub use lists::{items_of, object_of};
 pub use numbers::{byte_of, count_of, u16_of, u32_of};
 pub use stop::Stop;
 pub use writing::{put_oid, put_tid, put_u8, put_u16, put_u32, put_value};
+
+#[cfg(test)]
+mod tests;

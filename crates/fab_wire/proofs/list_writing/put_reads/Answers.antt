@@ -11,5 +11,5 @@ loop-read-preserved c =
     let x = get_or c.args.reads.now i d in
     record {
       bytes = more_bytes read_bytes c.args.out.now c.args.reads.now i d x c.loop-read-test.true refl c.loop-read.invariant.bytes c.in_ok-put_read.ensures.bytes;
-      fits = more_fits IsRead c.args.reads.now i d x c.loop-read-test.true refl c.loop-read.invariant.fits c.in_ok-put_read.ensures.fits
+      fits = more_fits IsRead c.args.reads.now i d x c.loop-read-test.true refl c.loop-read.invariant.fits c.in_ok-put_read.ensures.fits;
     }

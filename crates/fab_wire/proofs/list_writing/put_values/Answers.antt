@@ -12,5 +12,5 @@ loop-value-preserved c =
     let x = get_or c.args.values.now i d in
     record {
       bytes = more_bytes value_bytes c.args.out.now c.args.values.now i d x c.loop-value-test.true refl c.loop-value.invariant.bytes c.in_ok-put_value.ensures.bytes;
-      fits = more_fits (IsValue 1) c.args.values.now i d x c.loop-value-test.true refl c.loop-value.invariant.fits c.in_ok-put_value.ensures.fits
+      fits = more_fits (IsValue 1) c.args.values.now i d x c.loop-value-test.true refl c.loop-value.invariant.fits c.in_ok-put_value.ensures.fits;
     }
