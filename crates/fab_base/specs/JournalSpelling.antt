@@ -5,7 +5,7 @@ use Rattle.std.specs.List.{flat_map, AllByRecursion}
 use Rattle.fab_base.specs.declared.object.Value.{Value}
 use Rattle.fab_base.specs.declared.entry.Entry.{Entry}
 use Rattle.fab_base.specs.declared.entry.Entry.TheVariants.{Decided, Closed, Boot, Prepared, Refused, Applied, Released, BootSeen}
-use Rattle.fab_base.specs.FieldSpelling.{two_bytes, four_bytes, tid_bytes, IsTid, value_bytes, IsValue, items_bytes, AreItems}
+use Rattle.fab_base.specs.FieldSpelling.{two_bytes, four_bytes, tid_bytes, IsTid, value_bytes, IsValue, items_bytes, AreItems, KeepsItems}
 
 -- the header: the letters FABJ, the version, the node
 abbrev pub header_bytes : ℕ → ℕ → List ℕ
@@ -68,6 +68,13 @@ IsEntryBody version (BootSeen worker boot) = (worker < 2 ^ 16) × (boot < 2 ^ 32
 pub record IsEntry (version : ℕ) (entry : Entry) : Type 0 where
   pub known : version ≡ 1
   pub body : IsEntryBody version entry
+
+-- the orders and counts alone: what of this the types of the code don't keep
+abbrev pub KeepsEntry : Entry → Type 0
+KeepsEntry (Decided tid request result stores) = AreStores stores
+KeepsEntry (Closed request outcome node) = IsOutcome outcome node
+KeepsEntry (Prepared tid items) = KeepsItems items
+KeepsEntry _ = Unit {0}
 
 -- a record: how long the body is, and the body
 abbrev pub framed : List ℕ → List ℕ

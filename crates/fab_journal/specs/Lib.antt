@@ -1,2 +1,3 @@
+pub mod Crash
 pub mod EntryReading
 pub mod Records
