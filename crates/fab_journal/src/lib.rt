@@ -14,3 +14,6 @@ pub use error::RecordError;
 pub use laws::{crash_leaves_whole_records, cut_keeps_synced_records, one_reading};
 pub use records::read_records;
 pub use writing::{header_bytes, record_bytes};
+
+#[cfg(test)]
+mod tests;
