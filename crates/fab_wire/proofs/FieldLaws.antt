@@ -1,20 +1,15 @@
 -- The fields keep to what readers keep to.
-use Rattle.std.proofs.Common.{◌≡◌, ℕ, zero, suc, ◌+◌, ◌*◌, ◌^◌, ◌<◌, ◌≤◌, ℤ, List, [], ◌∷◌, ◌++◌, length, Result, Ok, Err, refl, sym, ap, subst, ◌∙◌, append_assoc, arith}
-use Rattle.std.specs.Prelude.{FitsSigned}
-use Rattle.std.specs.List.{flat_map, AllByRecursion}
+use Rattle.std.proofs.Common.{◌≡◌, ℕ, zero, suc, ◌^◌, ◌<◌, ◌≤◌, List, [], ◌∷◌, ◌++◌, length, refl, sym, ap, subst, append_assoc, arith}
+use Rattle.std.specs.List.{flat_map}
 use Rattle.std.specs.Int.{w32, cast_signed, cast_unsigned}
 use Rattle.std.proofs.lemmas.Int.{to_z-of_z, of_z-to_z}
 use Rattle.std.proofs.Math.Facts.{sfits_to_z, Fits-of_z}
 use mir.Val.{Fits}
-use Rattle.std.proofs.lemmas.List.{append-nil}
-use Rattle.fab_base.specs.declared.object.Tid.{Tid}
 use Rattle.fab_base.specs.declared.object.Oid.{Oid}
 use Rattle.fab_base.specs.declared.object.Value.{Value}
 use Rattle.fab_base.specs.declared.object.Value.TheVariants.{Int, Null, Ref}
-use Rattle.fab_base.specs.declared.object.Object.{Object}
-use Rattle.fab_base.specs.declared.message.Items.{Items}
 use Rattle.fab_base.specs.FieldSpelling.{two_bytes, four_bytes, tid_bytes, IsTid, oid_bytes, IsOid, value_bytes, IsValue, object_bytes, IsObject, read_bytes, write_bytes, create_bytes, items_bytes, IsRead, IsWrite, IsCreate, AreItems}
-use Rattle.fab_wire.specs.Reading.{number_at, byte_at, count_at, many_at, tid_at, oid_at, value_by, value_at, object_at, read_at, write_at, create_at, items_at}
+use Rattle.fab_wire.specs.Reading.{tid_at, oid_at, value_by, value_at, object_at, read_at, write_at, create_at, items_at}
 use Rattle.fab_wire.proofs.ReaderLaws.{Reads, made_reads, chosen_reads, both_reads, respelled, nothing_reads, counted_reads}
 use Rattle.fab_wire.proofs.NumberLaws.{two_reads, four_reads, byte_reads, count_reads}
 

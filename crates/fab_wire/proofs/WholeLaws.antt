@@ -1,11 +1,11 @@
 -- All of the bytes as one message, and where they stop being one.
-use Rattle.std.proofs.Common.{◌≡◌, ℕ, zero, suc, ◌+◌, ◌-◌, ◌<◌, ◌≤◌, Bool, true, false, cond, eqb, List, [], ◌∷◌, ◌++◌, length, take, Result, Ok, Err, refl, sym, ap, subst, ◌∙◌, append_assoc, length-append, arith, inl, inr, ◌⊎◌}
-use Rattle.std.proofs.lemmas.Bool.{cases_lt, eqb-true, eq-eqb}
+use Rattle.std.proofs.Common.{◌≡◌, ℕ, suc, ◌+◌, ◌-◌, ◌<◌, ◌≤◌, Bool, true, false, cond, eqb, List, [], ◌∷◌, ◌++◌, length, take, Ok, Err, refl, sym, ap, subst, ◌∙◌, append_assoc, length-append, arith, inl, inr}
+use Rattle.std.proofs.lemmas.Bool.{cases_lt, eqb-true}
 use Rattle.std.proofs.lemmas.List.{append-nil, nil_from_length}
 use Rattle.std.proofs.Math.Seq.{take-append-add, take-append_seam}
 use Rattle.fab_base.specs.declared.message.Message.{Message}
-use Rattle.fab_base.specs.MessageSpelling.{message_bytes, IsMessage, Spells, BeginsSpelling, IsLongestFront, byte_limit, IsReadAs, IsBadPlace}
-use Rattle.fab_wire.specs.Reading.{◌>>=◌, message_at, all_of}
+use Rattle.fab_base.specs.MessageSpelling.{message_bytes, IsMessage, Spells, BeginsSpelling, IsLongestFront, byte_limit, IsBadPlace}
+use Rattle.fab_wire.specs.Reading.{message_at, all_of}
 use Rattle.fab_wire.proofs.ReaderLaws.{IsBytes, Stops, bind_ok, bind_err, one_reading}
 use Rattle.fab_wire.proofs.MessageLaws.{message_reads}
 

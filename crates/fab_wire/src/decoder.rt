@@ -1,3 +1,5 @@
+//! Messages, read.
+
 ghost use Rattle.std.specs.Prelude.{IfOk};
 ghost use Rattle.fab_base.specs.MessageSpelling.{IsReadAs};
 ghost use Rattle.fab_wire.specs.Decoding.{AnswersReading, RefusesRightly};

@@ -1,3 +1,5 @@
+//! Messages, written.
+
 ghost use Rattle.std.specs.Prelude.{◌≡◌, ◌++◌, ◌∷◌, OnOk, IfOk};
 ghost use Rattle.fab_base.specs.FieldSpelling.{IsOid, IsTid, oid_bytes, tid_bytes};
 ghost use Rattle.fab_base.specs.MessageSpelling.{IsAnswer, IsBody, IsMessage, KeepsCounts, answer_bytes, kind_and_body, message_bytes, why_bytes};

@@ -6,6 +6,7 @@ use crate::numbers::{byte_of, u16_of, u32_of};
 use crate::stop::Stop;
 use fab_base::{Oid, Tid, Value};
 
+/// The transaction's name in the first 10 bytes, and the bytes after it.
 #[tactic(auto, unfolding(crate::specs::Reading::tid_at))]
 pub fn tid_of(bytes: &[u8]) -> Result<(Tid, &[u8]), Stop>
     ensures { Gives (λ x. (x.0, x.1.now)) result (tid_at bytes.now) }
@@ -21,6 +22,7 @@ pub fn tid_of(bytes: &[u8]) -> Result<(Tid, &[u8]), Stop>
     Ok((tid, rest))
 }
 
+/// The object's name in the first 18 bytes, and the bytes after it.
 #[tactic(auto, unfolding(crate::specs::Reading::oid_at))]
 pub fn oid_of(bytes: &[u8]) -> Result<(Oid, &[u8]), Stop>
     ensures { Gives (λ x. (x.0, x.1.now)) result (oid_at bytes.now) }
@@ -44,6 +46,8 @@ pub fn oid_of(bytes: &[u8]) -> Result<(Oid, &[u8]), Stop>
     Ok((oid, rest))
 }
 
+/// The value at the front, and the bytes after it: tag 0 and four bytes of two's complement, tag 1 for
+/// null, or tag 2 and an object's name.
 #[tactic(auto, unfolding(crate::specs::Reading::value_at))]
 pub fn value_of(bytes: &[u8]) -> Result<(Value, &[u8]), Stop>
     ensures { Gives (λ x. (x.0, x.1.now)) result (value_at bytes.now) }

@@ -1,4 +1,4 @@
-//! Messages as bytes.
+//! Messages as bytes, and the fields that journals share with them. All numbers are big-endian.
 #![tactic(auto)]
 
 mod decoder;
@@ -16,6 +16,7 @@ mod writing;
 pub use decoder::decode;
 pub use encoder::encode;
 pub use error::DecodeError;
+pub use fab_base::Message;
 pub use fields::{oid_of, tid_of, value_of};
 pub use laws::{
     no_spelling_begins_another, one_message_a_spelling, spelled_messages_can_be_encoded,

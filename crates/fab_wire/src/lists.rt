@@ -21,6 +21,8 @@ fn values_of(alloc: Global, count: u8, bytes: &[u8]) -> Result<(Seq<Value>, &[u8
     Ok((values, rest))
 }
 
+/// The object at the front, and the bytes after it: its class, the number of its fields in a byte, at
+/// most 16, and the fields.
 #[tactic(auto, unfolding(crate::specs::Reading::object_at))]
 pub fn object_of(alloc: Global, bytes: &[u8]) -> Result<(Object, &[u8]), Stop>
     ensures { Gives (λ x. (x.0, x.1.now)) result (object_at bytes.now) }
@@ -102,6 +104,8 @@ fn creates_of(alloc: Global, count: u16, bytes: &[u8]) -> Result<(Seq<(Oid, Obje
     Ok((creates, rest))
 }
 
+/// The items at the front, and the bytes after them: at most 1,024 reads, 256 writes and 256 creates,
+/// each list behind its length in two bytes.
 #[tactic(auto, unfolding(crate::specs::Reading::items_at))]
 pub fn items_of(alloc: Global, bytes: &[u8]) -> Result<(Items, &[u8]), Stop>
     ensures { Gives (λ x. (x.0, x.1.now)) result (items_at bytes.now) }

@@ -1,4 +1,4 @@
-//! Messages, read from some bytes.
+//! Kinds of messages, read from the front of some bytes.
 
 ghost use Rattle.std.specs.Prelude.{◌≤◌};
 ghost use Rattle.fab_wire.specs.Reading.{Gives, why_at, answer_at, body_by, message_at, all_of};

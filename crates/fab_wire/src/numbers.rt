@@ -1,9 +1,12 @@
+//! Numbers, read from the front of some bytes.
+
 ghost use Rattle.std.specs.Prelude.{◌<◌};
 ghost use Rattle.fab_wire.specs.Reading.{Gives, number_at, byte_at, count_at};
 
 use crate::stop::Stop;
 use byteorder::{BigEndian, ByteOrder};
 
+/// The big-endian number in the first two bytes, and the bytes after it.
 pub fn u16_of(bytes: &[u8]) -> Result<(u16, &[u8]), Stop>
     ensures { Gives (λ x. (x.0, x.1.now)) result (number_at 2 bytes.now) }
 {
@@ -13,6 +16,7 @@ pub fn u16_of(bytes: &[u8]) -> Result<(u16, &[u8]), Stop>
     Ok((BigEndian::read_u16(bytes), &bytes[2..]))
 }
 
+/// The big-endian number in the first four bytes, and the bytes after it.
 pub fn u32_of(bytes: &[u8]) -> Result<(u32, &[u8]), Stop>
     ensures { Gives (λ x. (x.0, x.1.now)) result (number_at 4 bytes.now) }
 {
@@ -22,6 +26,7 @@ pub fn u32_of(bytes: &[u8]) -> Result<(u32, &[u8]), Stop>
     Ok((BigEndian::read_u32(bytes), &bytes[4..]))
 }
 
+/// The first byte, which is to lie from `low` to `high`, and the bytes after it.
 pub fn byte_of(bytes: &[u8], low: u8, high: u8) -> Result<(u8, &[u8]), Stop>
     ensures { Gives (λ x. (x.0, x.1.now)) result (byte_at low high bytes.now) }
 {
@@ -37,6 +42,8 @@ pub fn byte_of(bytes: &[u8], low: u8, high: u8) -> Result<(u8, &[u8]), Stop>
     }
 }
 
+/// The big-endian number in the first two bytes, which is to be at most `most` times 256, and the
+/// bytes after it. A number that is too great goes wrong at the first of its bytes from which it is.
 pub fn count_of(bytes: &[u8], most: u16) -> Result<(u16, &[u8]), Stop>
     requires { most < 256 }
     ensures { Gives (λ x. (x.0, x.1.now)) result (count_at most bytes.now) }

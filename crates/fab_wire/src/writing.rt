@@ -6,12 +6,14 @@ ghost use Rattle.fab_base.specs.FieldSpelling.{IsOid, IsTid, IsValue, four_bytes
 use byteorder::{BigEndian, ByteOrder};
 use fab_base::{NoMemory, Oid, Seq, Tid, Value};
 
+/// A byte at the end.
 pub fn put_u8(out: &mut Seq<u8>, n: u8) -> Result<(), NoMemory>
     ensures { OnOk result (out.new ≡ out.old ++ n ∷ []) }
 {
     out.push(n)
 }
 
+/// A number at the end, in two bytes, big-endian.
 pub fn put_u16(out: &mut Seq<u8>, n: u16) -> Result<(), NoMemory>
     ensures { OnOk result (out.new ≡ out.old ++ two_bytes n) }
 {
@@ -20,6 +22,7 @@ pub fn put_u16(out: &mut Seq<u8>, n: u16) -> Result<(), NoMemory>
     out.extend(&bytes)
 }
 
+/// A number at the end, in four bytes, big-endian.
 pub fn put_u32(out: &mut Seq<u8>, n: u32) -> Result<(), NoMemory>
     ensures { OnOk result (out.new ≡ out.old ++ four_bytes n) }
 {
@@ -28,6 +31,7 @@ pub fn put_u32(out: &mut Seq<u8>, n: u32) -> Result<(), NoMemory>
     out.extend(&bytes)
 }
 
+/// A transaction's name at the end, 10 bytes.
 pub fn put_tid(out: &mut Seq<u8>, tid: Tid) -> Result<(), NoMemory>
     ensures bytes { OnOk result (out.new ≡ out.old ++ tid_bytes tid) }
     ensures fits { IsTid tid }
@@ -37,6 +41,7 @@ pub fn put_tid(out: &mut Seq<u8>, tid: Tid) -> Result<(), NoMemory>
     put_u32(out, tid.number)
 }
 
+/// An object's name at the end, 18 bytes.
 pub fn put_oid(out: &mut Seq<u8>, oid: Oid) -> Result<(), NoMemory>
     ensures bytes { OnOk result (out.new ≡ out.old ++ oid_bytes oid) }
     ensures fits { IsOid oid }
@@ -51,6 +56,7 @@ pub fn put_oid(out: &mut Seq<u8>, oid: Oid) -> Result<(), NoMemory>
     Ok(())
 }
 
+/// A value at the end: its tag, and a number, nothing or an object's name.
 pub fn put_value(out: &mut Seq<u8>, value: Value) -> Result<(), NoMemory>
     ensures bytes { OnOk result (out.new ≡ out.old ++ value_bytes value) }
     ensures fits { IsValue 1 value }

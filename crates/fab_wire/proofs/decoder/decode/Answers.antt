@@ -1,4 +1,4 @@
-use Rattle.std.proofs.Common.{◌≡◌, ◌≤◌, length, Ok, Err, arith}
+use Rattle.std.proofs.Common.{◌≤◌, length, arith}
 use Rattle.fab_base.specs.MessageSpelling.{byte_limit}
 use Rattle.fab_wire.proofs.WholeLaws.{whole_found, whole_again, whole_place, never_read, bad_place}
 use Rattle.fab_wire.proofs.decoder.decode.Goals as goal

@@ -1,4 +1,4 @@
-use Rattle.std.proofs.Common.{◌++◌, ◌∷◌, []}
+use Rattle.std.proofs.Common.{◌∷◌, []}
 use Rattle.fab_base.specs.FieldSpelling.{oid_bytes}
 use Rattle.fab_wire.proofs.Pushes.{pushed}
 use Rattle.fab_wire.proofs.writing.put_value.Goals as goal
