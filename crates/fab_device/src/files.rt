@@ -139,8 +139,14 @@ pub struct FileJournals<'r, R: Files> {
     faults: u64,
 }
 
-impl<'r, R: Files> FileJournals<'r, R> {
-    pub fn new(rt: &'r R, alloc: Global) -> Self {
+impl<'r, R: Files> FileJournals<'r, R>
+where
+    R::File: Send,
+{
+    /// None has failed yet.
+    pub fn new(rt: &'r R, alloc: Global) -> Self
+        ensures { ⟦<FileJournals<'r, R> as Journals>⟧.faults result ≡ 0 }
+    {
         FileJournals {
             rt,
             alloc,
