@@ -1,4 +1,7 @@
 pub mod Quotient
+pub mod Torn
 mod Examples
+mod JournalExamples
 mod LabelExamples
+mod MessageExamples
 mod SyntaxExamples

@@ -2,8 +2,11 @@ pub mod Arith
 pub mod Depth
 pub mod Evaluation
 pub mod Faults
+pub mod FieldSpelling
+pub mod JournalSpelling
 pub mod Labels
 pub mod Limits
+pub mod MessageSpelling
 pub mod Names
 pub mod Principals
 pub mod Sinks

@@ -1,0 +1,52 @@
+-- What the calls of a journal do to what it holds, and when they may fail.
+use Rattle.std.specs.Prelude.{◌≡◌, ◌↔◌, ◌≤◌, ℕ, Bool, IsTrue, List, ◌++◌, length, take, Result, Ok, Err, IsErrOf, Contains, min, ◌==◌, ◌&&◌}
+use Rattle.fab_base.specs.Faults.{Rose, Calls, next_call}
+use Rattle.fab_device.specs.declared.traits.JournalError.{JournalError}
+use Rattle.fab_device.specs.declared.traits.JournalError.TheVariants.{Failed, Memory}
+
+-- `Ok` added the bytes, a failure some front of them, and want of memory nothing
+abbrev pub AppendAdds : {T : Type 0} → List ℕ → List ℕ → Result T JournalError → List ℕ → Type 0
+AppendAdds old new (Ok _) bytes = new ≡ old ++ bytes
+AppendAdds old new (Err Failed) bytes = (n : ℕ) × (new ≡ old ++ take n bytes)
+AppendAdds old new (Err Memory) bytes = new ≡ old
+
+-- a front of the old bytes, and at least so many of them
+pub record IsFrontFrom (keep : ℕ) (old new : List ℕ) : Type 0 where
+  pub longer : keep ≤ length new
+  pub front : take (length new) old ≡ new
+
+-- the count never falls, and where it was a failure and no want of memory, it rose
+pub record JournalCause {T : Type 0} (before now : ℕ) (result : Result T JournalError) : Type 0 where
+  pub later : before ≤ now
+  pub failed : IsErrOf result Failed → Rose before now
+
+-- a call keeps whether the journal is sure, and at one that is sure it doesn't fail
+pub record KeepsSure (before now : Bool) (Fails : Type 0) : Type 0 where
+  pub kept : now ≡ before
+  pub never : IsTrue before → Fails → ⊥
+
+-- What a journal in memory holds, how many of its bytes are synced, and for how many more it has room.
+pub record Held : Type 0 where
+  pub content : List ℕ
+  pub synced : ℕ
+  pub room : ℕ
+
+-- The same, with the calls, of which some fail.
+pub record HeldWithCalls : Type 0 where
+  pub held : Held
+  pub calls : Calls
+
+-- how many bytes are synced, at most all
+abbrev pub synced_of : Held → ℕ
+synced_of held = min held.synced (length held.content)
+
+-- no call is listed, and none has failed
+abbrev pub never_fails : Calls → Bool
+never_fails calls = (length calls.fails == 0) && (calls.faults == 0)
+
+-- a call that is counted: it fails exactly where it is listed, and then it changes nothing
+pub record CountsCall (old new : HeldWithCalls) (Fails : Type 0) : Type 0 where
+  pub listed : Fails ↔ Contains old.calls.fails (next_call old.calls)
+  pub nothing : Fails → new.held ≡ old.held
+  pub made : new.calls.made ≡ next_call old.calls
+  pub list : new.calls.fails ≡ old.calls.fails

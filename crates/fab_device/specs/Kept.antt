@@ -1,0 +1,41 @@
+-- What those who make journals tell.
+use Rattle.std.specs.Prelude.{◌++◌, ◌∷◌, [], ℕ, List, Option, Some, None, map, filter, find, reverse, Contains}
+use Rattle.std.specs.Option.{option_map}
+use Rattle.std.specs.Str.{bytes_eq}
+use Rattle.fab_device.specs.Devices.{Held, HeldWithCalls, synced_of}
+
+-- A journal that was kept: its node's name, and what it held.
+pub record Entry : Type 0 where
+  pub node : List ℕ
+  pub content : List ℕ
+  pub synced : ℕ
+  pub faults : ℕ
+
+-- It is told which nodes' journals may ever fail, and this node isn't one of them.
+abbrev pub CannotFail : Option (List (List ℕ)) → List ℕ → Type 0
+CannotFail None node = ⊥
+CannotFail (Some nodes) node = Contains nodes node → ⊥
+
+-- the list with one more entry, where it is told
+abbrev pub with_entry : Option (List Entry) → Entry → Option (List Entry)
+with_entry kept entry = option_map (λ entries. entries ++ entry ∷ []) kept
+
+-- what stands under a name, in order
+abbrev pub all_under : {T : Type 0} → List ℕ → List (List ℕ × T) → List T
+all_under node pairs = map (λ pair. pair.1) (filter (λ pair. bytes_eq pair.0 node) pairs)
+
+-- the last that stands under a name
+abbrev pub last_under : {T : Type 0} → List ℕ → List (List ℕ × T) → Option T
+last_under node pairs = option_map (λ pair. pair.1) (find (λ pair. bytes_eq pair.0 node) (reverse pairs))
+
+-- what a kept journal held
+abbrev pub sure_entry : List ℕ × Held → Entry
+sure_entry pair = record { node = pair.0; content = pair.1.content; synced = synced_of pair.1; faults = 0 }
+
+abbrev pub mem_entry : List ℕ × HeldWithCalls → Entry
+mem_entry pair = record (sure_entry (pair.0, pair.1.held)) { faults = pair.1.calls.faults }
+
+-- Which calls of which nodes' journals fail, and the journals that were kept.
+pub record MemKeeper : Type 0 where
+  pub fails : List (List ℕ × ℕ)
+  pub kept : List (List ℕ × HeldWithCalls)

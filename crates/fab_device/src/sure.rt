@@ -1,0 +1,158 @@
+//! A journal in memory that never fails.
+ghost use Rattle.std.specs.Prelude.{◌≡◌, [], IfOk};
+ghost use Rattle.std.specs.Option.{option_copied};
+ghost use Rattle.fab_device.specs.Kept.{last_under};
+
+use crate::shelf::last_of;
+use crate::traits::{Journal, JournalError, Journals};
+use fab_base::{Failed, NoMemory, Seq, Text};
+use std::alloc::Global;
+use std::marker::Model;
+
+/// Bytes in memory. Contracts see them, how many are synced, and the room.
+#[derive(Debug, Drop)]
+pub struct SureJournal {
+    bytes: Vec<u8>,
+    synced: usize,
+}
+
+impl Model for SureJournal {
+    ghost use Rattle.std.specs.Prelude.{◌-◌, ◌≤◌, length, vec_len, vec_capacity};
+    ghost use Rattle.fab_device.specs.Devices.{Held};
+
+    ghost Value = { Held };
+
+    ghost view = { λ j. record { content = j.bytes.items; synced = j.synced; room = vec_capacity j.bytes - vec_len j.bytes } };
+
+    ghost invariant = { λ j. j.synced ≤ vec_len j.bytes };
+}
+
+impl SureJournal {
+    /// An empty journal.
+    pub fn new(alloc: Global) -> Result<SureJournal, NoMemory>
+        ensures content { IfOk result (λ j. j.content ≡ []) }
+        ensures synced { IfOk result (λ j. j.synced ≡ 0) }
+    {
+        Ok(SureJournal {
+            bytes: Vec::new(alloc),
+            synced: 0,
+        })
+    }
+
+    /// What it holds.
+    pub fn bytes(&self) -> &[u8]
+        ensures { result.now ≡ self.now.content }
+    {
+        self.bytes.as_slice()
+    }
+
+    /// How many of its bytes are synced.
+    pub fn synced(&self) -> u64
+        ensures { result ≡ self.now.synced }
+    {
+        self.synced as u64
+    }
+}
+
+impl Journal for SureJournal {
+    ghost use Rattle.std.specs.Prelude.{true, refl};
+    ghost use Rattle.fab_device.specs.Devices.{synced_of};
+    ghost use Rattle.std.proofs.Common.{arith};
+
+    ghost content = { λ j. j.content };
+
+    ghost synced = { synced_of };
+
+    ghost room = { λ j. j.room };
+
+    ghost faults = { λ _. 0 };
+
+    ghost sure = { λ _. true };
+
+    ghost within = { λ j. Prim.omega arith };
+
+    ghost unfailed = { λ j _. refl };
+
+    fn append(&mut self, bytes: &[u8]) -> Result<(), JournalError> {
+        self.bytes.extend_from_slice(bytes)?;
+        Ok(())
+    }
+
+    fn reserve(&mut self, more: u64) -> Result<(), NoMemory> {
+        self.bytes.reserve(more as usize)
+    }
+
+    fn sync(&mut self) -> Result<(), Failed> {
+        self.synced = self.bytes.len();
+        Ok(())
+    }
+
+    fn read(&mut self) -> Result<Seq<u8>, JournalError> {
+        let alloc = *self.bytes.allocator();
+        Ok(Seq::from_slice(alloc, self.bytes.as_slice())?)
+    }
+
+    fn restart(&mut self, keep: u64) -> Result<(), Failed> {
+        self.bytes.truncate(keep as usize);
+        self.synced = keep as usize;
+        Ok(())
+    }
+}
+
+/// Makes journals in memory that never fail, and keeps what it is given.
+#[derive(Debug, Drop)]
+pub struct SureJournals {
+    alloc: Global,
+    kept: Vec<(Text, SureJournal)>,
+}
+
+impl Model for SureJournals {
+    ghost use Rattle.std.specs.Prelude.{List, ℕ};
+    ghost use Rattle.fab_device.specs.Devices.{Held};
+
+    ghost Value = { List (List ℕ × Held) };
+
+    ghost view = { λ s. s.kept.items };
+}
+
+impl SureJournals {
+    /// Nothing is kept yet.
+    pub fn new(alloc: Global) -> Result<SureJournals, NoMemory>
+        ensures { IfOk result (λ s. s ≡ []) }
+    {
+        Ok(SureJournals {
+            alloc,
+            kept: Vec::new(alloc),
+        })
+    }
+
+    /// The last journal that was kept under this name.
+    pub fn kept(&self, node: &str) -> Option<&SureJournal>
+        ensures { option_copied result ≡ last_under node.now self.now }
+    {
+        last_of(self.kept.as_slice(), node)
+    }
+}
+
+impl Journals for SureJournals {
+    ghost use Rattle.std.specs.Prelude.{Some, [], map};
+    ghost use Rattle.fab_device.specs.Kept.{sure_entry};
+
+    type Item = SureJournal;
+
+    ghost may_fail = { λ _. Some [] };
+
+    ghost kept = { λ s. Some (map sure_entry s) };
+
+    ghost faults = { λ _. 0 };
+
+    fn make(&mut self, _node: &str) -> Result<SureJournal, JournalError> {
+        Ok(SureJournal::new(self.alloc)?)
+    }
+
+    fn keep(&mut self, node: &str, journal: SureJournal) -> Result<(), NoMemory> {
+        let name = Text::make(self.alloc, node)?;
+        self.kept.push((name, journal))?;
+        Ok(())
+    }
+}

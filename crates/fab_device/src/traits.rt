@@ -1,0 +1,137 @@
+ghost use Rattle.std.specs.Prelude.{◌≡◌, ◌+◌, ◌≤◌, ℕ, Bool, IsTrue, List, Option, [], length, take, MatchResult, IsOk, IfOk, OnOk, OnErr, IsErr, IsErrOf};
+ghost use Rattle.fab_base.specs.Faults.{HasCause};
+ghost use Rattle.fab_device.specs.Devices.{AppendAdds, IsFrontFrom, JournalCause, KeepsSure};
+ghost use Rattle.fab_device.specs.Kept.{Entry, CannotFail, with_entry};
+ghost use Rattle.fab_device.specs.declared.traits.JournalError.TheVariants.{Memory};
+
+use fab_base::{Failed, NoMemory, Seq};
+use std::alloc::{AllocError, AllocFailed};
+
+/// Why a call of a journal did nothing or not all: the journal failed, or memory ran out.
+#[derive(Clone, Copy, Debug, PartialEq, Eq)]
+pub enum JournalError {
+    Failed,
+    Memory,
+}
+
+impl From<AllocError> for JournalError {
+    ghost from_gives = { λ _ e. e ≡ Memory };
+
+    fn from(_: AllocError) -> Self {
+        JournalError::Memory
+    }
+}
+
+impl<T: Drop> From<AllocFailed<T>> for JournalError {
+    ghost from_gives = { λ _ e. e ≡ Memory };
+
+    fn from(_: AllocFailed<T>) -> Self {
+        JournalError::Memory
+    }
+}
+
+/// Bytes that are appended. A crash leaves a front of them that has all synced ones.
+pub trait Journal {
+    /// All that was appended and not cut off.
+    ghost content: { Self → List ℕ };
+
+    /// How many of its bytes, from the front, are synced.
+    ghost synced: { Self → ℕ };
+
+    /// An append of at most so many bytes doesn't want memory.
+    ghost room: { Self → ℕ };
+
+    /// How often it has failed. The count stays at its last value, 2^64 - 1.
+    ghost faults: { Self → ℕ };
+
+    /// Whether it never fails.
+    ghost sure: { Self → Bool };
+
+    /// Adds the bytes at the end; after a failure, perhaps some front of them.
+    fn append(&mut self, bytes: &[u8]) -> Result<(), JournalError>
+        ensures bytes { AppendAdds (content self.old) (content self.new) result bytes.now }
+        ensures synced { synced self.new ≡ synced self.old }
+        ensures room { room self.old ≤ room self.new + length bytes.now }
+        ensures fits { length bytes.now ≤ room self.old → IsErrOf result JournalError.Memory → ⊥ }
+        ensures cause { JournalCause (faults self.old) (faults self.new) result }
+        ensures sure { KeepsSure (sure self.old) (sure self.new) (IsErrOf result JournalError.Failed) };
+
+    /// Makes room, and changes nothing else.
+    fn reserve(&mut self, more: u64) -> Result<(), NoMemory>
+        ensures made { OnOk result (more ≤ room self.new) }
+        ensures fits { more ≤ room self.old → IsOk result }
+        ensures room { room self.old ≤ room self.new }
+        ensures content { content self.new ≡ content self.old }
+        ensures synced { synced self.new ≡ synced self.old }
+        ensures faults { faults self.new ≡ faults self.old }
+        ensures sure { sure self.new ≡ sure self.old };
+
+    /// After it all bytes are synced.
+    fn sync(&mut self) -> Result<(), Failed>
+        ensures done { OnOk result (synced self.new ≡ length (content self.old)) }
+        ensures synced { OnErr result (synced self.new ≡ synced self.old) }
+        ensures content { content self.new ≡ content self.old }
+        ensures room { room self.old ≤ room self.new }
+        ensures cause { HasCause (faults self.old) (faults self.new) result }
+        ensures sure { KeepsSure (sure self.old) (sure self.new) (IsErr result) };
+
+    /// The whole content.
+    fn read(&mut self) -> Result<Seq<u8>, JournalError>
+        ensures bytes { IfOk result (λ bytes. bytes ≡ content self.old) }
+        ensures content { content self.new ≡ content self.old }
+        ensures synced { synced self.new ≡ synced self.old }
+        ensures room { room self.old ≤ room self.new }
+        ensures cause { JournalCause (faults self.old) (faults self.new) result }
+        ensures sure { KeepsSure (sure self.old) (sure self.new) (IsErrOf result JournalError.Failed) };
+
+    /// Cuts off all but the first bytes, which are then synced. After a failure there may be more.
+    fn restart(&mut self, keep: u64) -> Result<(), Failed>
+        requires synced { synced self.old ≤ keep }
+        requires length { keep ≤ length (content self.old) }
+        ensures kept { OnOk result (content self.new ≡ take keep (content self.old)) }
+        ensures done { OnOk result (synced self.new ≡ keep) }
+        ensures front { OnErr result (IsFrontFrom keep (content self.old) (content self.new)) }
+        ensures synced { OnErr result (synced self.new ≡ synced self.old) }
+        ensures room { room self.old ≤ room self.new }
+        ensures cause { HasCause (faults self.old) (faults self.new) result }
+        ensures sure { KeepsSure (sure self.old) (sure self.new) (IsErr result) };
+
+    /// No more bytes are synced than there are.
+    ghost within: { (journal : Self) → synced journal ≤ length (content journal) };
+
+    /// One that never fails hasn't failed.
+    ghost unfailed: { (journal : Self) → IsTrue (sure journal) → faults journal ≡ 0 };
+}
+
+/// Who makes the nodes' journals, and takes them back.
+pub trait Journals {
+    type Item: Journal + Send + Drop;
+
+    /// The nodes whose journals may ever fail, where it tells them.
+    ghost may_fail: { Self → Option (List (List ℕ)) };
+
+    /// The journals that were kept, in order, where it tells them.
+    ghost kept: { Self → Option (List Entry) };
+
+    /// How often it has failed. The count stays at its last value, 2^64 - 1.
+    ghost faults: { Self → ℕ };
+
+    /// An empty journal for a node.
+    fn make(&mut self, node: &str) -> Result<Self::Item, JournalError>
+        ensures content { IfOk result (λ journal. Self.Item.content journal ≡ []) }
+        ensures synced { IfOk result (λ journal. Self.Item.synced journal ≡ 0) }
+        ensures unfailed { IfOk result (λ journal. Self.Item.faults journal ≡ 0) }
+        ensures sure { CannotFail (may_fail self.old) node.now → IfOk result (λ journal. IsTrue (Self.Item.sure journal)) }
+        ensures never { CannotFail (may_fail self.old) node.now → IsErrOf result JournalError.Failed → ⊥ }
+        ensures cause { JournalCause (faults self.old) (faults self.new) result }
+        ensures told { may_fail self.new ≡ may_fail self.old }
+        ensures kept { kept self.new ≡ kept self.old };
+
+    /// Takes a node's journal back.
+    fn keep(&mut self, node: &str, journal: Self::Item) -> Result<(), NoMemory>
+        ensures kept { OnOk result (kept self.new ≡ with_entry (kept self.old)
+            (record { node = node.now; content = Self.Item.content journal; synced = Self.Item.synced journal; faults = Self.Item.faults journal })) }
+        ensures err { OnErr result (kept self.new ≡ kept self.old) }
+        ensures faults { faults self.old ≤ faults self.new }
+        ensures told { may_fail self.new ≡ may_fail self.old };
+}

@@ -1,0 +1,106 @@
+-- Journals record by record.
+use Rattle.std.proofs.Common.{◌≡◌, ℕ, ◌+◌, ◌-◌, ◌*◌, ◌^◌, ◌<◌, ◌≤◌, List, [], ◌∷◌, ◌++◌, length, take, drop, refl, sym, ap, ◌∙◌, append_assoc, length-append, arith}
+use Rattle.std.proofs.lemmas.List.{append-nil, take-append-drop, take_all, length-take-le, length-drop}
+use Rattle.std.proofs.Math.Seq.{take-append_seam, drop-append_seam}
+use Rattle.fab_base.specs.declared.entry.Entry.{Entry}
+use Rattle.fab_base.specs.FieldSpelling.{two_bytes, four_bytes}
+use Rattle.fab_base.specs.JournalSpelling.{opening, header_bytes, body_bytes, IsEntry, framed, record_bytes, records_bytes, journal_bytes, AreEntries, IsTornHeader, IsSpelledTo}
+use Rattle.fab_base.proofs.Torn.{number_in, number_in-framed, length-framed}
+use Rattle.fab_wire.proofs.ReaderLaws.{IsBytes}
+use Rattle.fab_journal.proofs.Between.{two_bytes_of}
+
+-- ---- one body at the front
+
+same_parts : (a b x y : List ℕ) → length a ≡ length b → a ++ x ≡ b ++ y → (a ≡ b) × (x ≡ y)
+same_parts a b x y len e = (
+  sym (take-append_seam a x) ∙ ap (take (length a)) e ∙ ap (λ (n : ℕ). take n (b ++ y)) len ∙ take-append_seam b y,
+  sym (drop-append_seam a x) ∙ ap (drop (length a)) e ∙ ap (λ (n : ℕ). drop n (b ++ y)) len ∙ drop-append_seam b y,
+)
+
+pub same_front : (a b x y : List ℕ) → length a < 2 ^ 32 → length b < 2 ^ 32 → framed a ++ x ≡ framed b ++ y → (a ≡ b) × (x ≡ y)
+same_front a b x y la lb e =
+    let len : length a ≡ length b = sym (number_in-framed a x la) ∙ ap number_in e ∙ number_in-framed b y lb in
+    let whole : length (framed a) ≡ length (framed b) = omega (arith, len, length-framed a, length-framed b) in
+    let parts = same_parts (framed a) (framed b) x y whole e in
+    ((same_parts (four_bytes (length a)) (four_bytes (length b)) a b refl parts.0).1, parts.1)
+
+-- ---- headers
+
+pub header_rest : (node other : ℕ) (x y : List ℕ) → header_bytes 1 node ++ x ≡ header_bytes 1 other ++ y → x ≡ y
+header_rest node other x y e = (same_parts (header_bytes 1 node) (header_bytes 1 other) x y refl e).1
+
+pub length-journal : (node : ℕ) (entries : List Entry) → length (journal_bytes 1 node entries) ≡ 8 + length (records_bytes entries)
+length-journal node entries = length-append (header_bytes 1 node) (records_bytes entries)
+
+-- the bytes behind a whole opening are a header's node
+pub header_from : (bytes : List ℕ) → IsBytes bytes → 8 ≤ length bytes → take 6 bytes ≡ opening → (node : ℕ) × (node < 2 ^ 16) × (take 8 bytes ≡ header_bytes 1 node)
+header_from (a ∷ b ∷ c ∷ d ∷ e ∷ f ∷ g ∷ h ∷ bytes) isb le same =
+    let node : two_bytes (g * 256 + h) ≡ g ∷ h ∷ [] = two_bytes_of g h (isb 6) (isb 7) in
+    (g * 256 + h, omega (arith, isb 6, isb 7), (ap (λ (t : List ℕ). t ++ g ∷ h ∷ []) same ∙ ap (λ (t : List ℕ). opening ++ t) (sym node)))
+header_from [] isb le same = absurd (omega (arith, le))
+header_from (a ∷ []) isb le same = absurd (omega (arith, le))
+header_from (a ∷ b ∷ []) isb le same = absurd (omega (arith, le))
+header_from (a ∷ b ∷ c ∷ []) isb le same = absurd (omega (arith, le))
+header_from (a ∷ b ∷ c ∷ d ∷ []) isb le same = absurd (omega (arith, le))
+header_from (a ∷ b ∷ c ∷ d ∷ e ∷ []) isb le same = absurd (omega (arith, le))
+header_from (a ∷ b ∷ c ∷ d ∷ e ∷ f ∷ []) isb le same = absurd (omega (arith, le))
+header_from (a ∷ b ∷ c ∷ d ∷ e ∷ f ∷ g ∷ []) isb le same = absurd (omega (arith, le))
+
+pub torn_header : (bytes : List ℕ) → IsBytes bytes → length bytes < 8 → take 6 bytes ≡ take (length bytes) opening → IsTornHeader bytes
+torn_header [] isb lt same = record { node = 0; in_range = omega arith; shorter = lt; begins = same }
+torn_header (a ∷ []) isb lt same = record { node = 0; in_range = omega arith; shorter = lt; begins = same }
+torn_header (a ∷ b ∷ []) isb lt same = record { node = 0; in_range = omega arith; shorter = lt; begins = same }
+torn_header (a ∷ b ∷ c ∷ []) isb lt same = record { node = 0; in_range = omega arith; shorter = lt; begins = same }
+torn_header (a ∷ b ∷ c ∷ d ∷ []) isb lt same = record { node = 0; in_range = omega arith; shorter = lt; begins = same }
+torn_header (a ∷ b ∷ c ∷ d ∷ e ∷ []) isb lt same = record { node = 0; in_range = omega arith; shorter = lt; begins = same }
+torn_header (a ∷ b ∷ c ∷ d ∷ e ∷ f ∷ []) isb lt same = record { node = 0; in_range = omega arith; shorter = lt; begins = same }
+torn_header (a ∷ b ∷ c ∷ d ∷ e ∷ f ∷ g ∷ []) isb lt same =
+    let node : two_bytes (g * 256 + 0) ≡ g ∷ 0 ∷ [] = two_bytes_of g 0 (isb 6) (omega arith) in
+    record {
+      node = g * 256 + 0;
+      in_range = omega (arith, isb 6);
+      shorter = lt;
+      begins = ap (λ (t : List ℕ). t ++ g ∷ []) same ∙ ap (λ (t : List ℕ). opening ++ take 1 t) (sym node);
+    }
+torn_header (a ∷ b ∷ c ∷ d ∷ e ∷ f ∷ g ∷ h ∷ bytes) isb lt same = absurd (omega (arith, lt))
+
+-- ---- one record more
+
+records-push : (entries : List Entry) (e : Entry) → records_bytes (entries ++ e ∷ []) ≡ records_bytes entries ++ record_bytes e
+records-push [] e = append-nil (record_bytes e)
+records-push (x ∷ entries) e = ap (λ (t : List ℕ). record_bytes x ++ t) (records-push entries e) ∙ sym (append_assoc (record_bytes x) (records_bytes entries) (record_bytes e))
+
+AreEntries-push : (entries : List Entry) (e : Entry) → AreEntries 1 entries → IsEntry 1 e → AreEntries 1 (entries ++ e ∷ [])
+AreEntries-push [] e all one = (one, tt)
+AreEntries-push (x ∷ entries) e all one = (all.0, AreEntries-push entries e all.1 one)
+
+-- only a header
+pub spelled_header : (bytes : List ℕ) → IsBytes bytes → 8 ≤ length bytes → take 6 bytes ≡ opening → IsSpelledTo bytes [] 8
+spelled_header bytes isb le same =
+    let h = header_from bytes isb le same in
+    record { node = h.0; in_range = h.1; entries_fit = tt; within = le; spelled = h.2 ∙ sym (append-nil (header_bytes 1 h.0)) }
+
+-- a record more is spelled
+pub spelled_further : (bytes : List ℕ) (entries : List Entry) (at : ℕ) (body : List ℕ) (e : Entry) → IsSpelledTo bytes entries at
+    → drop at bytes ≡ framed body ++ drop (4 + length body) (drop at bytes) → IsEntry 1 e → body ≡ body_bytes e → IsSpelledTo bytes (entries ++ e ∷ []) (at + (4 + length body))
+spelled_further bytes entries at body e s follows one same =
+    let len : length (framed body) ≡ 4 + length body = length-framed body in
+    let whole : bytes ≡ take at bytes ++ (framed body ++ drop (4 + length body) (drop at bytes)) = sym (take-append-drop at bytes) ∙ ap (λ (t : List ℕ). take at bytes ++ t) follows in
+    let cut : length (take at bytes) ≡ at = length-take-le at bytes s.within in
+    let total : length bytes ≡ at + (4 + length body + length (drop (4 + length body) (drop at bytes))) =
+    omega (arith, ap length whole, length-append (take at bytes) (framed body ++ drop (4 + length body) (drop at bytes)), length-append (framed body) (drop (4 + length body) (drop at bytes)), cut, len) in
+    let taken : take (at + (4 + length body)) bytes ≡ take at bytes ++ framed body =
+    ap (λ (n : ℕ). take n bytes) (omega (arith, cut, len, length-append (take at bytes) (framed body))) ∙ ap (take (length (take at bytes ++ framed body))) (whole ∙ sym (append_assoc (take at bytes) (framed body) (drop (4 + length body) (drop at bytes))))
+    ∙ take-append_seam (take at bytes ++ framed body) (drop (4 + length body) (drop at bytes)) in
+    record {
+      node = s.node;
+      in_range = s.in_range;
+      entries_fit = AreEntries-push entries e s.entries_fit one;
+      within = omega (arith, total);
+      spelled = taken ∙ ap (λ (t : List ℕ). t ++ framed body) s.spelled ∙ append_assoc (header_bytes 1 s.node) (records_bytes entries) (framed body)
+          ∙ ap (λ (t : List ℕ). header_bytes 1 s.node ++ (records_bytes entries ++ framed t)) same ∙ ap (λ (t : List ℕ). header_bytes 1 s.node ++ t) (sym (records-push entries e));
+    }
+
+-- what a slice from a place on holds
+pub from_place : (at : ℕ) (bytes : List ℕ) → take (length bytes - at) (drop at bytes) ≡ drop at bytes
+from_place at bytes = take_all (length bytes - at) (drop at bytes) (omega (arith, length-drop at bytes))

@@ -1,0 +1,19 @@
+//! Journal records: entries as bytes, and what of them a crash leaves.
+#![tactic(auto)]
+
+mod append;
+mod entries;
+mod error;
+mod fields;
+mod laws;
+mod records;
+mod writing;
+
+pub use append::append_synced;
+pub use error::RecordError;
+pub use laws::{crash_leaves_whole_records, cut_keeps_synced_records, one_reading};
+pub use records::read_records;
+pub use writing::{header_bytes, record_bytes};
+
+#[cfg(test)]
+mod tests;

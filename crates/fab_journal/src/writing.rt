@@ -1,0 +1,120 @@
+//! Journal records, written.
+
+ghost use Rattle.std.specs.Prelude.{◌≡◌, ◌++◌, ◌∷◌, OnOk, IfOk};
+ghost use Rattle.std.specs.List.{flat_map};
+ghost use Rattle.fab_base.specs.FieldSpelling.{tid_bytes, IsTid, two_bytes};
+ghost use Rattle.fab_base.specs.JournalSpelling.{header_bytes as header_of, result_bytes, IsResult, stores_bytes, AreStores, body_bytes, IsEntryBody, IsEntry, KeepsEntry, record_bytes as record_of};
+
+use fab_base::{Entry, NoMemory, Seq, Tid, Value};
+use fab_wire::{put_items, put_tid, put_u8, put_u16, put_u32, put_value};
+use std::alloc::Global;
+
+/// The letters FABJ and version 1.
+const OPENING: [u8; 6] = [70, 65, 66, 74, 0, 1];
+
+/// A journal's header, 8 bytes.
+pub fn header_bytes(alloc: Global, node: u16) -> Result<Seq<u8>, NoMemory>
+    ensures { IfOk result (λ bytes. bytes ≡ header_of 1 node) }
+{
+    let mut out = Seq::from_slice(alloc, &OPENING)?;
+    put_u16(&mut out, node)?;
+    Ok(out)
+}
+
+/// An entry's record: the length of its body, four bytes, and the body.
+pub fn record_bytes(alloc: Global, entry: &Entry) -> Result<Seq<u8>, NoMemory>
+    requires { KeepsEntry entry.now }
+    ensures bytes { IfOk result (λ bytes. bytes ≡ record_of entry.now) }
+    // The entry has a spelling.
+    ensures fits { OnOk result (IsEntry 1 entry.now) }
+{
+    let mut body = Seq::new(alloc);
+    put_body(&mut body, entry)?;
+    let mut out = Seq::new(alloc);
+    put_u32(&mut out, body.len() as u32)?;
+    out.extend(body.as_slice())?;
+    Ok(out)
+}
+
+fn put_body(out: &mut Seq<u8>, entry: &Entry) -> Result<(), NoMemory>
+    requires { KeepsEntry entry.now }
+    ensures bytes { OnOk result (out.new ≡ out.old ++ body_bytes entry.now) }
+    ensures fits { OnOk result (IsEntryBody 1 entry.now) }
+{
+    match entry {
+        Entry::Decided {
+            tid,
+            request,
+            result,
+            stores,
+        } => {
+            put_kind_and_tid(out, 1, *tid)?;
+            put_u32(out, *request)?;
+            put_result(out, *result)?;
+            put_stores(out, stores.as_slice())?;
+        }
+        Entry::Closed {
+            request,
+            outcome,
+            node,
+        } => {
+            put_u8(out, 2)?;
+            put_u32(out, *request)?;
+            put_u8(out, *outcome)?;
+            put_u16(out, *node)?;
+        }
+        Entry::Boot { boot } => {
+            put_u8(out, 3)?;
+            put_u32(out, *boot)?;
+        }
+        Entry::Prepared { tid, items } => {
+            put_kind_and_tid(out, 4, *tid)?;
+            put_items(out, items)?;
+        }
+        Entry::Refused { tid } => put_kind_and_tid(out, 5, *tid)?,
+        Entry::Applied { tid } => put_kind_and_tid(out, 6, *tid)?,
+        Entry::Released { tid } => put_kind_and_tid(out, 7, *tid)?,
+        Entry::BootSeen { worker, boot } => {
+            put_u8(out, 8)?;
+            put_u16(out, *worker)?;
+            put_u32(out, *boot)?;
+        }
+    }
+    Ok(())
+}
+
+fn put_kind_and_tid(out: &mut Seq<u8>, kind: u8, tid: Tid) -> Result<(), NoMemory>
+    ensures bytes { OnOk result (out.new ≡ out.old ++ kind ∷ tid_bytes tid) }
+    ensures fits { IsTid tid }
+{
+    put_u8(out, kind)?;
+    put_tid(out, tid)?;
+    Ok(())
+}
+
+fn put_result(out: &mut Seq<u8>, value: Option<Value>) -> Result<(), NoMemory>
+    ensures bytes { OnOk result (out.new ≡ out.old ++ result_bytes value) }
+    ensures fits { IsResult 1 value }
+{
+    match value {
+        None => put_u8(out, 3),
+        Some(value) => put_value(out, value),
+    }
+}
+
+fn put_stores(out: &mut Seq<u8>, stores: &[u16]) -> Result<(), NoMemory>
+    requires { AreStores stores.now }
+    ensures { OnOk result (out.new ≡ out.old ++ stores_bytes stores.now) }
+{
+    put_u16(out, stores.len() as u16)?;
+    put_numbers(out, stores)
+}
+
+fn put_numbers(out: &mut Seq<u8>, numbers: &[u16]) -> Result<(), NoMemory>
+    ensures { OnOk result (out.new ≡ out.old ++ flat_map two_bytes numbers.now) }
+{
+    for number in numbers {
+        put_u16(out, *number)?;
+    }
+    Ok(())
+}

@@ -1,0 +1,7 @@
+pub mod FieldLaws
+pub mod Loop
+pub mod MessageLaws
+pub mod NumberLaws
+pub mod Pushes
+pub mod ReaderLaws
+pub mod WholeLaws

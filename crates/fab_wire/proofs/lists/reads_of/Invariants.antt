@@ -1,0 +1,7 @@
+use Rattle.std.proofs.Common.{◌≡◌, ◌-◌}
+use Rattle.fab_wire.specs.Reading.{many_at, read_at}
+use Rattle.fab_wire.proofs.Loop.{with_front}
+use Rattle.fab_wire.proofs.lists.reads_of.Given as goal
+
+abbrev pub invariant-loop : goal.invariant-loop
+invariant-loop l = with_front l.reads (many_at read_at (l.count - l.counter) l.rest) ≡ many_at read_at l.count l.bytes
