@@ -1,5 +1,5 @@
 -- The journal spelling computed on examples, good and bad.
-use Rattle.std.proofs.Common.{◌≡◌, ℕ, ◌+◌, ◌≤◌, List, [], ◌∷◌, ◌++◌, length, take, drop, Some, None, unwrap_or, get_or, refl, sym, ap, lit<, lit≤, arith, ◌⊎◌, inl, inr}
+use Rattle.std.proofs.Common.{◌≡◌, ℕ, ◌+◌, ◌≤◌, List, [], ◌∷◌, ◌++◌, length, take, drop, Some, None, get_or, refl, sym, ap, lit<, lit≤, arith, ◌⊎◌, inl, inr}
 use Rattle.std.proofs.lemmas.List.{append-nil}
 use Rattle.fab_base.specs.declared.object.Tid.{Tid}
 use Rattle.fab_base.specs.declared.object.Value.TheVariants.{Null}
@@ -69,13 +69,13 @@ no_named_failure h = let e : 2 ≡ 65535 = h.unnamed (λ named. omega (arith, na
 whole_is_read : IsReadAs (journal_bytes 1 0 (decided ∷ [])) (decided ∷ []) 32
 whole_is_read = inr (record {
   front = record { node = 0; in_range = lit< tt; entries_fit = (decided_is_spelled, tt); within = lit≤ tt; spelled = refl };
-  torn = short_is_torn _ (lit< tt)
+  torn = short_is_torn _ (lit< tt);
 })
 
 torn_is_dropped : IsReadAs (take 31 (journal_bytes 1 0 (decided ∷ []))) [] 8
 torn_is_dropped = inr (record {
   front = record { node = 0; in_range = lit< tt; entries_fit = tt; within = lit≤ tt; spelled = refl };
-  torn = cut_is_torn _ (lit< tt)
+  torn = cut_is_torn _ (lit< tt);
 })
 
 torn_header_is_nothing : IsReadAs (70 ∷ 65 ∷ 66 ∷ []) [] 0
@@ -106,14 +106,19 @@ no_kind_nine entry rest more (inr e) = omega (arith, ap (λ xs. get_or xs 0 0) e
 -- the Decided record with the kind 9 is bad at its kind, byte 12
 kind_nine_is_bad : GoesWrongAt (header_bytes 1 0 ++ framed (9 ∷ drop 1 (body_bytes decided))) 12
 kind_nine_is_bad = inr (record {
-  before = []; start = 8;
+  before = [];
+  start = 8;
   front = record { node = 0; in_range = lit< tt; entries_fit = tt; within = lit≤ tt; spelled = refl };
-  body = 9 ∷ drop 1 (body_bytes decided); more = []; length_fits = lit< tt; follows = refl; place = 4;
+  body = 9 ∷ drop 1 (body_bytes decided);
+  more = [];
+  length_fits = lit< tt;
+  follows = refl;
+  place = 4;
   bad = record {
     unspelled = λ entry fits e. no_kind_nine entry (drop 1 (body_bytes decided)) [] (inl e);
-    wrong = inl (0, refl, (lit< tt, (decided, body_bytes decided, decided_is_spelled, inl refl), λ g. no_kind_nine g.0 [] g.1 g.3))
+    wrong = inl (0, refl, (lit< tt, (decided, body_bytes decided, decided_is_spelled, inl refl), λ g. no_kind_nine g.0 [] g.1 g.3));
   };
-  at_place = refl
+  at_place = refl;
 })
 
 -- a Boot with a length of 6 and a byte more is bad at its length, byte 8
@@ -133,14 +138,19 @@ no_entry_of_six (BootSeen worker boot) kind len = omega (arith, kind)
 longer_is_bad : GoesWrongAt (header_bytes 1 0 ++ framed boot_and_more) 8
 unfolding boot_and_more
 longer_is_bad = inr (record {
-  before = []; start = 8;
+  before = [];
+  start = 8;
   front = record { node = 0; in_range = lit< tt; entries_fit = tt; within = lit≤ tt; spelled = refl };
-  body = boot_and_more; more = []; length_fits = lit< tt; follows = refl; place = 0;
+  body = boot_and_more;
+  more = [];
+  length_fits = lit< tt;
+  follows = refl;
+  place = 0;
   bad = record {
     unspelled = λ entry fits e. no_entry_of_six entry (ap (λ xs. get_or xs 0 0) (sym e)) (ap length (sym e));
-    wrong = inr (refl, (Boot 2, 0 ∷ [], record { known = refl; body = lit< tt }, inr refl))
+    wrong = inr (refl, (Boot 2, 0 ∷ [], record { known = refl; body = lit< tt }, inr refl));
   };
-  at_place = refl
+  at_place = refl;
 })
 
 opening_is : opening ≡ take 6 (header_bytes 1 258)
