@@ -7,12 +7,13 @@ use Rattle.fab_base.specs.declared.token.Token.{Token}
 use Rattle.fab_base.specs.declared.token.Piece.{Piece}
 use Rattle.fab_base.specs.declared.token.Piece.TheVariants as p
 use Rattle.fab_base.specs.Tokens.{piece_at, Lexes, over, blank, token}
-use Rattle.fab_parser.specs.Cuts.{IsUncut}
-use Rattle.fab_parser.proofs.PieceLemmas.{piece_takes, len_of}
+use Rattle.fab_parser.specs.Cuts.{len_of, Cut, here, further, IsUncut}
+use Rattle.fab_parser.proofs.PieceLemmas.{piece_takes}
 
 -- the tokens so far, and what is left
 pub record Lexing (bytes : List ℕ) (found : List Token) (at : ℕ) : Type 0 where
   pub within : at ≤ length bytes
+  pub cuts : (there : ℕ) → Cut at (drop at bytes) there → Cut 0 bytes there
   pub builds : (us : List Token) → Lexes at (drop at bytes) us → Lexes 0 bytes (found ++ us)
   pub only : (us : List Token) → Lexes 0 bytes us → (vs : List Token) × (us ≡ found ++ vs) × Lexes at (drop at bytes) vs
 
@@ -53,9 +54,13 @@ fits : (bytes : List ℕ) (at : ℕ) (x : Piece) → at ≤ length bytes → pie
 fits bytes at x h e = let t = piece_takes (drop at bytes) x e in (omega (arith, t.some), omega (arith, t.within, length-drop at bytes))
 
 module _ {bytes : List ℕ} {found : List Token} {at : ℕ} where
+  further_on : (x : Piece) → Lexing bytes found at → Some x ≡ piece_at (drop at bytes) → (there : ℕ) → Cut (at + len_of x) (drop (at + len_of x) bytes) there → Cut 0 bytes there
+  further_on x r e there d = r.cuts there (further (sym e) (subst (λ y. Cut (at + len_of x) y there) (sym (behind bytes at (len_of x))) d))
+
   pub after_blank : (n : ℕ) → Lexing bytes found at → Some (p.Blank n) ≡ piece_at (drop at bytes) → Lexing bytes found (at + n)
   after_blank n r e = record {
     within = (fits bytes at (p.Blank n) r.within (sym e)).1;
+    cuts = further_on (p.Blank n) r e;
     builds = λ us d. r.builds us (blank (sym e) (subst (λ x. Lexes (at + n) x us) (sym (behind bytes at n)) d));
     only = λ us d. let x = r.only us d in (x.0, x.1, subst (λ y. Lexes (at + n) y x.0) (behind bytes at n) (blank_back (sym e) x.2));
   }
@@ -63,23 +68,25 @@ module _ {bytes : List ℕ} {found : List Token} {at : ℕ} where
   pub after_token : (kind : Kind) (n end : ℕ) (new : List Token) → Lexing bytes found at → Some (p.Spelled kind n) ≡ piece_at (drop at bytes) → end ≡ at + n → new ≡ found ++ (record { kind = kind; at = at; end = end } ∷ []) → Lexing bytes new end
   after_token kind n end new r e f push = subst (λ x. Lexing bytes new x) (sym f) (record {
     within = (fits bytes at (p.Spelled kind n) r.within (sym e)).1;
-    builds = λ us d. subst (λ x. Lexes 0 bytes x) (longer us) (r.builds (here ∷ us) (token (sym e) (subst (λ x. Lexes (at + n) x us) (sym (behind bytes at n)) d)));
+    cuts = further_on (p.Spelled kind n) r e;
+    builds = λ us d. subst (λ x. Lexes 0 bytes x) (longer us) (r.builds (new_token ∷ us) (token (sym e) (subst (λ x. Lexes (at + n) x us) (sym (behind bytes at n)) d)));
     only = λ us d.
         let x = r.only us d in
         let y = token_back (sym e) x.2 in
         (y.0, x.1 ∙ ap (λ z. found ++ z) y.1 ∙ longer y.0, subst (λ z. Lexes (at + n) z y.0) (behind bytes at n) y.2);
   })
     where
-      here : Token
-      here = record { kind = kind; at = at; end = at + n }
+      new_token : Token
+      new_token = record { kind = kind; at = at; end = at + n }
 
       longer : (us : List Token) → found ++ (record { kind = kind; at = at; end = at + n } ∷ us) ≡ new ++ us
       longer us = subst (λ x. found ++ (record { kind = kind; at = at; end = x } ∷ us) ≡ new ++ us) f (sym (append_assoc found _ us) ∙ ap (λ z. z ++ us) (sym push))
 
   pub nothing_at : Lexing bytes found at → at < length bytes → None ≡ piece_at (drop at bytes) → IsUncut bytes at
   nothing_at r h e = record {
+    within = h;
+    before = r.cuts at here;
     nothing = sym e;
-    before = (found, r.builds);
     no_tokens = λ us d. let x = r.only us d in let y : length (drop at bytes) ≡ 0 = ap length (none_back (sym e) x.2) in omega (arith, y, length-drop at bytes);
   }
 

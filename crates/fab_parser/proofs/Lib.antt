@@ -1,3 +1,4 @@
+mod CutExamples
 pub mod DistinctNames
 pub mod Lexing
 pub mod ListRules

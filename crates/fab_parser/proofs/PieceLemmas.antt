@@ -18,6 +18,7 @@ use Rattle.fab_base.specs.declared.token.Kind.{Kind}
 use Rattle.fab_base.specs.declared.token.Kind.TheVariants as k
 use Rattle.fab_base.specs.declared.token.Piece.{Piece}
 use Rattle.fab_base.specs.declared.token.Piece.TheVariants as p
+use Rattle.fab_parser.specs.Cuts.{len_of}
 use Rattle.fab_base.specs.Tokens.{mark_text, signs, is_space, is_word_byte, word_kind, word_at, sign_at, sign_piece, spelled, piece_at}
 
 -- ---- words
@@ -42,10 +43,6 @@ pub word_is_text : (word : List ℕ) → AllPass is_word_byte word → IsUtf8 wo
 word_is_text word h = IsUtf8-from_ascii word (IsAscii-from_all word (λ k d i. word_byte_is_small _ (h k d i)))
 
 -- ---- lengths
-
-abbrev pub len_of : Piece → ℕ
-len_of (p.Blank len) = len
-len_of (p.Spelled kind len) = len
 
 -- a piece takes at least one byte, and no more than there are
 pub record TakesSome (bytes : List ℕ) (piece : Piece) : Type 0 where

@@ -2,7 +2,7 @@
 ghost use Rattle.std.specs.Prelude.{◌≡◌, ◌≢◌, ◌↔◌, IsTrue, AllPairs, count_by};
 ghost use Rattle.std.specs.List.{list_any};
 ghost use Rattle.std.specs.Str.{bytes_eq};
-ghost use Rattle.fab_base.specs.Limits.{KeepsLimits, is_worker, is_store, is_hostile};
+ghost use Rattle.fab_base.specs.Limits.{KeepsLimits, is_node, is_worker, is_store, is_hostile};
 ghost use Rattle.fab_base.specs.Names.{KeepsNames, names_of};
 ghost use Rattle.fab_base.specs.Evaluation.{IsEvaluated};
 
@@ -12,11 +12,24 @@ use fab_base::{Node, Role, Start};
 /// The most principals, workers and stores included.
 const PRINCIPALS: usize = 64;
 
+/// The most workers and stores.
+const NODES: usize = 32;
+
 /// Whether each count of the bundle is at most its limit.
 pub fn keeps_limits(start: &Start) -> bool
     ensures { IsTrue result ↔ KeepsLimits start.now }
 {
-    start.nodes.len() <= PRINCIPALS
+    start.nodes.len() <= PRINCIPALS && nodes(start.nodes.as_slice()) <= NODES
+}
+
+/// How many workers and stores there are.
+fn nodes(nodes: &[Node]) -> usize
+    ensures { result ≡ count_by (λ x. is_node x.role) nodes.now }
+{
+    nodes
+        .iter()
+        .filter(|node| !matches!(node.role, Role::Principal))
+        .count()
 }
 
 /// Whether the bundle keeps the rules of names.

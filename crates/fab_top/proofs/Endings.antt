@@ -70,6 +70,14 @@ module _ (words : List (String Global)) (l l' w w' : Option (List ℕ)) where
   usage_exactly Memory e = record { only = λ h. absurd (cc); comes = λ n. inr (inl refl) }
   usage_exactly NotBuilt e = record { only = λ h. absurd (cc); comes = λ n. absurd (n (asks_not_built e.replies)) }
 
+  pub ok_replies : (status : Status) → Ends words status l l' w w' → status ≡ Ok → RepliesWith Ok words l l' w w'
+  ok_replies Ok e h = e
+  ok_replies Usage e h = absurd (cc)
+  ok_replies ReadFault e h = absurd (cc)
+  ok_replies WriteFault e h = absurd (cc)
+  ok_replies Memory e h = absurd (cc)
+  ok_replies NotBuilt e h = absurd (cc)
+
   pub ok_exactly : (status : Status) → AskEvaluation words → status ≢ ReadFault → Ends words status l l' w w' → IfSome l (λ text. Exactly status Ok (SpellsSome text))
   ok_exactly Ok asks f e = some_more l (λ text r. let s = spells_of r in record { only = λ h. (s.0, s.1); comes = λ p. inl refl }) (told asks e)
   ok_exactly Usage asks f e = absurd (asks_none e.replies asks)

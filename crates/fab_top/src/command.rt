@@ -3,7 +3,7 @@ ghost use Rattle.std.specs.Prelude.{◌≡◌, ◌≢◌, ◌⊎◌, ◌↔◌, 
 ghost use Rattle.std.specs.Io.KnownBytes.{Appends, Keeps, IsAtEnd};
 ghost use Rattle.fab_base.specs.Evaluation.{line};
 ghost use Rattle.fab_base.specs.Faults.{Rose};
-ghost use Rattle.fab_top.specs.Reply.{AskEvaluation, Replies, IsInput, Ends, Exactly, SpellsSome, SpellsNone, WritesEvaluation, RepliesInPart};
+ghost use Rattle.fab_top.specs.Reply.{AskEvaluation, Replies, IsInput, Ends, Exactly, SpellsSome, SpellsNone, WritesEvaluation, RepliesInPart, RepliesWith};
 ghost use Rattle.fab_top.specs.Reading.{TakesAtMost};
 ghost use Rattle.fab_top.specs.declared.reading.ReadError.TheVariants.{Fault};
 ghost use Rattle.fab_top.specs.declared.status.Status.TheVariants.{Ok, Usage, ReadFault, WriteFault, Memory, NotBuilt};
@@ -12,7 +12,7 @@ use crate::evaluation::{spelled, text_of};
 use crate::reading::{ReadError, read_all};
 use crate::status::Status;
 use crate::writing::write_all;
-use fab_base::{Seq, Sink, SinkError, Source};
+use fab_base::{Seq, Sink, SinkError, Source, SureSink, SureSource};
 use std::alloc::Global;
 
 /// Whether the words are the one word `eval`.
@@ -95,6 +95,8 @@ pub fn fab<S: Source, K: Sink>(
     ensures ok { AskEvaluation words.now → result ≢ ReadFault → IfSome (S.left source.old) (λ text. Exactly result Ok (SpellsSome text)) }
     ensures ok_text { result ≡ Ok → IfSome (S.left source.old) (λ text. WritesEvaluation text (K.written sink.old) (K.written sink.new)) }
 
+    ensures ok_reply { result ≡ Ok → RepliesWith Ok words.now (S.left source.old) (S.left source.new) (K.written sink.old) (K.written sink.new) }
+
     // `NotBuilt` comes exactly where it spells none, and has a line of its own.
     ensures not_built { AskEvaluation words.now → result ≢ ReadFault → IfSome (S.left source.old) (λ text. Exactly result NotBuilt (SpellsNone text)) }
     ensures not_built_line { result ≡ NotBuilt → Appends (K.written sink.old) (K.written sink.new) (line (codes "not built")) }
@@ -113,4 +115,17 @@ pub fn fab<S: Source, K: Sink>(
     ensures sink_faults { K.faults sink.old ≤ K.faults sink.new }
 {
     run(alloc, words, source, sink)
+}
+
+/// The same over memory, where nothing is a fault.
+pub fn fab_in_memory(
+    alloc: Global,
+    words: &[String],
+    source: &mut SureSource,
+    sink: &mut SureSink,
+) -> Status
+    ensures no_read_fault { result ≢ ReadFault }
+    ensures no_write_fault { result ≢ WriteFault }
+{
+    fab(alloc, words, source, sink)
 }

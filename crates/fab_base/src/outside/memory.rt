@@ -1,5 +1,5 @@
 //! A source and a sink in memory, with a list of the calls that fail.
-ghost use Rattle.std.specs.Prelude.{◌≡◌, ◌↔◌, [], IfOk, IsTrue, IsErr, IsErrOf, Contains};
+ghost use Rattle.std.specs.Prelude.{◌≡◌, ◌↔◌, [], IfOk, OnOk, IsTrue, IsErr, IsErrOf, Contains};
 ghost use Rattle.std.specs.Io.{ReadsAtMost, WritesAtMost};
 ghost use Rattle.std.specs.Io.KnownBytes.{ReadConsumes};
 ghost use Rattle.fab_base.specs.Faults.{HasCause, next_call, opening_calls, after_call, CountsFault};
@@ -107,6 +107,7 @@ impl Source for MemSource {
         ensures listed { IsErr result ↔ Contains self.old.calls.fails (next_call self.old.calls) }
         ensures counted { self.new.calls.made ≡ next_call self.old.calls }
         ensures list { self.new.calls.fails ≡ self.old.calls.fails }
+        ensures unfailed { OnOk result (self.new.calls.faults ≡ self.old.calls.faults) }
     {
         if self.calls.count() {
             return Err(Failed);
@@ -163,8 +164,10 @@ impl Sink for MemSink {
 
         // It fails exactly where it is listed.
         ensures listed { IsErrOf result SinkError.Failed ↔ Contains self.old.calls.fails (next_call self.old.calls) }
+        ensures nothing { IsErrOf result SinkError.Failed → self.new.content ≡ self.old.content }
         ensures counted { self.new.calls.made ≡ next_call self.old.calls }
         ensures list { self.new.calls.fails ≡ self.old.calls.fails }
+        ensures unfailed { (IsErrOf result SinkError.Failed → ⊥) → self.new.calls.faults ≡ self.old.calls.faults }
     {
         if self.calls.count() {
             return Err(SinkError::Failed);

@@ -1,5 +1,6 @@
 //! The trusted edge: any reader and writer of std. They tell of their content what these tell,
 //! which is nothing for the standard streams.
+ghost use Rattle.std.specs.Prelude.{◌≡◌};
 
 use crate::outside::traits::{Failed, Sink, SinkError, Source};
 use std::io::{Read, Write};
@@ -12,7 +13,10 @@ pub struct StdSource<R: Read> {
 }
 
 impl<R: Read> StdSource<R> {
-    pub fn new(inner: R) -> Self {
+    pub fn new(inner: R) -> Self
+        ensures left { ⟦<StdSource<R> as Source>⟧.left result ≡ R.remaining inner }
+        ensures faults { ⟦<StdSource<R> as Source>⟧.faults result ≡ 0 }
+    {
         StdSource { inner, faults: 0 }
     }
 }
@@ -41,7 +45,10 @@ pub struct StdSink<W: Write> {
 }
 
 impl<W: Write> StdSink<W> {
-    pub fn new(inner: W) -> Self {
+    pub fn new(inner: W) -> Self
+        ensures written { ⟦<StdSink<W> as Sink>⟧.written result ≡ W.contents inner }
+        ensures faults { ⟦<StdSink<W> as Sink>⟧.faults result ≡ 0 }
+    {
         StdSink { inner, faults: 0 }
     }
 }
