@@ -1,9 +1,9 @@
 -- Delegations, chains and flows, good and bad. Alice is 0, Bob 1, Carol 2, and Carol acts for Alice.
-use Rattle.std.proofs.Common.{◌≡◌, ℕ, zero, suc, ◌<◌, List, [], ◌∷◌, refl, arith, inl, inr, lit<, sym, ap, subst}
+use Rattle.std.proofs.Common.{◌≡◌, ℕ, zero, suc, List, [], ◌∷◌, refl, arith, inl, inr, lit<, sym, ap, subst}
 use Rattle.std.specs.Prelude.{Contains, Any, All}
 use Rattle.fab_base.specs.declared.label.Policy.{Policy}
 use Rattle.fab_base.specs.declared.label.Label.{Label}
-use Rattle.fab_base.specs.Principals.{Delegations, Leads, IsChain, ActsFor, IsNoGreater}
+use Rattle.fab_base.specs.Principals.{Delegations, ActsFor, IsNoGreater}
 use Rattle.fab_base.specs.Labels.{PolicyDenies, Deny, FlowsConf}
 
 abbrev d : Delegations

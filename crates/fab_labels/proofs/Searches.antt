@@ -1,5 +1,5 @@
 -- Searches through lists: what an early answer and a late one say.
-use Rattle.std.proofs.Common.{◌≡◌, ℕ, zero, suc, ◌+◌, ◌<◌, ◌≤◌, ◌↔◌, ◌⊎◌, List, [], ◌∷◌, length, take, get_or, slice_index, inr, refl, sym, ap, ◌∙◌, subst, arith, IsTrue, true, false, All, Any, HoldsAt, IsSomeAnd, IsBitSet, slice_get, Option, ◌*◌, ◌^◌, inl}
+use Rattle.std.proofs.Common.{◌≡◌, ℕ, zero, suc, ◌+◌, ◌<◌, ◌≤◌, ◌↔◌, ◌⊎◌, List, ◌∷◌, length, take, get_or, inr, refl, sym, ap, ◌∙◌, subst, arith, IsTrue, true, false, All, Any, IsSomeAnd, IsBitSet, slice_get, Option, ◌*◌, ◌^◌, inl}
 use Rattle.std.specs.Int.{bit_at}
 use Rattle.std.specs.List.{AllWithin}
 use Rattle.std.proofs.lemmas.Nat.Bits.{and_pow, bit_at_above}

@@ -1,5 +1,5 @@
 -- Worked examples of places where a text can't be cut.
-use Rattle.std.proofs.Common.{◌≡◌, ℕ, List, refl, codes, arith}
+use Rattle.std.proofs.Common.{◌≡◌, ℕ, refl, codes}
 use Rattle.fab_parser.specs.Cuts.{Cut, here, further}
 
 -- of two wrong bytes the first is the place

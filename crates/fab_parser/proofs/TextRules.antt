@@ -1,5 +1,5 @@
 -- A whole text, part by part, and where it is refused.
-use Rattle.std.proofs.Common.{◌≡◌, ℕ, ◌-◌, Bool, Some, None, option_and_then, IsSome, List, [], ◌∷◌, ◌++◌, length, refl, sym, ap, ◌∙◌, subst, append_assoc, append-nil, length-append, arith}
+use Rattle.std.proofs.Common.{◌≡◌, ℕ, ◌-◌, Bool, None, option_and_then, IsSome, List, [], ◌∷◌, ◌++◌, length, refl, sym, ap, ◌∙◌, subst, append_assoc, append-nil, length-append, arith}
 use Rattle.fab_base.specs.declared.token.Mark.TheVariants as m
 use Rattle.fab_base.specs.declared.token.Kind.{Kind}
 use Rattle.fab_base.specs.declared.token.Token.{Token}

@@ -1,5 +1,4 @@
-use Rattle.std.proofs.Common.{◌≡◌, true}
-use Rattle.std.proofs.lemmas.Bool.{both_ways, iff_false}
+use Rattle.std.proofs.lemmas.Bool.{both_ways}
 use Rattle.fab_labels.proofs.FlowLemmas.{deny_covered_with, covered_by_denial_with}
 use Rattle.fab_labels.proofs.flow.declass_ok.Goals as goal
 

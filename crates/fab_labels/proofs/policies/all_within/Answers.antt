@@ -1,4 +1,4 @@
-use Rattle.std.proofs.Common.{◌∷◌, get_or, arith}
+use Rattle.std.proofs.Common.{◌∷◌, get_or}
 use Rattle.std.proofs.lemmas.Bool.{iff_false}
 use Rattle.fab_base.specs.Labels.{ActsForOne}
 use Rattle.fab_labels.proofs.Searches.{no, All-not, AllWithin-item, number_is}

@@ -1,4 +1,4 @@
-use Rattle.std.proofs.Common.{◌≡◌, [], refl, sym, subst, false, IsTrue}
+use Rattle.std.proofs.Common.{◌≡◌, [], subst, false, IsTrue}
 use Rattle.std.proofs.KnownBytes.{Keeps-refl}
 use Rattle.fab_base.specs.Evaluation.{Spells}
 use Rattle.fab_top.specs.Reply.{AskEvaluation, usage, evaluated, not_built, SpellsNone}

@@ -1,4 +1,4 @@
-use Rattle.std.proofs.Common.{◌≡◌, ◌≤◌, ◌++◌, take, length, arith, refl}
+use Rattle.std.proofs.Common.{◌++◌, take, arith, refl}
 use Rattle.std.proofs.KnownBytes.{Appends-trans}
 use Rattle.fab_top.proofs.Bytes.{on_err, fails_front, stops_front, text_on}
 use Rattle.fab_top.proofs.writing.write_all.Goals as goal
