@@ -5,7 +5,7 @@ use crate::seq::Seq;
 /// The name of an object: its store, its class, and what made it. `worker`, `boot` and `number`
 /// name the transaction, `site` the place in the program, and `index` counts the objects of that
 /// site in that transaction. A root has worker 65535, boot 0, its root number, site 65535 and
-/// index 0. Names are ordered as their 18 big-endian bytes, field by field.
+/// index 0. The fields stand in the order in which names are compared and spelled.
 #[derive(Clone, Copy, Debug, PartialEq, Eq, PartialOrd, Ord)]
 pub struct Oid {
     pub store: u16,
