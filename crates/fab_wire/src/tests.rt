@@ -97,10 +97,12 @@ fn from_hex(alloc: Global, text: &[u8]) -> Result<Vec<u8>, AllocError> {
     Ok(bytes)
 }
 
-fn place(alloc: Global, bytes: &[u8]) -> Option<u32> {
+/// Where the bytes go wrong, if they do.
+fn place(alloc: Global, bytes: &[u8]) -> Result<Option<u32>, DecodeError> {
     match decode(alloc, bytes) {
-        Err(DecodeError::Bad { at }) => Some(at),
-        _ => None,
+        Err(DecodeError::Bad { at }) => Ok(Some(at)),
+        Err(DecodeError::Memory) => Err(DecodeError::Memory),
+        Ok(_) => Ok(None),
     }
 }
 
@@ -112,11 +114,11 @@ fn received(rt: &impl Abort, alloc: Global, mut bytes: Vec<u8>) -> Result<Messag
     let again = encode(alloc, &message)?;
     assert_eq!(rt; again.as_slice(), bytes.as_slice());
     bytes.push(0)?;
-    assert_eq!(rt; place(alloc, &bytes).map(|at| at as usize), Some(len));
+    assert_eq!(rt; place(alloc, &bytes)?.map(|at| at as usize), Some(len));
     bytes.truncate(len);
     let _last = bytes.pop();
     assert_eq!(rt;
-        place(alloc, &bytes).map(|at| at as usize),
+        place(alloc, &bytes)?.map(|at| at as usize),
         Some(bytes.len())
     );
     Ok(message)
@@ -359,26 +361,26 @@ fn built(alloc: Global, kind: u8, named: bool, tail: &[u8]) -> Result<Vec<u8>, A
 fn wrong(rt: &impl Abort, alloc: Global) -> Result<(), Fail> {
     for (kind, named, tail, at) in wrong_rows() {
         let bytes = built(alloc, *kind, *named, tail)?;
-        assert_eq!(rt; place(alloc, &bytes), Some(*at));
+        assert_eq!(rt; place(alloc, &bytes)?, Some(*at));
     }
     for cut in [0, 1, 2, 6, 11, 12, 29] {
         let mut bytes = built(alloc, 1, true, &[])?;
         bytes.truncate(cut);
-        assert_eq!(rt; place(alloc, &bytes).map(|at| at as usize), Some(cut));
+        assert_eq!(rt; place(alloc, &bytes)?.map(|at| at as usize), Some(cut));
     }
-    assert_eq!(rt; place(alloc, &[0]), Some(0));
-    assert_eq!(rt; place(alloc, &[2, 1]), Some(0));
+    assert_eq!(rt; place(alloc, &[0])?, Some(0));
+    assert_eq!(rt; place(alloc, &[2, 1])?, Some(0));
     Ok(())
 }
 
 fn long(rt: &impl Abort, alloc: Global) -> Result<(), Fail> {
     let mut bytes = large_prepare(alloc)?;
     assert_eq!(rt; bytes.len(), 167_442);
-    assert_eq!(rt; place(alloc, &bytes), Some(131_072));
+    assert_eq!(rt; place(alloc, &bytes)?, Some(131_072));
     bytes.truncate(131_073);
-    assert_eq!(rt; place(alloc, &bytes), Some(131_072));
+    assert_eq!(rt; place(alloc, &bytes)?, Some(131_072));
     bytes.truncate(131_072);
-    assert_eq!(rt; place(alloc, &bytes), Some(131_072));
+    assert_eq!(rt; place(alloc, &bytes)?, Some(131_072));
     Ok(())
 }
 
