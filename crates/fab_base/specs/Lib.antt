@@ -1,4 +1,5 @@
 pub mod Arith
+pub mod Declarations
 pub mod Depth
 pub mod Evaluation
 pub mod Faults

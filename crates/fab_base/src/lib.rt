@@ -23,6 +23,9 @@ pub use outside::{
     SureSink, SureSource,
 };
 pub use seq::{NoMemory, Seq};
-pub use start::{Name, Node, Role, Start};
+pub use start::{
+    Aspect, Class, Delegation, Field, Given, LabelText, Literal, Name, Node, PolicyText, Role, Root,
+    Sort, Start,
+};
 pub use text::Text;
 pub use token::{Kind, Mark, Piece, Token};

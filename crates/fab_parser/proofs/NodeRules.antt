@@ -11,7 +11,7 @@ use Rattle.fab_base.specs.declared.start.Role.TheVariants as r
 use Rattle.fab_base.specs.declared.start.Node.{Node}
 use Rattle.fab_base.specs.Depth.{room_by}
 use Rattle.fab_base.specs.Syntax.{Is, is, IsName, name, IsPlace, worker, store, IsRole, principal, honest, hostile, IsNode, node}
-use Rattle.fab_parser.specs.Reading.{Lacks, BeginsWith, Starts, Read, Refused, Stops, CannotRead, any, begins_node}
+use Rattle.fab_parser.specs.Reading.{Lacks, BeginsWith, Starts, Read, Refused, Stops, CannotRead, any}
 use Rattle.fab_parser.specs.declared.refusal.Refusal.{Refusal}
 use Rattle.fab_parser.specs.declared.refusal.Refusal.TheVariants as refusal
 use Rattle.fab_parser.proofs.Rules.{Then, End, Sign, HasText, Going, start, turn, leaf, here, never, token_of, same_sign, lacks_too}
@@ -143,9 +143,3 @@ node_back (node {b = b} {c = c} {d = d} {x = x} {y = y} p q r) = ((x, (y, (tt, t
 
 pub node_start : {room : ℕ} (a : List Token) → Going IsNode any room a Parts node_of room a
 node_start {room = room} a = turn node_of (start IsNode any room a) (λ more v after p. subst (λ x. IsNode more (node_of v) x) p.second.second.second (node p.first p.second.first p.second.second.first)) (λ more v after same p h. node_back p)
-
-pub node_begins : (a : List Token) (v : Node) (b : List Token) → IsNode a v b → Starts begins_node a
-node_begins a v b (node (principal (is e)) q r) = subst (λ x. IsTrue (begins_node x)) (sym e) refl
-node_begins a v b (node (honest (worker (is e))) q r) = subst (λ x. IsTrue (begins_node x)) (sym e) refl
-node_begins a v b (node (honest (store (is e))) q r) = subst (λ x. IsTrue (begins_node x)) (sym e) refl
-node_begins a v b (node (hostile (is e) p) q r) = subst (λ x. IsTrue (begins_node x)) (sym e) refl

@@ -1,5 +1,5 @@
 -- What a reader of one rule of the grammar answers.
-use Rattle.std.specs.Prelude.{◌≡◌, ℕ, Bool, true, false, not, IsTrue, List, [], ◌∷◌, ◌++◌, length, Some, None}
+use Rattle.std.specs.Prelude.{◌≡◌, ℕ, Bool, true, false, not, ◌&&◌, IsTrue, List, [], ◌∷◌, ◌++◌, length, Some, None}
 use Rattle.fab_base.specs.declared.token.Mark.{Mark}
 use Rattle.fab_base.specs.declared.token.Mark.TheVariants as m
 use Rattle.fab_base.specs.declared.token.Kind.{Kind}
@@ -87,9 +87,9 @@ begins_node (k.Fixed m.Store) = true
 begins_node (k.Fixed m.Hostile) = true
 begins_node _ = false
 
--- what may follow a list whose items begin so: nothing that begins one more
-abbrev pub behind_list : (Kind → Bool) → Kind → Bool
-behind_list first kind = not (first kind)
+-- what may follow a list whose items begin so and are followed so: nothing that begins one more
+abbrev pub behind_list : (Kind → Bool) → (Kind → Bool) → Kind → Bool
+behind_list first may kind = not (first kind) && may kind
 
 -- nothing may follow
 abbrev pub nothing : Kind → Bool

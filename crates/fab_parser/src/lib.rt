@@ -8,6 +8,7 @@ mod marks;
 mod nodes;
 mod reading;
 mod refusal;
+mod rule;
 mod text;
 mod words;
 

@@ -1,11 +1,12 @@
 //! Principals, workers and stores.
 ghost use Rattle.std.specs.Prelude.{◌≡◌, ◌↔◌, IsTrue, MatchResult};
-ghost use Rattle.fab_base.specs.Syntax.{IsPlace, IsRole, IsNode, Repeated};
-ghost use Rattle.fab_parser.specs.Reading.{Read, Stops, Starts, BeginsWith, Lacks, any, begins_node, behind_list};
+ghost use Rattle.fab_base.specs.Syntax.{IsPlace, IsRole, IsNode};
+ghost use Rattle.fab_parser.specs.Reading.{Read, Stops, Starts, BeginsWith, Lacks, any, begins_node};
 
 use crate::reading::{behind, name, next, sign};
 use crate::refusal::Refusal;
-use fab_base::{Kind, Mark, Node, Role, Seq, Token};
+use crate::rule::Rule;
+use fab_base::{Kind, Mark, Node, Role, Token};
 use std::alloc::Global;
 
 /// Whether a principal, a worker or a store comes next.
@@ -63,20 +64,32 @@ fn node(alloc: Global, tokens: &[Token], room: u8) -> Result<(Node, &[Token]), R
     Ok((Node { role, name }, rest))
 }
 
-/// Principals, workers and stores, as many as come.
-pub(crate) fn nodes(
-    alloc: Global,
-    tokens: &[Token],
-    room: u8,
-) -> Result<(Seq<Node>, &[Token]), Refusal>
-    ensures { MatchResult result (λ x. Read (Repeated IsNode) (behind_list begins_node) room tokens.now x.0 x.1.now) (λ e. Stops (Repeated IsNode) (behind_list begins_node) room tokens.now e) }
-{
-    let mut found = Seq::new(alloc);
-    let mut rest = tokens;
-    'list: while starts_node(rest) {
-        let (item, after) = node(alloc, rest, room)?;
-        found.push(item)?;
-        rest = after;
+/// The rule of one principal, worker or store.
+pub(crate) struct NodeRule;
+
+impl Rule for NodeRule {
+    ghost use Rattle.std.specs.Prelude.{refl};
+    ghost use Rattle.fab_base.specs.Syntax.{IsNode};
+    ghost use Rattle.fab_parser.specs.Reading.{any, begins_node};
+    ghost use Rattle.fab_parser.specs.Firsts.{node_begins};
+
+    type Tree = Node;
+
+    ghost reads = { IsNode };
+
+    ghost first = { begins_node };
+
+    ghost may = { any };
+
+    fn starts(tokens: &[Token]) -> bool {
+        starts_node(tokens)
     }
-    Ok((found, rest))
+
+    fn read(alloc: Global, tokens: &[Token], room: u8) -> Result<(Node, &[Token]), Refusal> {
+        node(alloc, tokens, room)
+    }
+
+    ghost begins = { node_begins };
+
+    ghost meets = { λ kind first. refl };
 }

@@ -7,9 +7,10 @@ ghost use Rattle.fab_parser.specs.Reading.{Read, Stops, any};
 ghost use Rattle.fab_parser.specs.Texts.{RefusedAt, IsLimit, OnDepthLimit};
 
 use crate::error::ParseError;
-use crate::nodes::nodes;
+use crate::nodes::NodeRule;
 use crate::reading::{open, sign};
 use crate::refusal::Refusal;
+use crate::rule::repeated;
 use fab_base::{Mark, Start, Token};
 use std::alloc::Global;
 
@@ -19,7 +20,7 @@ const DEPTH: u8 = 64;
 fn start(alloc: Global, tokens: &[Token], room: u8) -> Result<(Start, &[Token]), Refusal>
     ensures { MatchResult result (λ x. Read IsStart any room tokens.now x.0 x.1.now) (λ e. Stops IsStart any room tokens.now e) }
 {
-    let (nodes, rest) = nodes(alloc, tokens, room)?;
+    let (nodes, rest) = repeated::<NodeRule>(alloc, tokens, room)?;
     let rest = sign(rest, Mark::Run)?;
     let (rest, _) = open(rest, Mark::LeftBrace, room)?;
     let rest = sign(rest, Mark::RightBrace)?;
