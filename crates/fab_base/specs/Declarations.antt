@@ -52,8 +52,8 @@ pub data IsPolicy : List Token → PolicyText → List Token → Type 0 where
 -- label = "label" name "=" "{" [policy {";" policy}] "}" ";"
 pub data IsLabel : List Token → LabelText → List Token → Type 0 where
   label : {a b c d e f g h : List Token} {x : Name} {ys : List PolicyText}
-    → Is m.Label a b → IsName b x c → Is m.Equal c d → Is m.LeftBrace d e → Separated m.Semicolon IsPolicy e ys f → Is m.RightBrace f g → Is m.Semicolon g h
-    → IsLabel a (record { name = x; policies = ys }) h
+      → Is m.Label a b → IsName b x c → Is m.Equal c d → Is m.LeftBrace d e → Separated m.Semicolon IsPolicy e ys f → Is m.RightBrace f g → Is m.Semicolon g h
+      → IsLabel a (record { name = x; policies = ys }) h
 
 -- sort, a type = "int" | name
 pub data IsSort : List Token → Sort → List Token → Type 0 where
@@ -67,8 +67,8 @@ pub data IsField : List Token → Field → List Token → Type 0 where
 -- class = "class" name "label" name "access" name "{" {field} "}"
 pub data IsClass : List Token → Class → List Token → Type 0 where
   class : {a b c d e f g h i j : List Token} {x y z : Name} {ws : List Field}
-    → Is m.Class a b → IsName b x c → Is m.Label c d → IsName d y e → Is m.Access e f → IsName f z g → Is m.LeftBrace g h → Repeated IsField h ws i → Is m.RightBrace i j
-    → IsClass a (record { name = x; label = y; access = z; fields = ws }) j
+      → Is m.Class a b → IsName b x c → Is m.Label c d → IsName d y e → Is m.Access e f → IsName f z g → Is m.LeftBrace g h → Repeated IsField h ws i → Is m.RightBrace i j
+      → IsClass a (record { name = x; label = y; access = z; fields = ws }) j
 
 -- literal = number | "-" number | "-" 2147483648 | "null" | name
 pub data IsLiteral : List Token → Literal → List Token → Type 0 where
@@ -85,5 +85,5 @@ pub data IsGiven : List Token → Given → List Token → Type 0 where
 -- root = "root" name ":" name "@" name "(" [literal {"," literal}] ")" ";"
 pub data IsRoot : List Token → Root → List Token → Type 0 where
   root : {a b c d e f g h i j k : List Token} {x y z : Name} {ws : List Given}
-    → Is m.Root a b → IsName b x c → Is m.Colon c d → IsName d y e → Is m.At e f → IsName f z g → Is m.LeftParen g h → Separated m.Comma IsGiven h ws i → Is m.RightParen i j → Is m.Semicolon j k
-    → IsRoot a (record { name = x; class = y; store = z; values = ws }) k
+      → Is m.Root a b → IsName b x c → Is m.Colon c d → IsName d y e → Is m.At e f → IsName f z g → Is m.LeftParen g h → Separated m.Comma IsGiven h ws i → Is m.RightParen i j → Is m.Semicolon j k
+      → IsRoot a (record { name = x; class = y; store = z; values = ws }) k

@@ -20,12 +20,12 @@ pub use message::{Answer, Items, Message, Why};
 pub use object::{Object, ObjectMap, Oid, Stop, Tid, Value};
 pub use outside::{
     Failed, FailingCalls, MemSink, MemSource, Sink, SinkError, Source, StdSink, StdSource,
-    SureSink, SureSource,
+    SureSink, SureSource, sure_objects_never_fail,
 };
 pub use seq::{NoMemory, Seq};
 pub use start::{
-    Aspect, Class, Delegation, Field, Given, LabelText, Literal, Name, Node, PolicyText, Role, Root,
-    Sort, Start,
+    Aspect, Class, Delegation, Field, Given, LabelText, Literal, Name, Node, PolicyText, Role,
+    Root, Sort, Start,
 };
 pub use text::Text;
 pub use token::{Kind, Mark, Piece, Token};

@@ -7,5 +7,5 @@ mod traits;
 
 pub use memory::{FailingCalls, MemSink, MemSource};
 pub use standard::{StdSink, StdSource};
-pub use sure::{SureSink, SureSource};
+pub use sure::{SureSink, SureSource, sure_objects_never_fail};
 pub use traits::{Failed, Sink, SinkError, Source};

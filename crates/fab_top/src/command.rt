@@ -12,7 +12,7 @@ use crate::evaluation::{spelled, text_of};
 use crate::reading::{ReadError, read_all};
 use crate::status::Status;
 use crate::writing::write_all;
-use fab_base::{Seq, Sink, SinkError, Source, SureSink, SureSource};
+use fab_base::{Seq, Sink, SinkError, Source};
 use std::alloc::Global;
 
 /// Whether the words are the one word `eval`.
@@ -115,17 +115,4 @@ pub fn fab<S: Source, K: Sink>(
     ensures sink_faults { K.faults sink.old ≤ K.faults sink.new }
 {
     run(alloc, words, source, sink)
-}
-
-/// The same over memory, where nothing is a fault.
-pub fn fab_in_memory(
-    alloc: Global,
-    words: &[String],
-    source: &mut SureSource,
-    sink: &mut SureSink,
-) -> Status
-    ensures no_read_fault { result ≢ ReadFault }
-    ensures no_write_fault { result ≢ WriteFault }
-{
-    fab(alloc, words, source, sink)
 }

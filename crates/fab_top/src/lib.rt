@@ -9,5 +9,5 @@ mod status;
 mod tests;
 mod writing;
 
-pub use command::{fab, fab_in_memory};
+pub use command::fab;
 pub use status::Status;

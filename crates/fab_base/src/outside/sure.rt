@@ -1,5 +1,6 @@
 //! A source and a sink in memory that never fail.
-ghost use Rattle.std.specs.Prelude.{◌≡◌, [], take, IfOk, length, min};
+ghost use Rattle.std.specs.Prelude.{◌≡◌, ℕ, List, [], take, IfOk, length, min};
+ghost use Rattle.fab_base.specs.Faults.{Rose};
 
 use crate::outside::traits::{Failed, Sink, SinkError, Source};
 use crate::seq::{NoMemory, Seq};
@@ -99,3 +100,9 @@ impl Sink for SureSink {
         Ok(piece.len())
     }
 }
+
+/// The count of a source or a sink that never fails doesn't rise.
+pub fn sure_objects_never_fail()
+    ensures source { (before now : List ℕ) → Rose (⟦<SureSource as Source>⟧.faults before) (⟦<SureSource as Source>⟧.faults now) → ⊥ }
+    ensures sink { (before now : List ℕ) → Rose (⟦<SureSink as Sink>⟧.faults before) (⟦<SureSink as Sink>⟧.faults now) → ⊥ }
+{}
