@@ -1,6 +1,6 @@
 -- What the calls of a journal do to what it holds, and when they may fail.
-use Rattle.std.specs.Prelude.{◌≡◌, ◌↔◌, ◌≤◌, ℕ, Bool, IsTrue, List, ◌++◌, length, take, Result, Ok, Err, IsErrOf, Contains, min, ◌==◌, ◌&&◌}
-use Rattle.fab_base.specs.Faults.{Rose, Calls, next_call}
+use Rattle.std.specs.Prelude.{◌≡◌, ◌↔◌, ◌≤◌, ℕ, Bool, true, false, IsTrue, List, ◌++◌, length, take, Result, Ok, Err, IsOk, IsErrOf, Contains, min, ◌==◌, ◌&&◌}
+use Rattle.fab_base.specs.Faults.{Rose, Calls, next_call, after_call}
 use Rattle.fab_device.specs.declared.traits.JournalError.{JournalError}
 use Rattle.fab_device.specs.declared.traits.JournalError.TheVariants.{Failed, Memory}
 
@@ -15,10 +15,12 @@ pub record IsFrontFrom (keep : ℕ) (old new : List ℕ) : Type 0 where
   pub longer : keep ≤ length new
   pub front : take (length new) old ≡ new
 
--- the count never falls, and where it was a failure and no want of memory, it rose
+-- the count never falls, a failure raises it, and nothing else does
 pub record JournalCause {T : Type 0} (before now : ℕ) (result : Result T JournalError) : Type 0 where
   pub later : before ≤ now
   pub failed : IsErrOf result Failed → Rose before now
+  pub memory : IsErrOf result Memory → now ≡ before
+  pub success : IsOk result → now ≡ before
 
 -- a call keeps whether the journal is sure, and at one that is sure it doesn't fail
 pub record KeepsSure (before now : Bool) (Fails : Type 0) : Type 0 where
@@ -44,9 +46,11 @@ synced_of held = min held.synced (length held.content)
 abbrev pub never_fails : Calls → Bool
 never_fails calls = (length calls.fails == 0) && (calls.faults == 0)
 
--- a call that is counted: it fails exactly where it is listed, and then it changes nothing
+-- a call that is counted: it fails exactly where it is listed, and then it changes nothing of what is held; only a failure counts as a fault
 pub record CountsCall (old new : HeldWithCalls) (Fails : Type 0) : Type 0 where
   pub listed : Fails ↔ Contains old.calls.fails (next_call old.calls)
   pub nothing : Fails → new.held ≡ old.held
   pub made : new.calls.made ≡ next_call old.calls
   pub list : new.calls.fails ≡ old.calls.fails
+  pub failed : Fails → new.calls ≡ after_call true old.calls
+  pub unfailed : (Fails → ⊥) → new.calls ≡ after_call false old.calls

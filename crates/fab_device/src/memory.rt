@@ -1,5 +1,5 @@
 //! A journal in memory, with a list of the calls that fail.
-ghost use Rattle.std.specs.Prelude.{◌≡◌, ◌+◌, ◌≤◌, [], Some, IsTrue, length, take, map, IfOk, OnOk, OnErr, IsErr, IsErrOf};
+ghost use Rattle.std.specs.Prelude.{◌≡◌, ◌+◌, ◌≤◌, ◌++◌, ◌∷◌, [], Some, IsTrue, length, take, map, IsOk, IfOk, OnOk, OnErr, IsErr, IsErrOf};
 ghost use Rattle.fab_base.specs.Faults.{opening_calls, HasCause};
 ghost use Rattle.fab_device.specs.Devices.{AppendAdds, IsFrontFrom, JournalCause, KeepsSure, CountsCall, synced_of, never_fails};
 ghost use Rattle.std.specs.Option.{option_copied};
@@ -77,6 +77,7 @@ impl Journal for MemJournal {
         ensures synced { synced_of self.new.held ≡ synced_of self.old.held }
         ensures room { self.old.held.room ≤ self.new.held.room + length bytes.now }
         ensures fits { length bytes.now ≤ self.old.held.room → IsErrOf result JournalError.Memory → ⊥ }
+        ensures memory { IsErrOf result JournalError.Memory → self.old.held.room ≤ self.new.held.room }
         ensures cause { JournalCause self.old.calls.faults self.new.calls.faults result }
         ensures sure { KeepsSure (never_fails self.old.calls) (never_fails self.new.calls) (IsErrOf result JournalError.Failed) }
         ensures counted { CountsCall self.old self.new (IsErrOf result JournalError.Failed) }
@@ -87,7 +88,18 @@ impl Journal for MemJournal {
         self.journal.append(bytes)
     }
 
-    fn reserve(&mut self, more: u64) -> Result<(), NoMemory> {
+    fn reserve(&mut self, more: u64) -> Result<(), NoMemory>
+        ensures made { OnOk result (more ≤ self.new.held.room) }
+        ensures fits { more ≤ self.old.held.room → IsOk result }
+        ensures room { self.old.held.room ≤ self.new.held.room }
+        ensures content { self.new.held.content ≡ self.old.held.content }
+        ensures synced { synced_of self.new.held ≡ synced_of self.old.held }
+        ensures faults { self.new.calls.faults ≡ self.old.calls.faults }
+        ensures sure { never_fails self.new.calls ≡ never_fails self.old.calls }
+
+        // It isn't counted.
+        ensures calls { self.new.calls ≡ self.old.calls }
+    {
         self.journal.reserve(more)
     }
 
@@ -97,6 +109,7 @@ impl Journal for MemJournal {
         ensures content { self.new.held.content ≡ self.old.held.content }
         ensures room { self.old.held.room ≤ self.new.held.room }
         ensures cause { HasCause self.old.calls.faults self.new.calls.faults result }
+        ensures success { OnOk result (self.new.calls.faults ≡ self.old.calls.faults) }
         ensures sure { KeepsSure (never_fails self.old.calls) (never_fails self.new.calls) (IsErr result) }
         ensures counted { CountsCall self.old self.new (IsErr result) }
     {
@@ -130,6 +143,7 @@ impl Journal for MemJournal {
         ensures synced { OnErr result (synced_of self.new.held ≡ synced_of self.old.held) }
         ensures room { self.old.held.room ≤ self.new.held.room }
         ensures cause { HasCause self.old.calls.faults self.new.calls.faults result }
+        ensures success { OnOk result (self.new.calls.faults ≡ self.old.calls.faults) }
         ensures sure { KeepsSure (never_fails self.old.calls) (never_fails self.new.calls) (IsErr result) }
         ensures counted { CountsCall self.old self.new (IsErr result) }
     {
@@ -189,7 +203,7 @@ impl Journals for MemJournals {
 
     fn make(&mut self, node: &str) -> Result<MemJournal, JournalError>
         ensures content { IfOk result (λ journal. journal.held.content ≡ []) }
-        ensures synced { IfOk result (λ journal. synced_of journal.held ≡ 0) }
+        ensures synced { IfOk result (λ journal. journal.held.synced ≡ 0) }
         ensures unfailed { IfOk result (λ journal. journal.calls.faults ≡ 0) }
         ensures sure { CannotFail (Some (map (λ pair. pair.0) self.old.fails)) node.now → IfOk result (λ journal. IsTrue (never_fails journal.calls)) }
         ensures never { IsErrOf result JournalError.Failed → ⊥ }
@@ -203,7 +217,11 @@ impl Journals for MemJournals {
         Ok(MemJournal::with_fails(self.alloc, Seq::from_vec(fails))?)
     }
 
-    fn keep(&mut self, node: &str, journal: MemJournal) -> Result<(), NoMemory> {
+    fn keep(&mut self, node: &str, journal: MemJournal) -> Result<(), NoMemory>
+        ensures kept { OnOk result (self.new.kept ≡ self.old.kept ++ (node.now, journal) ∷ []) }
+        ensures err { OnErr result (self.new ≡ self.old) }
+        ensures fails { self.new.fails ≡ self.old.fails }
+    {
         let name = Text::make(self.alloc, node)?;
         self.kept.push((name, journal))?;
         Ok(())

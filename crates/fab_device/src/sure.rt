@@ -1,5 +1,5 @@
 //! A journal in memory that never fails.
-ghost use Rattle.std.specs.Prelude.{◌≡◌, [], IfOk};
+ghost use Rattle.std.specs.Prelude.{◌≡◌, ◌++◌, ◌∷◌, [], IfOk, OnOk, OnErr, IsErrOf};
 ghost use Rattle.std.specs.Option.{option_copied};
 ghost use Rattle.fab_device.specs.Kept.{last_under};
 
@@ -146,11 +146,19 @@ impl Journals for SureJournals {
 
     ghost faults = { λ _. 0 };
 
-    fn make(&mut self, _node: &str) -> Result<SureJournal, JournalError> {
+    fn make(&mut self, _node: &str) -> Result<SureJournal, JournalError>
+        ensures content { IfOk result (λ journal. journal.content ≡ []) }
+        ensures synced { IfOk result (λ journal. journal.synced ≡ 0) }
+        ensures never { IsErrOf result JournalError.Failed → ⊥ }
+        ensures same { self.new ≡ self.old }
+    {
         Ok(SureJournal::new(self.alloc)?)
     }
 
-    fn keep(&mut self, node: &str, journal: SureJournal) -> Result<(), NoMemory> {
+    fn keep(&mut self, node: &str, journal: SureJournal) -> Result<(), NoMemory>
+        ensures kept { OnOk result (self.new ≡ self.old ++ (node.now, journal) ∷ []) }
+        ensures err { OnErr result (self.new ≡ self.old) }
+    {
         let name = Text::make(self.alloc, node)?;
         self.kept.push((name, journal))?;
         Ok(())

@@ -53,6 +53,7 @@ pub trait Journal {
         ensures synced { synced self.new ≡ synced self.old }
         ensures room { room self.old ≤ room self.new + length bytes.now }
         ensures fits { length bytes.now ≤ room self.old → IsErrOf result JournalError.Memory → ⊥ }
+        ensures memory { IsErrOf result JournalError.Memory → room self.old ≤ room self.new }
         ensures cause { JournalCause (faults self.old) (faults self.new) result }
         ensures sure { KeepsSure (sure self.old) (sure self.new) (IsErrOf result JournalError.Failed) };
 
@@ -73,6 +74,7 @@ pub trait Journal {
         ensures content { content self.new ≡ content self.old }
         ensures room { room self.old ≤ room self.new }
         ensures cause { HasCause (faults self.old) (faults self.new) result }
+        ensures success { OnOk result (faults self.new ≡ faults self.old) }
         ensures sure { KeepsSure (sure self.old) (sure self.new) (IsErr result) };
 
     /// The whole content.
@@ -94,6 +96,7 @@ pub trait Journal {
         ensures synced { OnErr result (synced self.new ≡ synced self.old) }
         ensures room { room self.old ≤ room self.new }
         ensures cause { HasCause (faults self.old) (faults self.new) result }
+        ensures success { OnOk result (faults self.new ≡ faults self.old) }
         ensures sure { KeepsSure (sure self.old) (sure self.new) (IsErr result) };
 
     /// No more bytes are synced than there are.
@@ -132,6 +135,6 @@ pub trait Journals {
         ensures kept { OnOk result (kept self.new ≡ with_entry (kept self.old)
             (record { node = node.now; content = Self.Item.content journal; synced = Self.Item.synced journal; faults = Self.Item.faults journal })) }
         ensures err { OnErr result (kept self.new ≡ kept self.old) }
-        ensures faults { faults self.old ≤ faults self.new }
+        ensures faults { faults self.new ≡ faults self.old }
         ensures told { may_fail self.new ≡ may_fail self.old };
 }

@@ -12,6 +12,7 @@ pub fn append_synced<J: Journal>(journal: &mut J, bytes: &[u8]) -> Result<(), Jo
     ensures synced { OnOk result (J.synced journal.new ≡ length (J.content journal.new)) }
     ensures unsynced { OnErr result (J.synced journal.new ≡ J.synced journal.old) }
     ensures fits { length bytes.now ≤ J.room journal.old → IsErrOf result JournalError.Memory → ⊥ }
+    ensures memory { IsErrOf result JournalError.Memory → J.room journal.old ≤ J.room journal.new }
     ensures room { J.room journal.old ≤ J.room journal.new + length bytes.now }
     ensures cause { JournalCause (J.faults journal.old) (J.faults journal.new) result }
     ensures sure { KeepsSure (J.sure journal.old) (J.sure journal.new) (IsErrOf result JournalError.Failed) }
