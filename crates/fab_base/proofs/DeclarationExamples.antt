@@ -1,7 +1,7 @@
 -- Worked examples of the grammar of declarations.
-use Rattle.std.proofs.Common.{◌≡◌, ℕ, List, [], ◌∷◌, refl, codes, pos, negsuc}
-use Rattle.fab_base.specs.Syntax.{Is, is, IsName, name, no_more, one_more}
-use Rattle.fab_base.specs.Declarations.{Behind, behind, Separated, none, some, IsDelegation, delegation, readers, writers, IsPolicy, policy, IsLabel, label, IsLiteral, number, negative, least, null, root}
+use Rattle.std.proofs.Common.{ℕ, List, [], ◌∷◌, refl, codes, pos, negsuc}
+use Rattle.fab_base.specs.Syntax.{Is, is, name, no_more, one_more}
+use Rattle.fab_base.specs.Declarations.{behind, none, some, IsDelegation, delegation, readers, writers, IsPolicy, policy, IsLabel, label, IsLiteral, number, negative, least, null, root}
 use Rattle.fab_base.specs.declared.token.Mark.{Mark}
 use Rattle.fab_base.specs.declared.token.Mark.TheVariants as m
 use Rattle.fab_base.specs.declared.token.Kind.{Kind}
@@ -54,8 +54,13 @@ minus_zero = negative (is refl) refl
 the_least : IsLiteral (mark m.Minus ∷ front k.Least ∷ []) (literals.Int (negsuc 2147483647)) []
 the_least = least (is refl) refl
 
+no_sign : {ts : List Token} → Is m.Minus (front k.Least ∷ []) ts → ⊥
+no_sign (is e) = absurd (cc)
+
 -- the least number without its minus sign is no literal
 no_minus : {x : Literal} {b : List Token} → IsLiteral (front k.Least ∷ []) x b → ⊥
 no_minus (number e) = absurd (cc)
+no_minus (negative i h) = no_sign i
+no_minus (least i h) = no_sign i
 no_minus (null (is e)) = absurd (cc)
 no_minus (root (name e)) = absurd (cc)
