@@ -1,4 +1,4 @@
--- The grammar of what a bundle declares besides its nodes: delegations, labels, classes and roots.
+-- The grammar of what a bundle declares besides its nodes and delegations: labels, classes and roots.
 --
 -- As in the syntax of a bundle, IsX a t b says: the tokens a begin with those of t, and b is what follows.
 use Rattle.std.specs.Prelude.{◌≡◌, ℕ, List, [], ◌∷◌, ℤ, pos, negsuc, zero, suc}
@@ -7,7 +7,6 @@ use Rattle.fab_base.specs.declared.token.Mark.TheVariants as m
 use Rattle.fab_base.specs.declared.token.Kind.TheVariants as k
 use Rattle.fab_base.specs.declared.token.Token.{Token}
 use Rattle.fab_base.specs.declared.start.Name.{Name}
-use Rattle.fab_base.specs.declared.start.Delegation.{Delegation}
 use Rattle.fab_base.specs.declared.start.Aspect.{Aspect}
 use Rattle.fab_base.specs.declared.start.Aspect.TheVariants as aspects
 use Rattle.fab_base.specs.declared.start.PolicyText.{PolicyText}
@@ -35,10 +34,6 @@ pub data Behind {A : Type 0} (mark : Mark) (P : List Token → A → List Token 
 pub data Separated {A : Type 0} (mark : Mark) (P : List Token → A → List Token → Type 0) : List Token → List A → List Token → Type 0 where
   none : {a : List Token} → Separated mark P a [] a
   some : {a b c : List Token} {x : A} {xs : List A} → P a x b → Repeated (Behind mark P) b xs c → Separated mark P a (x ∷ xs) c
-
--- delegation = name "actsfor" name ";"
-pub data IsDelegation : List Token → Delegation → List Token → Type 0 where
-  delegation : {a b c d e : List Token} {x y : Name} → IsName a x b → Is m.ActsFor b c → IsName c y d → Is m.Semicolon d e → IsDelegation a (record { actor = x; principal = y }) e
 
 -- aspect = "->" | "<-"
 pub data IsAspect : List Token → Aspect → List Token → Type 0 where

@@ -10,6 +10,7 @@ use Rattle.fab_base.specs.declared.start.Name.{Name}
 use Rattle.fab_base.specs.declared.start.Role.{Role}
 use Rattle.fab_base.specs.declared.start.Role.TheVariants as r
 use Rattle.fab_base.specs.declared.start.Node.{Node}
+use Rattle.fab_base.specs.declared.start.Delegation.{Delegation}
 use Rattle.fab_base.specs.declared.start.Start.{Start}
 
 -- this sign or keyword
@@ -40,9 +41,13 @@ pub data IsRole : List Token → Role → List Token → Type 0 where
 pub data IsNode : List Token → Node → List Token → Type 0 where
   node : {a b c d : List Token} {x : Role} {y : Name} → IsRole a x b → IsName b y c → Is m.Semicolon c d → IsNode a (record { role = x; name = y }) d
 
--- start = {node} "run" "{" "}"
+-- delegation = name "actsfor" name ";"
+pub data IsDelegation : List Token → Delegation → List Token → Type 0 where
+  delegation : {a b c d e : List Token} {x y : Name} → IsName a x b → Is m.ActsFor b c → IsName c y d → Is m.Semicolon d e → IsDelegation a (record { actor = x; principal = y }) e
+
+-- start = {node} {delegation} "run" "{" "}"
 pub data IsStart : List Token → Start → List Token → Type 0 where
-  start : {a b c d e : List Token} {xs : List Node} → Repeated IsNode a xs b → Is m.Run b c → Is m.LeftBrace c d → Is m.RightBrace d e → IsStart a (record { nodes = xs }) e
+  start : {a b c d e f : List Token} {xs : List Node} {ys : List Delegation} → Repeated IsNode a xs b → Repeated IsDelegation b ys c → Is m.Run c d → Is m.LeftBrace d e → Is m.RightBrace e f → IsStart a (record { nodes = xs; delegations = ys }) f
 
 -- a whole text
 abbrev pub IsText : List Token → Start → Type 0

@@ -107,4 +107,5 @@ pub struct Root {
 #[derive(Debug, Drop)]
 pub struct Start {
     pub nodes: Seq<Node>,
+    pub delegations: Seq<Delegation>,
 }

@@ -1,4 +1,5 @@
 mod CutExamples
+pub mod DelegationRules
 pub mod DistinctNames
 pub mod Lexing
 pub mod ListRules

@@ -49,7 +49,7 @@ module _ {A B : Type 0} {P : List Token → A → List Token → Type 0} {R : Li
   pub list_end : ((x : List Token) (t : A) (y : List Token) → P x t y → Starts first x) → Going R may room a (Repeated P) f left b → (Starts first b → ⊥) → Going R may room a End (λ x. f []) left b
   list_end begins r none = turn (λ x. []) r (λ more v after p. subst (λ y. Repeated P more [] y) p no_more) (λ more v after same p h. none_back first begins (λ s. none (starts_back first b more same s)) p)
 
-starts_follows : (first may : Kind → Bool) → ((k : Kind) → IsTrue (first k) → IsTrue (may k)) → (a : List Token) → Starts first a → Follows may a
+pub starts_follows : (first may : Kind → Bool) → ((k : Kind) → IsTrue (first k) → IsTrue (may k)) → (a : List Token) → Starts first a → Follows may a
 starts_follows first may meets [] s = tt
 starts_follows first may meets (t ∷ ts) s = meets t.kind s
 

@@ -11,16 +11,12 @@ use Rattle.fab_base.specs.declared.start.Role.TheVariants as r
 use Rattle.fab_base.specs.declared.start.Node.{Node}
 use Rattle.fab_base.specs.Depth.{room_by}
 use Rattle.fab_base.specs.Syntax.{Is, is, IsName, name, IsPlace, worker, store, IsRole, principal, honest, hostile, IsNode, node}
-use Rattle.fab_parser.specs.Reading.{Lacks, BeginsWith, Starts, Read, Refused, Stops, CannotRead, any}
+use Rattle.fab_parser.specs.Reading.{Lacks, BeginsWith, Starts, Read, Refused, Stops, CannotRead, any, begins_name}
 use Rattle.fab_parser.specs.declared.refusal.Refusal.{Refusal}
 use Rattle.fab_parser.specs.declared.refusal.Refusal.TheVariants as refusal
 use Rattle.fab_parser.proofs.Rules.{Then, End, Sign, HasText, Going, start, turn, leaf, here, never, token_of, same_sign, lacks_too}
 
 -- ---- names
-
-abbrev pub begins_name : Kind → Bool
-begins_name (k.Name x) = true
-begins_name _ = false
 
 pub name_begins : (a : List Token) (n : Name) (b : List Token) → IsName a n b → Starts begins_name a
 name_begins a n b (name e) = subst (λ x. IsTrue (begins_name x)) (sym e) refl

@@ -1,32 +1,48 @@
 -- A whole text, part by part, and where it is refused.
-use Rattle.std.proofs.Common.{◌≡◌, ℕ, ◌-◌, Bool, None, option_and_then, IsSome, List, [], ◌∷◌, ◌++◌, length, refl, sym, ap, ◌∙◌, subst, append_assoc, append-nil, length-append, arith}
+use Rattle.std.proofs.Common.{◌≡◌, ℕ, ◌-◌, Bool, None, option_and_then, IsSome, IsTrue, List, [], ◌∷◌, ◌++◌, length, refl, sym, ap, ◌∙◌, subst, append_assoc, append-nil, length-append, arith}
 use Rattle.fab_base.specs.declared.token.Mark.TheVariants as m
 use Rattle.fab_base.specs.declared.token.Kind.{Kind}
+use Rattle.fab_base.specs.declared.token.Kind.TheVariants as k
 use Rattle.fab_base.specs.declared.token.Token.{Token}
+use Rattle.fab_base.specs.declared.start.Delegation.{Delegation}
 use Rattle.fab_base.specs.declared.start.Node.{Node}
 use Rattle.fab_base.specs.declared.start.Start.{Start}
 use Rattle.fab_base.specs.Depth.{room_after, room_by, KeepsDepth}
-use Rattle.fab_base.specs.Syntax.{Repeated, IsNode, IsStart, start}
-use Rattle.fab_parser.specs.Reading.{SameHead, Follows, Read, Refused, Deep, any, nothing}
+use Rattle.fab_base.specs.Syntax.{Is, Repeated, no_more, one_more, IsNode, IsDelegation, IsStart, start}
+use Rattle.fab_parser.specs.Reading.{SameHead, Follows, Read, Refused, Deep, any, nothing, begins_node, begins_name, behind_list}
+use Rattle.fab_parser.specs.Firsts.{delegation_begins}
+use Rattle.fab_parser.proofs.ListRules.{starts_follows}
 use Rattle.fab_parser.specs.Texts.{BadNext, BadToken, BadBracket}
-use Rattle.fab_parser.proofs.Rules.{Then, End, Sign, Going, turn, part, ending, extra, never, any_follows, room_append}
+use Rattle.fab_parser.proofs.Rules.{Then, End, Sign, Going, turn, part, ending, extra, never, any_follows, sign_follows, room_append}
 use Rattle.fab_parser.proofs.Rules as rules
 
 abbrev pub StartParts : Type 0
-StartParts = List Node × (Unit {0} × (Unit {0} × (Unit {0} × Unit {0})))
+StartParts = List Node × (List Delegation × (Unit {0} × (Unit {0} × (Unit {0} × Unit {0}))))
 
 abbrev pub start_of : StartParts → Start
-start_of v = record { nodes = v.0 }
+start_of v = record { nodes = v.0; delegations = v.1.0 }
 
--- {node} "run" "{" "}"
+-- {node} {delegation} "run" "{" "}"
 abbrev pub Parts : List Token → StartParts → List Token → Type 0
-Parts = Then (Repeated IsNode) (Then (Sign m.Run) (Then (Sign m.LeftBrace) (Then (Sign m.RightBrace) End)))
+Parts = Then (Repeated IsNode) (Then (Repeated IsDelegation) (Then (Sign m.Run) (Then (Sign m.LeftBrace) (Then (Sign m.RightBrace) End))))
 
 start_back : {a : List Token} {v : Start} {b : List Token} → IsStart a v b → (x : StartParts) × (v ≡ start_of x) × Parts a x b
-start_back (start {xs = xs} p q r s) = ((xs, (tt, (tt, (tt, tt)))), refl, record { mid = _; first = p; second = record { mid = _; first = q; second = record { mid = _; first = r; second = record { mid = _; first = s; second = refl } } } })
+start_back (start {xs = xs} {ys = ys} n p q r s) = ((xs, (ys, (tt, (tt, (tt, tt))))), refl, record { mid = _; first = n; second = record { mid = _; first = p; second = record { mid = _; first = q; second = record { mid = _; first = r; second = record { mid = _; first = s; second = refl } } } } })
 
 pub start_start : {room : ℕ} (a : List Token) → Going IsStart any room a Parts start_of room a
-start_start {room = room} a = turn start_of (rules.start IsStart any room a) (λ more v after p. subst (λ x. IsStart more (start_of v) x) p.second.second.second.second (start p.first p.second.first p.second.second.first p.second.second.second.first)) (λ more v after same p h. start_back p)
+start_start {room = room} a = turn start_of (rules.start IsStart any room a) (λ more v after p. subst (λ x. IsStart more (start_of v) x) p.second.second.second.second.second (start p.first p.second.first p.second.second.first p.second.second.second.first p.second.second.second.second.first)) (λ more v after same p h. start_back p)
+
+-- what comes behind the nodes begins no node
+pub behind_nodes : {C : Type 0} {Q : List Token → C → List Token → Type 0} (more : List Token) (v : List Delegation × (Unit {0} × C)) (after : List Token) → Then (Repeated IsDelegation) (Then (Sign m.Run) Q) more v after → Follows (behind_list begins_node any) more
+behind_nodes more v after q = by more v.0 q.mid q.first q.second.first
+  where
+    a_name : (x : Kind) → IsTrue (begins_name x) → IsTrue (behind_list begins_node any x)
+    a_name (k.Name y) h = refl
+    a_name _ h = absurd (never h)
+
+    by : (more : List Token) (ds : List Delegation) (mid : List Token) {b : List Token} → Repeated IsDelegation more ds mid → Is m.Run mid b → Follows (behind_list begins_node any) more
+    by more ds mid no_more i = sign_follows m.Run (behind_list begins_node any) refl i
+    by more ds mid (one_more {b = b} {x = x} p ps) i = starts_follows begins_name (behind_list begins_node any) a_name more (delegation_begins more x b p)
 
 -- ---- where a text is refused
 

@@ -1,12 +1,16 @@
 -- What each rule that can be repeated begins with.
 use Rattle.std.proofs.Common.{IsTrue, List, refl, sym, subst}
 use Rattle.fab_base.specs.declared.token.Token.{Token}
+use Rattle.fab_base.specs.declared.start.Delegation.{Delegation}
 use Rattle.fab_base.specs.declared.start.Node.{Node}
-use Rattle.fab_base.specs.Syntax.{is, worker, store, principal, honest, hostile, IsNode, node}
-use Rattle.fab_parser.specs.Reading.{Starts, begins_node}
+use Rattle.fab_base.specs.Syntax.{is, worker, store, principal, honest, hostile, IsNode, node, name, IsDelegation, delegation}
+use Rattle.fab_parser.specs.Reading.{Starts, begins_node, begins_name}
 
 pub node_begins : (a : List Token) (v : Node) (b : List Token) → IsNode a v b → Starts begins_node a
 node_begins a v b (node (principal (is e)) q r) = subst (λ x. IsTrue (begins_node x)) (sym e) refl
 node_begins a v b (node (honest (worker (is e))) q r) = subst (λ x. IsTrue (begins_node x)) (sym e) refl
 node_begins a v b (node (honest (store (is e))) q r) = subst (λ x. IsTrue (begins_node x)) (sym e) refl
 node_begins a v b (node (hostile (is e) p) q r) = subst (λ x. IsTrue (begins_node x)) (sym e) refl
+
+pub delegation_begins : (a : List Token) (v : Delegation) (b : List Token) → IsDelegation a v b → Starts begins_name a
+delegation_begins a v b (delegation (name e) p q r) = subst (λ x. IsTrue (begins_name x)) (sym e) refl

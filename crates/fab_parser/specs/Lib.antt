@@ -1,4 +1,5 @@
 pub mod Cuts
 pub mod Firsts
+pub mod Known
 pub mod Reading
 pub mod Texts

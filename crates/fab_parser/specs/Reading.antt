@@ -87,6 +87,11 @@ begins_node (k.Fixed m.Store) = true
 begins_node (k.Fixed m.Hostile) = true
 begins_node _ = false
 
+-- a name
+abbrev pub begins_name : Kind → Bool
+begins_name (k.Name x) = true
+begins_name _ = false
+
 -- what may follow a list whose items begin so and are followed so: nothing that begins one more
 abbrev pub behind_list : (Kind → Bool) → (Kind → Bool) → Kind → Bool
 behind_list first may kind = not (first kind) && may kind

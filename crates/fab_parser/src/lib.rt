@@ -1,6 +1,7 @@
 //! From bytes to a bundle: tokens, the grammar, and the rules that a bundle keeps.
 #![tactic(auto)]
 
+mod delegations;
 mod error;
 mod lexer;
 mod limits;

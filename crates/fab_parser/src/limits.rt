@@ -1,13 +1,14 @@
 //! The rules that a bundle keeps beside the grammar.
 ghost use Rattle.std.specs.Prelude.{◌≡◌, ◌≢◌, ◌↔◌, IsTrue, AllPairs, count_by};
-ghost use Rattle.std.specs.List.{list_any};
+ghost use Rattle.std.specs.List.{list_any, list_all};
 ghost use Rattle.std.specs.Str.{bytes_eq};
 ghost use Rattle.fab_base.specs.Limits.{KeepsLimits, is_node, is_worker, is_store, is_hostile};
 ghost use Rattle.fab_base.specs.Names.{KeepsNames, names_of};
 ghost use Rattle.fab_base.specs.Evaluation.{IsEvaluated};
+ghost use Rattle.fab_parser.specs.Known.{knows};
 
 use crate::reading::next;
-use fab_base::{Node, Role, Start};
+use fab_base::{Delegation, Node, Role, Start};
 
 /// The most principals, workers and stores included.
 const PRINCIPALS: usize = 64;
@@ -36,7 +37,8 @@ fn nodes(nodes: &[Node]) -> usize
 pub fn keeps_names(start: &Start) -> bool
     ensures { IsTrue result ↔ KeepsNames start.now }
 {
-    are_distinct(start.nodes.as_slice())
+    let nodes = start.nodes.as_slice();
+    are_distinct(nodes) && are_known(nodes, start.delegations.as_slice())
 }
 
 /// Whether no two principals have one name.
@@ -58,6 +60,19 @@ fn is_named(nodes: &[Node], name: &str) -> bool
     ensures { result ≡ list_any (λ x. bytes_eq x.name.text name.now) nodes.now }
 {
     nodes.iter().any(|node| node.name.text.as_str() == name)
+}
+
+/// Whether the names of each delegation are those of principals.
+fn are_known(nodes: &[Node], delegations: &[Delegation]) -> bool
+    ensures { result ≡ list_all (knows nodes.now) delegations.now }
+{
+    delegations.iter().all(|one| is_known(nodes, one))
+}
+
+fn is_known(nodes: &[Node], one: &Delegation) -> bool
+    ensures { result ≡ knows nodes.now one.now }
+{
+    is_named(nodes, one.actor.text.as_str()) && is_named(nodes, one.principal.text.as_str())
 }
 
 /// Whether the bundle is of the form that is evaluated.

@@ -6,6 +6,7 @@ ghost use Rattle.fab_base.specs.declared.start.Start.{Start as StartTree};
 ghost use Rattle.fab_parser.specs.Reading.{Read, Stops, any};
 ghost use Rattle.fab_parser.specs.Texts.{RefusedAt, IsLimit, OnDepthLimit};
 
+use crate::delegations::DelegationRule;
 use crate::error::ParseError;
 use crate::nodes::NodeRule;
 use crate::reading::{open, sign};
@@ -21,10 +22,11 @@ fn start(alloc: Global, tokens: &[Token], room: u8) -> Result<(Start, &[Token]),
     ensures { MatchResult result (λ x. Read IsStart any room tokens.now x.0 x.1.now) (λ e. Stops IsStart any room tokens.now e) }
 {
     let (nodes, rest) = repeated::<NodeRule>(alloc, tokens, room)?;
+    let (delegations, rest) = repeated::<DelegationRule>(alloc, rest, room)?;
     let rest = sign(rest, Mark::Run)?;
     let (rest, _) = open(rest, Mark::LeftBrace, room)?;
     let rest = sign(rest, Mark::RightBrace)?;
-    Ok((Start { nodes }, rest))
+    Ok((Start { nodes, delegations }, rest))
 }
 
 /// The bundle that these tokens stand for.

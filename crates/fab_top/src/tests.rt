@@ -44,6 +44,7 @@ fn good_texts(rt: HostRuntime) -> Result<(), Fail> {
         "principal A;\r\n\tworker w1 ; principal b_2;store _s;\nrun { }\n",
         "// a comment\nworker w1;store s1;run{}// and one at the end",
         "worker worker1;store runs;run{}",
+        "principal A;worker w1;store s1;A actsfor w1;s1 actsfor A;A actsfor A;run{}",
     ] {
         expect(&rt, rt.alloc(), text.as_bytes(), Status::Ok, "end\n")?;
     }
@@ -65,6 +66,11 @@ fn other_texts(rt: HostRuntime) -> Result<(), Fail> {
         "worker w1;store s1;class C label P access P {} run{}",
         "worker w1;store s1;run{}99999999999999999999",
         "worker w;store w;run{}",
+        "worker w1;store s1;A actsfor w1;run{}",
+        "worker w1;store s1;w1 actsfor s1;w1 actsfor A;run{}",
+        "worker w1;store s1;w1 actsfor s1 run{}",
+        "worker w1;store s1;w1 actsfor;run{}",
+        "worker w1;w1 actsfor w1;store s1;run{}",
         "principal w;worker w;store s;run{}",
         "worker w1;store s1;run{",
         "worker w1;store s1;run{}}",

@@ -1,5 +1,6 @@
 use Rattle.std.proofs.Common.{sym, ◌∙◌, ap}
-use Rattle.fab_parser.proofs.DistinctNames.{goes_on, stops, is_among}
+use Rattle.fab_parser.proofs.DistinctNames.{goes_on, stops}
+use Rattle.fab_parser.specs.Known.{is_among}
 use Rattle.fab_parser.proofs.limits.are_distinct.Goals as goal
 
 pub returns-then-is_named : goal.returns-then-is_named

@@ -1,0 +1,61 @@
+//! Delegations.
+ghost use Rattle.std.specs.Prelude.{◌≡◌, ◌↔◌, IsTrue, MatchResult};
+ghost use Rattle.fab_base.specs.Syntax.{IsDelegation};
+ghost use Rattle.fab_parser.specs.Reading.{Read, Stops, Starts, any, begins_name};
+
+use crate::reading::{name, next, sign};
+use crate::refusal::Refusal;
+use crate::rule::Rule;
+use fab_base::{Delegation, Kind, Mark, Token};
+use std::alloc::Global;
+
+/// Whether a name comes next.
+fn starts_name(tokens: &[Token]) -> bool
+    ensures { IsTrue result ↔ Starts begins_name tokens.now }
+{
+    match next(tokens) {
+        None => false,
+        Some((token, _)) => matches!(token.kind, Kind::Name(_)),
+    }
+}
+
+/// A name, `actsfor`, a name and a semicolon.
+fn delegation(alloc: Global, tokens: &[Token], room: u8) -> Result<(Delegation, &[Token]), Refusal>
+    ensures { MatchResult result (λ x. Read IsDelegation any room tokens.now x.0 x.1.now) (λ e. Stops IsDelegation any room tokens.now e) }
+{
+    let (actor, rest) = name(alloc, tokens, room)?;
+    let rest = sign(rest, Mark::ActsFor)?;
+    let (principal, rest) = name(alloc, rest, room)?;
+    let rest = sign(rest, Mark::Semicolon)?;
+    Ok((Delegation { actor, principal }, rest))
+}
+
+/// The rule of one delegation.
+pub(crate) struct DelegationRule;
+
+impl Rule for DelegationRule {
+    ghost use Rattle.std.specs.Prelude.{refl};
+    ghost use Rattle.fab_base.specs.Syntax.{IsDelegation};
+    ghost use Rattle.fab_parser.specs.Reading.{any, begins_name};
+    ghost use Rattle.fab_parser.specs.Firsts.{delegation_begins};
+
+    type Tree = Delegation;
+
+    ghost reads = { IsDelegation };
+
+    ghost first = { begins_name };
+
+    ghost may = { any };
+
+    fn starts(tokens: &[Token]) -> bool {
+        starts_name(tokens)
+    }
+
+    fn read(alloc: Global, tokens: &[Token], room: u8) -> Result<(Delegation, &[Token]), Refusal> {
+        delegation(alloc, tokens, room)
+    }
+
+    ghost begins = { delegation_begins };
+
+    ghost meets = { λ kind first. refl };
+}
