@@ -1,4 +1,4 @@
--- The grammar of what a bundle declares besides its nodes and delegations: labels, classes and roots.
+-- The grammar of what a bundle declares besides its nodes, delegations and labels: classes and roots.
 --
 -- As in the syntax of a bundle, IsX a t b says: the tokens a begin with those of t, and b is what follows.
 use Rattle.std.specs.Prelude.{◌≡◌, ℕ, List, [], ◌∷◌, ℤ, pos, negsuc, zero, suc}
@@ -19,36 +19,12 @@ use Rattle.fab_base.specs.declared.start.Literal.{Literal}
 use Rattle.fab_base.specs.declared.start.Literal.TheVariants as literals
 use Rattle.fab_base.specs.declared.start.Given.{Given}
 use Rattle.fab_base.specs.declared.start.Root.{Root}
-use Rattle.fab_base.specs.Syntax.{Is, IsName, Repeated}
+use Rattle.fab_base.specs.Syntax.{Is, IsName, Repeated, Separated}
 
 -- a number behind a minus sign
 abbrev pub minus : ℕ → ℤ
 minus zero = pos 0
 minus (suc n) = negsuc n
-
--- mark x
-pub data Behind {A : Type 0} (mark : Mark) (P : List Token → A → List Token → Type 0) : List Token → A → List Token → Type 0 where
-  behind : {a b c : List Token} {x : A} → Is mark a b → P b x c → Behind mark P a x c
-
--- [x {mark x}]
-pub data Separated {A : Type 0} (mark : Mark) (P : List Token → A → List Token → Type 0) : List Token → List A → List Token → Type 0 where
-  none : {a : List Token} → Separated mark P a [] a
-  some : {a b c : List Token} {x : A} {xs : List A} → P a x b → Repeated (Behind mark P) b xs c → Separated mark P a (x ∷ xs) c
-
--- aspect = "->" | "<-"
-pub data IsAspect : List Token → Aspect → List Token → Type 0 where
-  readers : {a b : List Token} → Is m.Arrow a b → IsAspect a aspects.Confidentiality b
-  writers : {a b : List Token} → Is m.BackArrow a b → IsAspect a aspects.Integrity b
-
--- policy = name aspect [name {"," name}]
-pub data IsPolicy : List Token → PolicyText → List Token → Type 0 where
-  policy : {a b c d : List Token} {x : Name} {y : Aspect} {zs : List Name} → IsName a x b → IsAspect b y c → Separated m.Comma IsName c zs d → IsPolicy a (record { owner = x; aspect = y; others = zs }) d
-
--- label = "label" name "=" "{" [policy {";" policy}] "}" ";"
-pub data IsLabel : List Token → LabelText → List Token → Type 0 where
-  label : {a b c d e f g h : List Token} {x : Name} {ys : List PolicyText}
-      → Is m.Label a b → IsName b x c → Is m.Equal c d → Is m.LeftBrace d e → Separated m.Semicolon IsPolicy e ys f → Is m.RightBrace f g → Is m.Semicolon g h
-      → IsLabel a (record { name = x; policies = ys }) h
 
 -- sort, a type = "int" | name
 pub data IsSort : List Token → Sort → List Token → Type 0 where

@@ -11,6 +11,10 @@ use Rattle.fab_base.specs.declared.start.Role.{Role}
 use Rattle.fab_base.specs.declared.start.Role.TheVariants as r
 use Rattle.fab_base.specs.declared.start.Node.{Node}
 use Rattle.fab_base.specs.declared.start.Delegation.{Delegation}
+use Rattle.fab_base.specs.declared.start.Aspect.{Aspect}
+use Rattle.fab_base.specs.declared.start.Aspect.TheVariants as aspects
+use Rattle.fab_base.specs.declared.start.PolicyText.{PolicyText}
+use Rattle.fab_base.specs.declared.start.LabelText.{LabelText}
 use Rattle.fab_base.specs.declared.start.Start.{Start}
 
 -- this sign or keyword
@@ -45,9 +49,35 @@ pub data IsNode : List Token → Node → List Token → Type 0 where
 pub data IsDelegation : List Token → Delegation → List Token → Type 0 where
   delegation : {a b c d e : List Token} {x y : Name} → IsName a x b → Is m.ActsFor b c → IsName c y d → Is m.Semicolon d e → IsDelegation a (record { actor = x; principal = y }) e
 
--- start = {node} {delegation} "run" "{" "}"
+-- mark x
+pub data Behind {A : Type 0} (mark : Mark) (P : List Token → A → List Token → Type 0) : List Token → A → List Token → Type 0 where
+  behind : {a b c : List Token} {x : A} → Is mark a b → P b x c → Behind mark P a x c
+
+-- [x {mark x}]
+pub data Separated {A : Type 0} (mark : Mark) (P : List Token → A → List Token → Type 0) : List Token → List A → List Token → Type 0 where
+  none : {a : List Token} → Separated mark P a [] a
+  some : {a b c : List Token} {x : A} {xs : List A} → P a x b → Repeated (Behind mark P) b xs c → Separated mark P a (x ∷ xs) c
+
+-- aspect = "->" | "<-"
+pub data IsAspect : List Token → Aspect → List Token → Type 0 where
+  readers : {a b : List Token} → Is m.Arrow a b → IsAspect a aspects.Confidentiality b
+  writers : {a b : List Token} → Is m.BackArrow a b → IsAspect a aspects.Integrity b
+
+-- policy = name aspect [name {"," name}]
+pub data IsPolicy : List Token → PolicyText → List Token → Type 0 where
+  policy : {a b c d : List Token} {x : Name} {y : Aspect} {zs : List Name} → IsName a x b → IsAspect b y c → Separated m.Comma IsName c zs d → IsPolicy a (record { owner = x; aspect = y; others = zs }) d
+
+-- label = "label" name "=" "{" [policy {";" policy}] "}" ";"
+pub data IsLabel : List Token → LabelText → List Token → Type 0 where
+  label : {a b c d e f g h : List Token} {x : Name} {ys : List PolicyText}
+      → Is m.Label a b → IsName b x c → Is m.Equal c d → Is m.LeftBrace d e → Separated m.Semicolon IsPolicy e ys f → Is m.RightBrace f g → Is m.Semicolon g h
+      → IsLabel a (record { name = x; policies = ys }) h
+
+-- start = {node} {delegation} {label} "run" "{" "}"
 pub data IsStart : List Token → Start → List Token → Type 0 where
-  start : {a b c d e f : List Token} {xs : List Node} {ys : List Delegation} → Repeated IsNode a xs b → Repeated IsDelegation b ys c → Is m.Run c d → Is m.LeftBrace d e → Is m.RightBrace e f → IsStart a (record { nodes = xs; delegations = ys }) f
+  start : {a b c d e f g : List Token} {xs : List Node} {ys : List Delegation} {zs : List LabelText}
+    → Repeated IsNode a xs b → Repeated IsDelegation b ys c → Repeated IsLabel c zs d → Is m.Run d e → Is m.LeftBrace e f → Is m.RightBrace f g
+    → IsStart a (record { nodes = xs; delegations = ys; labels = zs }) g
 
 -- a whole text
 abbrev pub IsText : List Token → Start → Type 0

@@ -108,4 +108,5 @@ pub struct Root {
 pub struct Start {
     pub nodes: Seq<Node>,
     pub delegations: Seq<Delegation>,
+    pub labels: Seq<LabelText>,
 }

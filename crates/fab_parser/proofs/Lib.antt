@@ -1,6 +1,8 @@
 mod CutExamples
 pub mod DelegationRules
 pub mod DistinctNames
+pub mod ItemRules
+pub mod LabelRules
 pub mod Lexing
 pub mod ListRules
 pub mod NodeRules

@@ -18,9 +18,6 @@ use Rattle.fab_parser.proofs.Rules.{Then, End, Sign, HasText, Going, start, turn
 
 -- ---- names
 
-pub name_begins : (a : List Token) (n : Name) (b : List Token) → IsName a n b → Starts begins_name a
-name_begins a n b (name e) = subst (λ x. IsTrue (begins_name x)) (sym e) refl
-
 pub no_name_begins : (x : Kind) → ((y : List ℕ) → x ≡ k.Name y → ⊥) → IsTrue (begins_name x) → ⊥
 no_name_begins (k.Name y) h i = h y refl
 no_name_begins _ h i = never i

@@ -259,7 +259,7 @@ alike {R = R} g r same = record {
 
 -- ---- what a rule begins with
 
-starts_too : (first : Kind → Bool) (a more : List Token) → SameHead a more → Starts first more → Starts first a
+pub starts_too : (first : Kind → Bool) (a more : List Token) → SameHead a more → Starts first more → Starts first a
 starts_too first [] [] same h = h
 starts_too first [] (u ∷ us) same h = absurd same
 starts_too first (t ∷ ts) [] same h = absurd same

@@ -5,44 +5,64 @@ use Rattle.fab_base.specs.declared.token.Kind.{Kind}
 use Rattle.fab_base.specs.declared.token.Kind.TheVariants as k
 use Rattle.fab_base.specs.declared.token.Token.{Token}
 use Rattle.fab_base.specs.declared.start.Delegation.{Delegation}
+use Rattle.fab_base.specs.declared.start.LabelText.{LabelText}
 use Rattle.fab_base.specs.declared.start.Node.{Node}
 use Rattle.fab_base.specs.declared.start.Start.{Start}
 use Rattle.fab_base.specs.Depth.{room_after, room_by, KeepsDepth}
-use Rattle.fab_base.specs.Syntax.{Is, Repeated, no_more, one_more, IsNode, IsDelegation, IsStart, start}
-use Rattle.fab_parser.specs.Reading.{SameHead, Follows, Read, Refused, Deep, any, nothing, begins_node, begins_name, behind_list}
-use Rattle.fab_parser.specs.Firsts.{delegation_begins}
+use Rattle.fab_base.specs.Syntax.{Is, Repeated, no_more, one_more, IsNode, IsDelegation, IsLabel, IsStart, start}
+use Rattle.fab_parser.specs.Reading.{SameHead, Follows, Read, Refused, Deep, any, nothing, Starts, begins_node, begins_name, begins_label, behind_list}
+use Rattle.fab_parser.specs.Firsts.{delegation_begins, label_begins}
 use Rattle.fab_parser.proofs.ListRules.{starts_follows}
 use Rattle.fab_parser.specs.Texts.{BadNext, BadToken, BadBracket}
 use Rattle.fab_parser.proofs.Rules.{Then, End, Sign, Going, turn, part, ending, extra, never, any_follows, sign_follows, room_append}
 use Rattle.fab_parser.proofs.Rules as rules
 
 abbrev pub StartParts : Type 0
-StartParts = List Node × (List Delegation × (Unit {0} × (Unit {0} × (Unit {0} × Unit {0}))))
+StartParts = List Node × (List Delegation × (List LabelText × (Unit {0} × (Unit {0} × (Unit {0} × Unit {0})))))
 
 abbrev pub start_of : StartParts → Start
-start_of v = record { nodes = v.0; delegations = v.1.0 }
+start_of v = record { nodes = v.0; delegations = v.1.0; labels = v.1.1.0 }
 
--- {node} {delegation} "run" "{" "}"
+-- {node} {delegation} {label} "run" "{" "}"
 abbrev pub Parts : List Token → StartParts → List Token → Type 0
-Parts = Then (Repeated IsNode) (Then (Repeated IsDelegation) (Then (Sign m.Run) (Then (Sign m.LeftBrace) (Then (Sign m.RightBrace) End))))
+Parts = Then (Repeated IsNode) (Then (Repeated IsDelegation) (Then (Repeated IsLabel) (Then (Sign m.Run) (Then (Sign m.LeftBrace) (Then (Sign m.RightBrace) End)))))
 
 start_back : {a : List Token} {v : Start} {b : List Token} → IsStart a v b → (x : StartParts) × (v ≡ start_of x) × Parts a x b
-start_back (start {xs = xs} {ys = ys} n p q r s) = ((xs, (ys, (tt, (tt, (tt, tt))))), refl, record { mid = _; first = n; second = record { mid = _; first = p; second = record { mid = _; first = q; second = record { mid = _; first = r; second = record { mid = _; first = s; second = refl } } } } })
+start_back (start {xs = xs} {ys = ys} {zs = zs} n d l p q r) = ((xs, (ys, (zs, (tt, (tt, (tt, tt)))))), refl, record { mid = _; first = n; second = record { mid = _; first = d; second = record { mid = _; first = l; second = record { mid = _; first = p; second = record { mid = _; first = q; second = record { mid = _; first = r; second = refl } } } } } })
 
 pub start_start : {room : ℕ} (a : List Token) → Going IsStart any room a Parts start_of room a
-start_start {room = room} a = turn start_of (rules.start IsStart any room a) (λ more v after p. subst (λ x. IsStart more (start_of v) x) p.second.second.second.second.second (start p.first p.second.first p.second.second.first p.second.second.second.first p.second.second.second.second.first)) (λ more v after same p h. start_back p)
+start_start {room = room} a = turn start_of (rules.start IsStart any room a) (λ more v after n. let d = n.second in let l = d.second in let p = l.second in let q = p.second in let r = q.second in subst (λ x. IsStart more (start_of v) x) r.second (start n.first d.first l.first p.first q.first r.first)) (λ more v after same p h. start_back p)
 
--- what comes behind the nodes begins no node
-pub behind_nodes : {C : Type 0} {Q : List Token → C → List Token → Type 0} (more : List Token) (v : List Delegation × (Unit {0} × C)) (after : List Token) → Then (Repeated IsDelegation) (Then (Sign m.Run) Q) more v after → Follows (behind_list begins_node any) more
-behind_nodes more v after q = by more v.0 q.mid q.first q.second.first
-  where
-    a_name : (x : Kind) → IsTrue (begins_name x) → IsTrue (behind_list begins_node any x)
-    a_name (k.Name y) h = refl
-    a_name _ h = absurd (never h)
+-- what comes behind a list that may be empty may follow, where what begins an item may and what comes behind it may
+list_follows : {A : Type 0} {P : List Token → A → List Token → Type 0} (first may : Kind → Bool) → ((x : List Token) (t : A) (y : List Token) → P x t y → Starts first x) → ((k : Kind) → IsTrue (first k) → IsTrue (may k)) → (more : List Token) (v : List A) (mid : List Token) → Repeated P more v mid → Follows may mid → Follows may more
+list_follows first may begins meets more v mid no_more h = h
+list_follows first may begins meets more v mid (one_more {b = b} {x = x} p q) h = starts_follows first may meets more (begins more x b p)
 
-    by : (more : List Token) (ds : List Delegation) (mid : List Token) {b : List Token} → Repeated IsDelegation more ds mid → Is m.Run mid b → Follows (behind_list begins_node any) more
-    by more ds mid no_more i = sign_follows m.Run (behind_list begins_node any) refl i
-    by more ds mid (one_more {b = b} {x = x} p ps) i = starts_follows begins_name (behind_list begins_node any) a_name more (delegation_begins more x b p)
+-- what comes behind the delegations is a label or the run
+abbrev pub behind_delegations : Kind → Bool
+behind_delegations = behind_list begins_name any
+
+pub labels_follow : {C : Type 0} {Q : List Token → C → List Token → Type 0} (may : Kind → Bool) → ((k : Kind) → IsTrue (begins_label k) → IsTrue (may k)) → IsTrue (may (k.Fixed m.Run)) → (more : List Token) (v : List LabelText × (Unit {0} × C)) (after : List Token) → Then (Repeated IsLabel) (Then (Sign m.Run) Q) more v after → Follows may more
+labels_follow may meets run more v after q = list_follows begins_label may label_begins meets more v.0 q.mid q.first (sign_follows m.Run may run q.second.first)
+
+a_label : (x : Kind) → IsTrue (begins_label x) → IsTrue (behind_delegations x)
+a_label (k.Fixed m.Label) h = refl
+a_label _ h = absurd (never h)
+
+pub behind_them : {C : Type 0} {Q : List Token → C → List Token → Type 0} (more : List Token) (v : List LabelText × (Unit {0} × C)) (after : List Token) → Then (Repeated IsLabel) (Then (Sign m.Run) Q) more v after → Follows behind_delegations more
+behind_them = labels_follow behind_delegations a_label refl
+
+-- what comes behind the nodes is a delegation, a label or the run
+a_name : (x : Kind) → IsTrue (begins_name x) → IsTrue (behind_list begins_node any x)
+a_name (k.Name y) h = refl
+a_name _ h = absurd (never h)
+
+also_label : (x : Kind) → IsTrue (begins_label x) → IsTrue (behind_list begins_node any x)
+also_label (k.Fixed m.Label) h = refl
+also_label _ h = absurd (never h)
+
+pub behind_nodes : {C : Type 0} {Q : List Token → C → List Token → Type 0} (more : List Token) (v : List Delegation × (List LabelText × (Unit {0} × C))) (after : List Token) → Then (Repeated IsDelegation) (Then (Repeated IsLabel) (Then (Sign m.Run) Q)) more v after → Follows (behind_list begins_node any) more
+behind_nodes more v after q = list_follows begins_name (behind_list begins_node any) delegation_begins a_name more v.0 q.mid q.first (labels_follow (behind_list begins_node any) also_label refl q.mid v.1 after q.second)
 
 -- ---- where a text is refused
 

@@ -92,9 +92,26 @@ abbrev pub begins_name : Kind → Bool
 begins_name (k.Name x) = true
 begins_name _ = false
 
+-- a label
+abbrev pub begins_label : Kind → Bool
+begins_label (k.Fixed m.Label) = true
+begins_label _ = false
+
+abbrev pub is_comma : Kind → Bool
+is_comma (k.Fixed m.Comma) = true
+is_comma _ = false
+
+abbrev pub is_semicolon : Kind → Bool
+is_semicolon (k.Fixed m.Semicolon) = true
+is_semicolon _ = false
+
 -- what may follow a list whose items begin so and are followed so: nothing that begins one more
 abbrev pub behind_list : (Kind → Bool) → (Kind → Bool) → Kind → Bool
 behind_list first may kind = not (first kind) && may kind
+
+-- what may follow items with marks between them: no item, no mark
+abbrev pub behind_items : (Kind → Bool) → (Kind → Bool) → (Kind → Bool) → Kind → Bool
+behind_items first parts may kind = not (first kind) && (not (parts kind) && may kind)
 
 -- nothing may follow
 abbrev pub nothing : Kind → Bool
@@ -111,3 +128,7 @@ abbrev pub CannotOpen : Mark → ℕ → List Token → Refusal → Type 0
 CannotOpen mark room a refusal.Memory = ⊥
 CannotOpen mark room a (refusal.Syntax left) = (left ≡ length a) × Lacks mark a
 CannotOpen mark room a (refusal.Deep left) = (left ≡ length a) × (room ≡ 0) × BeginsWith mark a
+
+-- what may follow names with commas between them
+abbrev pub behind_names : Kind → Bool
+behind_names = behind_items begins_name is_comma any

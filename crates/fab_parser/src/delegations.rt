@@ -1,23 +1,13 @@
 //! Delegations.
-ghost use Rattle.std.specs.Prelude.{◌≡◌, ◌↔◌, IsTrue, MatchResult};
+ghost use Rattle.std.specs.Prelude.{◌≡◌, MatchResult};
 ghost use Rattle.fab_base.specs.Syntax.{IsDelegation};
-ghost use Rattle.fab_parser.specs.Reading.{Read, Stops, Starts, any, begins_name};
+ghost use Rattle.fab_parser.specs.Reading.{Read, Stops, any};
 
-use crate::reading::{name, next, sign};
+use crate::reading::{name, sign, starts_name};
 use crate::refusal::Refusal;
 use crate::rule::Rule;
-use fab_base::{Delegation, Kind, Mark, Token};
+use fab_base::{Delegation, Mark, Token};
 use std::alloc::Global;
-
-/// Whether a name comes next.
-fn starts_name(tokens: &[Token]) -> bool
-    ensures { IsTrue result ↔ Starts begins_name tokens.now }
-{
-    match next(tokens) {
-        None => false,
-        Some((token, _)) => matches!(token.kind, Kind::Name(_)),
-    }
-}
 
 /// A name, `actsfor`, a name and a semicolon.
 fn delegation(alloc: Global, tokens: &[Token], room: u8) -> Result<(Delegation, &[Token]), Refusal>

@@ -3,6 +3,8 @@
 
 mod delegations;
 mod error;
+mod item;
+mod labels;
 mod lexer;
 mod limits;
 mod marks;

@@ -1,7 +1,7 @@
 //! Reading marks and names from tokens: each reader takes the tokens and answers those behind.
 ghost use Rattle.std.specs.Prelude.{◌≡◌, ◌↔◌, ◌∷◌, [], ◌+◌, length, IsTrue, MatchOption, MatchResult};
 ghost use Rattle.fab_base.specs.Syntax.{Is, IsName};
-ghost use Rattle.fab_parser.specs.Reading.{Read, Stops, Lacks, CannotRead, CannotOpen, any};
+ghost use Rattle.fab_parser.specs.Reading.{Read, Stops, Starts, Lacks, CannotRead, CannotOpen, any, begins_name};
 
 use crate::refusal::Refusal;
 use fab_base::{Kind, Mark, Name, Token};
@@ -80,5 +80,15 @@ pub(crate) fn name(alloc: Global, tokens: &[Token], room: u8) -> Result<(Name, &
             }
             _ => Err(Refusal::Syntax { left: tokens.len() }),
         },
+    }
+}
+
+/// Whether a name comes next.
+pub(crate) fn starts_name(tokens: &[Token]) -> bool
+    ensures { IsTrue result ↔ Starts begins_name tokens.now }
+{
+    match next(tokens) {
+        None => false,
+        Some((token, _)) => matches!(token.kind, Kind::Name(_)),
     }
 }

@@ -8,6 +8,7 @@ ghost use Rattle.fab_parser.specs.Texts.{RefusedAt, IsLimit, OnDepthLimit};
 
 use crate::delegations::DelegationRule;
 use crate::error::ParseError;
+use crate::labels::LabelRule;
 use crate::nodes::NodeRule;
 use crate::reading::{open, sign};
 use crate::refusal::Refusal;
@@ -23,10 +24,18 @@ fn start(alloc: Global, tokens: &[Token], room: u8) -> Result<(Start, &[Token]),
 {
     let (nodes, rest) = repeated::<NodeRule>(alloc, tokens, room)?;
     let (delegations, rest) = repeated::<DelegationRule>(alloc, rest, room)?;
+    let (labels, rest) = repeated::<LabelRule>(alloc, rest, room)?;
     let rest = sign(rest, Mark::Run)?;
     let (rest, _) = open(rest, Mark::LeftBrace, room)?;
     let rest = sign(rest, Mark::RightBrace)?;
-    Ok((Start { nodes, delegations }, rest))
+    Ok((
+        Start {
+            nodes,
+            delegations,
+            labels,
+        },
+        rest,
+    ))
 }
 
 /// The bundle that these tokens stand for.

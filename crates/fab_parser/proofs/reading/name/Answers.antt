@@ -1,6 +1,7 @@
 use Rattle.fab_parser.specs.Reading.{begins_name}
+use Rattle.fab_parser.specs.Firsts.{name_begins}
 use Rattle.fab_parser.proofs.Rules.{here_at, here_end}
-use Rattle.fab_parser.proofs.NodeRules.{name_begins, name_text, no_name_begins, name_read}
+use Rattle.fab_parser.proofs.NodeRules.{name_text, no_name_begins, name_read}
 use Rattle.fab_parser.proofs.reading.name.Goals as goal
 
 pub returns-in-None : goal.returns-in-None
