@@ -1,16 +1,11 @@
 -- The grammar of what a bundle declares besides its nodes, delegations and labels: classes and roots.
 --
 -- As in the syntax of a bundle, IsX a t b says: the tokens a begin with those of t, and b is what follows.
-use Rattle.std.specs.Prelude.{◌≡◌, ℕ, List, [], ◌∷◌, ℤ, pos, negsuc, zero, suc}
-use Rattle.fab_base.specs.declared.token.Mark.{Mark}
+use Rattle.std.specs.Prelude.{◌≡◌, ℕ, List, ◌∷◌, ℤ, pos, negsuc, zero, suc}
 use Rattle.fab_base.specs.declared.token.Mark.TheVariants as m
 use Rattle.fab_base.specs.declared.token.Kind.TheVariants as k
 use Rattle.fab_base.specs.declared.token.Token.{Token}
 use Rattle.fab_base.specs.declared.start.Name.{Name}
-use Rattle.fab_base.specs.declared.start.Aspect.{Aspect}
-use Rattle.fab_base.specs.declared.start.Aspect.TheVariants as aspects
-use Rattle.fab_base.specs.declared.start.PolicyText.{PolicyText}
-use Rattle.fab_base.specs.declared.start.LabelText.{LabelText}
 use Rattle.fab_base.specs.declared.start.Sort.{Sort}
 use Rattle.fab_base.specs.declared.start.Sort.TheVariants as sorts
 use Rattle.fab_base.specs.declared.start.Field.{Field}

@@ -29,3 +29,4 @@ is_hostile (r.Store hostile) = hostile
 pub record KeepsLimits (s : Start) : Type 0 where
   pub principals : length s.nodes ≤ 64
   pub nodes : count_by (λ x. is_node x.role) s.nodes ≤ 32
+  pub labels : length s.labels ≤ 64

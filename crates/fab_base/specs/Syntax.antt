@@ -76,8 +76,8 @@ pub data IsLabel : List Token → LabelText → List Token → Type 0 where
 -- start = {node} {delegation} {label} "run" "{" "}"
 pub data IsStart : List Token → Start → List Token → Type 0 where
   start : {a b c d e f g : List Token} {xs : List Node} {ys : List Delegation} {zs : List LabelText}
-    → Repeated IsNode a xs b → Repeated IsDelegation b ys c → Repeated IsLabel c zs d → Is m.Run d e → Is m.LeftBrace e f → Is m.RightBrace f g
-    → IsStart a (record { nodes = xs; delegations = ys; labels = zs }) g
+      → Repeated IsNode a xs b → Repeated IsDelegation b ys c → Repeated IsLabel c zs d → Is m.Run d e → Is m.LeftBrace e f → Is m.RightBrace f g
+      → IsStart a (record { nodes = xs; delegations = ys; labels = zs }) g
 
 -- a whole text
 abbrev pub IsText : List Token → Start → Type 0

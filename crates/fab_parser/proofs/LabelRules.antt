@@ -10,11 +10,11 @@ use Rattle.fab_base.specs.declared.start.Aspect.{Aspect}
 use Rattle.fab_base.specs.declared.start.Aspect.TheVariants as aspects
 use Rattle.fab_base.specs.declared.start.PolicyText.{PolicyText}
 use Rattle.fab_base.specs.declared.start.LabelText.{LabelText}
-use Rattle.fab_base.specs.Syntax.{Is, is, IsName, Repeated, Behind, Separated, none, some, IsAspect, readers, writers, IsPolicy, policy, IsLabel, label}
-use Rattle.fab_parser.specs.Reading.{Lacks, BeginsWith, Starts, Follows, Read, Refused, Stops, CannotRead, any, behind_items, behind_names, begins_name, is_comma, is_semicolon}
+use Rattle.fab_base.specs.Syntax.{Is, is, IsName, Separated, none, IsAspect, readers, writers, IsPolicy, policy, IsLabel, label}
+use Rattle.fab_parser.specs.Reading.{Lacks, BeginsWith, Starts, Read, Refused, Stops, CannotRead, any, behind_items, behind_names, begins_name, is_semicolon}
 use Rattle.fab_parser.specs.declared.refusal.Refusal.{Refusal}
 use Rattle.fab_parser.specs.declared.refusal.Refusal.TheVariants as refusal
-use Rattle.fab_parser.proofs.Rules.{Then, End, Sign, HasText, Going, start, turn, ending, here, never, token_of, sign_follows}
+use Rattle.fab_parser.proofs.Rules.{Then, End, Sign, HasText, Going, start, turn, here, never, token_of}
 use Rattle.fab_parser.proofs.NodeRules.{mark_read}
 
 -- ---- aspect = "->" | "<-"

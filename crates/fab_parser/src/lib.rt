@@ -8,6 +8,7 @@ mod labels;
 mod lexer;
 mod limits;
 mod marks;
+mod names;
 mod nodes;
 mod reading;
 mod refusal;
@@ -17,5 +18,6 @@ mod words;
 
 pub use error::{LexError, ParseError};
 pub use lexer::tokens;
-pub use limits::{is_evaluated, keeps_limits, keeps_names};
+pub use limits::{is_evaluated, keeps_limits};
+pub use names::keeps_names;
 pub use text::bundle;

@@ -1,14 +1,9 @@
-//! The rules that a bundle keeps beside the grammar.
-ghost use Rattle.std.specs.Prelude.{◌≡◌, ◌≢◌, ◌↔◌, IsTrue, AllPairs, count_by};
-ghost use Rattle.std.specs.List.{list_any, list_all};
-ghost use Rattle.std.specs.Str.{bytes_eq};
+//! The counts of a bundle, and the form that is evaluated.
+ghost use Rattle.std.specs.Prelude.{◌≡◌, ◌↔◌, IsTrue, count_by};
 ghost use Rattle.fab_base.specs.Limits.{KeepsLimits, is_node, is_worker, is_store, is_hostile};
-ghost use Rattle.fab_base.specs.Names.{KeepsNames, names_of};
 ghost use Rattle.fab_base.specs.Evaluation.{IsEvaluated};
-ghost use Rattle.fab_parser.specs.Known.{knows};
 
-use crate::reading::next;
-use fab_base::{Delegation, Node, Role, Start};
+use fab_base::{Node, Role, Start};
 
 /// The most principals, workers and stores included.
 const PRINCIPALS: usize = 64;
@@ -16,11 +11,16 @@ const PRINCIPALS: usize = 64;
 /// The most workers and stores.
 const NODES: usize = 32;
 
+/// The most labels.
+const LABELS: usize = 64;
+
 /// Whether each count of the bundle is at most its limit.
 pub fn keeps_limits(start: &Start) -> bool
     ensures { IsTrue result ↔ KeepsLimits start.now }
 {
-    start.nodes.len() <= PRINCIPALS && nodes(start.nodes.as_slice()) <= NODES
+    start.nodes.len() <= PRINCIPALS
+        && nodes(start.nodes.as_slice()) <= NODES
+        && start.labels.len() <= LABELS
 }
 
 /// How many workers and stores there are.
@@ -31,48 +31,6 @@ fn nodes(nodes: &[Node]) -> usize
         .iter()
         .filter(|node| !matches!(node.role, Role::Principal))
         .count()
-}
-
-/// Whether the bundle keeps the rules of names.
-pub fn keeps_names(start: &Start) -> bool
-    ensures { IsTrue result ↔ KeepsNames start.now }
-{
-    let nodes = start.nodes.as_slice();
-    are_distinct(nodes) && are_known(nodes, start.delegations.as_slice())
-}
-
-/// Whether no two principals have one name.
-fn are_distinct(nodes: &[Node]) -> bool
-    ensures { IsTrue result ↔ AllPairs (λ x y. x ≢ y) (names_of nodes.now) }
-{
-    let mut left = nodes;
-    while let Some((first, rest)) = next(left) {
-        if is_named(rest, first.name.text.as_str()) {
-            return false;
-        }
-        left = rest;
-    }
-    true
-}
-
-/// Whether some principal has this name.
-fn is_named(nodes: &[Node], name: &str) -> bool
-    ensures { result ≡ list_any (λ x. bytes_eq x.name.text name.now) nodes.now }
-{
-    nodes.iter().any(|node| node.name.text.as_str() == name)
-}
-
-/// Whether the names of each delegation are those of principals.
-fn are_known(nodes: &[Node], delegations: &[Delegation]) -> bool
-    ensures { result ≡ list_all (knows nodes.now) delegations.now }
-{
-    delegations.iter().all(|one| is_known(nodes, one))
-}
-
-fn is_known(nodes: &[Node], one: &Delegation) -> bool
-    ensures { result ≡ knows nodes.now one.now }
-{
-    is_named(nodes, one.actor.text.as_str()) && is_named(nodes, one.principal.text.as_str())
 }
 
 /// Whether the bundle is of the form that is evaluated.

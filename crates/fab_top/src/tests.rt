@@ -45,6 +45,8 @@ fn good_texts(rt: HostRuntime) -> Result<(), Fail> {
         "// a comment\nworker w1;store s1;run{}// and one at the end",
         "worker worker1;store runs;run{}",
         "principal A;worker w1;store s1;A actsfor w1;s1 actsfor A;A actsfor A;run{}",
+        "principal A;worker w1;store s1;label L={A->w1,s1;A<-};label P={};run{}",
+        "worker w1;store s1;s1 actsfor w1;label s1={w1 <-s1 ; w1-> };run{}",
     ] {
         expect(&rt, rt.alloc(), text.as_bytes(), Status::Ok, "end\n")?;
     }
@@ -71,6 +73,16 @@ fn other_texts(rt: HostRuntime) -> Result<(), Fail> {
         "worker w1;store s1;w1 actsfor s1 run{}",
         "worker w1;store s1;w1 actsfor;run{}",
         "worker w1;w1 actsfor w1;store s1;run{}",
+        "worker w1;store s1;label L={};label L={w1->};run{}",
+        "worker w1;store s1;label L={};label M={A->};run{}",
+        "worker w1;store s1;label L={w1->s1;w1<-s1,A};run{}",
+        "worker w1;store s1;label L={w1->;};run{}",
+        "worker w1;store s1;label L={w1->s1,};run{}",
+        "worker w1;store s1;label L={w1->w1 s1};run{}",
+        "worker w1;store s1;label L={w1};run{}",
+        "worker w1;store s1;label L={w1->;run{}",
+        "worker w1;store s1;label L={}run{}",
+        "worker w1;store s1;label L={};w1 actsfor s1;run{}",
         "principal w;worker w;store s;run{}",
         "worker w1;store s1;run{",
         "worker w1;store s1;run{}}",
@@ -115,6 +127,17 @@ fn many_principals(alloc: Global, count: u32) -> Result<String, NoMemory> {
     Ok(text)
 }
 
+/// A bundle with so many labels.
+fn many_labels(alloc: Global, count: u32) -> Result<String, NoMemory> {
+    let mut text = String::from_str(alloc, "worker w1;store s1;")?;
+    for i in 0..count {
+        let line = format!(in alloc; "label l{i}={{}};")?;
+        text.push_str(line.as_str())?;
+    }
+    text.push_str("run{}")?;
+    Ok(text)
+}
+
 /// The smallest bundle, and spaces up to so many bytes.
 fn padded(alloc: Global, len: usize) -> Result<Vec<u8>, NoMemory> {
     let mut text = Vec::from_slice(alloc, SMALLEST.as_bytes())?;
@@ -138,6 +161,16 @@ fn principals_64_and_65(rt: HostRuntime) -> Result<(), Fail> {
     let text = many_principals(alloc, 64)?;
     expect(&rt, alloc, text.as_bytes(), Status::Ok, "end\n")?;
     let text = many_principals(alloc, 65)?;
+    expect(&rt, alloc, text.as_bytes(), Status::NotBuilt, "not built\n")?;
+    Ok(())
+}
+
+#[test]
+fn labels_64_and_65(rt: HostRuntime) -> Result<(), Fail> {
+    let alloc = rt.alloc();
+    let text = many_labels(alloc, 64)?;
+    expect(&rt, alloc, text.as_bytes(), Status::Ok, "end\n")?;
+    let text = many_labels(alloc, 65)?;
     expect(&rt, alloc, text.as_bytes(), Status::NotBuilt, "not built\n")?;
     Ok(())
 }

@@ -1,9 +1,9 @@
 use Rattle.std.proofs.Common.{length}
 use Rattle.fab_parser.proofs.DistinctNames.{SameAnswer}
-use Rattle.fab_parser.proofs.limits.are_distinct.Given as goal
+use Rattle.fab_parser.proofs.names.are_distinct.Given as goal
 
 abbrev pub invariant-loop-first : goal.invariant-loop-first
-invariant-loop-first l = SameAnswer l.left l.nodes
+invariant-loop-first g l = SameAnswer g.T.Named.text l.left l.items
 
 abbrev pub decreases-loop-first : goal.decreases-loop-first
-decreases-loop-first l = length l.left
+decreases-loop-first g l = length l.left
