@@ -44,6 +44,18 @@ fn fronts_of_a_journal(rt: HostRuntime) -> Result<(), Fail> {
     Ok(())
 }
 
+/// The same record with kind 9.
+const UNKNOWN: &[u8] =
+    b"\x00\x00\x00\x14\x09\x00\x00\x00\x00\x00\x01\x00\x00\x00\x01\x00\x00\x00\x01\x03\x00\x01\x00\x01";
+
+#[test]
+fn a_record_of_no_kind(rt: HostRuntime) -> Result<(), Fail> {
+    let whole = behind_header(rt.alloc(), UNKNOWN)?;
+    assert_eq!(rt; whole.len(), 32);
+    assert_eq!(rt; given(rt.alloc(), &whole)?, Err(12));
+    Ok(())
+}
+
 #[test]
 fn bad_headers(rt: HostRuntime) -> Result<(), Fail> {
     let rows: [(&[u8], u64); 4] = [
