@@ -1,15 +1,11 @@
 pub mod Arith
-pub mod Declarations
-pub mod Depth
-pub mod Evaluation
 pub mod Faults
 pub mod FieldSpelling
+pub mod FlatMap
 pub mod JournalSpelling
 pub mod Labels
-pub mod Limits
 pub mod MessageSpelling
-pub mod Names
 pub mod Principals
 pub mod Sinks
-pub mod Syntax
 pub mod Tokens
+pub mod formers

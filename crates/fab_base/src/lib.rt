@@ -3,17 +3,18 @@
 #![tactic(auto)]
 
 mod arith;
+mod boxed;
 mod entry;
 mod label;
 mod message;
 mod object;
 mod outside;
 mod seq;
-mod start;
 mod text;
 mod token;
 
 pub use arith::{java_add, java_div, java_mul, java_sub};
+pub use boxed::Boxed;
 pub use entry::Entry;
 pub use label::{Label, Policy};
 pub use message::{Answer, Items, Message, Why};
@@ -23,9 +24,5 @@ pub use outside::{
     SureSink, SureSource, sure_objects_never_fail,
 };
 pub use seq::{NoMemory, Seq};
-pub use start::{
-    Aspect, Class, Delegation, Field, Given, LabelText, Literal, Name, Node, PolicyText, Role,
-    Root, Sort, Start,
-};
 pub use text::Text;
 pub use token::{Kind, Mark, Piece, Token};

@@ -2,9 +2,9 @@
 use Rattle.std.proofs.Common.{◌≡◌, ℕ, List, refl, subst}
 use Rattle.fab_base.specs.declared.token.Mark.TheVariants as m
 use Rattle.fab_base.specs.declared.token.Token.{Token}
-use Rattle.fab_base.specs.declared.start.Name.{Name}
-use Rattle.fab_base.specs.declared.start.Delegation.{Delegation}
-use Rattle.fab_base.specs.Syntax.{IsName, IsDelegation, delegation}
+use Rattle.fab_tree.specs.declared.start.Name.{Name}
+use Rattle.fab_tree.specs.declared.start.Delegation.{Delegation}
+use Rattle.fab_tree.specs.Syntax.{IsName, IsDelegation, delegation}
 use Rattle.fab_parser.specs.Reading.{any}
 use Rattle.fab_parser.proofs.Rules.{Then, End, Sign, Going, start, turn}
 

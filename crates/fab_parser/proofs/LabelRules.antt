@@ -5,12 +5,12 @@ use Rattle.fab_base.specs.declared.token.Mark.TheVariants as m
 use Rattle.fab_base.specs.declared.token.Kind.{Kind}
 use Rattle.fab_base.specs.declared.token.Kind.TheVariants as k
 use Rattle.fab_base.specs.declared.token.Token.{Token}
-use Rattle.fab_base.specs.declared.start.Name.{Name}
-use Rattle.fab_base.specs.declared.start.Aspect.{Aspect}
-use Rattle.fab_base.specs.declared.start.Aspect.TheVariants as aspects
-use Rattle.fab_base.specs.declared.start.PolicyText.{PolicyText}
-use Rattle.fab_base.specs.declared.start.LabelText.{LabelText}
-use Rattle.fab_base.specs.Syntax.{Is, is, IsName, Separated, none, IsAspect, readers, writers, IsPolicy, policy, IsLabel, label}
+use Rattle.fab_tree.specs.declared.start.Name.{Name}
+use Rattle.fab_tree.specs.declared.start.Aspect.{Aspect}
+use Rattle.fab_tree.specs.declared.start.Aspect.TheVariants as aspects
+use Rattle.fab_tree.specs.declared.start.PolicyText.{PolicyText}
+use Rattle.fab_tree.specs.declared.start.LabelText.{LabelText}
+use Rattle.fab_tree.specs.Syntax.{Is, is, IsName, Separated, none, IsAspect, readers, writers, IsPolicy, policy, IsLabel, label}
 use Rattle.fab_parser.specs.Reading.{Lacks, BeginsWith, Starts, Read, Refused, Stops, CannotRead, any, behind_items, behind_names, begins_name, is_semicolon}
 use Rattle.fab_parser.specs.declared.refusal.Refusal.{Refusal}
 use Rattle.fab_parser.specs.declared.refusal.Refusal.TheVariants as refusal

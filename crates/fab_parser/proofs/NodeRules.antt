@@ -5,12 +5,12 @@ use Rattle.fab_base.specs.declared.token.Mark.TheVariants as m
 use Rattle.fab_base.specs.declared.token.Kind.{Kind}
 use Rattle.fab_base.specs.declared.token.Kind.TheVariants as k
 use Rattle.fab_base.specs.declared.token.Token.{Token}
-use Rattle.fab_base.specs.declared.start.Name.{Name}
-use Rattle.fab_base.specs.declared.start.Role.{Role}
-use Rattle.fab_base.specs.declared.start.Role.TheVariants as r
-use Rattle.fab_base.specs.declared.start.Node.{Node}
-use Rattle.fab_base.specs.Depth.{room_by}
-use Rattle.fab_base.specs.Syntax.{Is, is, IsName, name, IsPlace, worker, store, IsRole, principal, honest, hostile, IsNode, node}
+use Rattle.fab_tree.specs.declared.start.Name.{Name}
+use Rattle.fab_tree.specs.declared.start.Role.{Role}
+use Rattle.fab_tree.specs.declared.start.Role.TheVariants as r
+use Rattle.fab_tree.specs.declared.start.Node.{Node}
+use Rattle.fab_tree.specs.Depth.{room_by}
+use Rattle.fab_tree.specs.Syntax.{Is, is, IsName, name, IsPlace, worker, store, IsRole, principal, honest, hostile, IsNode, node}
 use Rattle.fab_parser.specs.Reading.{Lacks, BeginsWith, Starts, Read, Refused, Stops, CannotRead, any, begins_name}
 use Rattle.fab_parser.specs.declared.refusal.Refusal.{Refusal}
 use Rattle.fab_parser.specs.declared.refusal.Refusal.TheVariants as refusal

@@ -1,12 +1,12 @@
 -- What each rule that can be repeated begins with.
 use Rattle.std.proofs.Common.{IsTrue, List, refl, sym, subst}
 use Rattle.fab_base.specs.declared.token.Token.{Token}
-use Rattle.fab_base.specs.declared.start.Delegation.{Delegation}
-use Rattle.fab_base.specs.declared.start.LabelText.{LabelText}
-use Rattle.fab_base.specs.declared.start.Name.{Name}
-use Rattle.fab_base.specs.declared.start.Node.{Node}
-use Rattle.fab_base.specs.declared.start.PolicyText.{PolicyText}
-use Rattle.fab_base.specs.Syntax.{is, worker, store, principal, honest, hostile, IsNode, node, name, IsName, IsDelegation, delegation, IsPolicy, policy, IsLabel, label}
+use Rattle.fab_tree.specs.declared.start.Delegation.{Delegation}
+use Rattle.fab_tree.specs.declared.start.LabelText.{LabelText}
+use Rattle.fab_tree.specs.declared.start.Name.{Name}
+use Rattle.fab_tree.specs.declared.start.Node.{Node}
+use Rattle.fab_tree.specs.declared.start.PolicyText.{PolicyText}
+use Rattle.fab_tree.specs.Syntax.{is, worker, store, principal, honest, hostile, IsNode, node, name, IsName, IsDelegation, delegation, IsPolicy, policy, IsLabel, label}
 use Rattle.fab_parser.specs.Reading.{Starts, begins_node, begins_name, begins_label}
 
 pub node_begins : (a : List Token) (v : Node) (b : List Token) → IsNode a v b → Starts begins_node a

@@ -1,5 +1,3 @@
-pub mod Cuts
 pub mod Firsts
-pub mod Known
 pub mod Reading
 pub mod Texts

@@ -1,9 +1,9 @@
 -- Which texts are refused, and where.
 use Rattle.std.specs.Prelude.{◌≡◌, ℕ, List, [], ◌∷◌, ◌++◌, length, Some, None}
 use Rattle.fab_base.specs.declared.token.Token.{Token}
-use Rattle.fab_base.specs.declared.start.Start.{Start}
-use Rattle.fab_base.specs.Syntax.{IsText}
-use Rattle.fab_base.specs.Depth.{room_by, room_after}
+use Rattle.fab_tree.specs.declared.start.Start.{Start}
+use Rattle.fab_tree.specs.Syntax.{IsText}
+use Rattle.fab_tree.specs.Depth.{room_by, room_after}
 use Rattle.fab_parser.specs.declared.error.ParseError.{ParseError}
 use Rattle.fab_parser.specs.declared.error.ParseError.TheVariants as error
 

@@ -1,12 +1,13 @@
 //! Delegations.
 ghost use Rattle.std.specs.Prelude.{◌≡◌, MatchResult};
-ghost use Rattle.fab_base.specs.Syntax.{IsDelegation};
+ghost use Rattle.fab_tree.specs.Syntax.{IsDelegation};
 ghost use Rattle.fab_parser.specs.Reading.{Read, Stops, any};
 
 use crate::reading::{name, sign, starts_name};
 use crate::refusal::Refusal;
 use crate::rule::Rule;
-use fab_base::{Delegation, Mark, Token};
+use fab_base::{Mark, Token};
+use fab_tree::Delegation;
 use std::alloc::Global;
 
 /// A name, `actsfor`, a name and a semicolon.
@@ -25,7 +26,7 @@ pub(crate) struct DelegationRule;
 
 impl Rule for DelegationRule {
     ghost use Rattle.std.specs.Prelude.{refl};
-    ghost use Rattle.fab_base.specs.Syntax.{IsDelegation};
+    ghost use Rattle.fab_tree.specs.Syntax.{IsDelegation};
     ghost use Rattle.fab_parser.specs.Reading.{any, begins_name};
     ghost use Rattle.fab_parser.specs.Firsts.{delegation_begins};
 

@@ -1,6 +1,6 @@
 //! Lists of items with a mark between them.
 ghost use Rattle.std.specs.Prelude.{◌≡◌, ◌↔◌, IsTrue, MatchResult};
-ghost use Rattle.fab_base.specs.Syntax.{Separated};
+ghost use Rattle.fab_tree.specs.Syntax.{Separated};
 ghost use Rattle.fab_parser.specs.Reading.{Read, Stops, behind_items};
 
 use crate::reading::behind;
@@ -11,7 +11,7 @@ use std::alloc::Global;
 /// A rule of the grammar whose trees stand in lists with a mark between them.
 pub(crate) trait Item {
     ghost use Rattle.std.specs.Prelude.{List, Bool, Some, IsTrue, ℕ, ◌≡◌, ◌↔◌, MatchResult};
-    ghost use Rattle.fab_base.specs.Depth.{room_by};
+    ghost use Rattle.fab_tree.specs.Depth.{room_by};
     ghost use Rattle.fab_base.specs.declared.token.Mark.{Mark as AnyMark};
     ghost use Rattle.fab_base.specs.declared.token.Token.{Token};
     ghost use Rattle.fab_base.specs.declared.token.Kind.{Kind};

@@ -1,9 +1,9 @@
 //! The counts of a bundle, and the form that is evaluated.
 ghost use Rattle.std.specs.Prelude.{◌≡◌, ◌↔◌, IsTrue, count_by};
-ghost use Rattle.fab_base.specs.Limits.{KeepsLimits, is_node, is_worker, is_store, is_hostile};
-ghost use Rattle.fab_base.specs.Evaluation.{IsEvaluated};
+ghost use Rattle.fab_tree.specs.Limits.{KeepsLimits, is_node, is_worker, is_store, is_hostile};
+ghost use Rattle.fab_tree.specs.Evaluation.{IsEvaluated};
 
-use fab_base::{Node, Role, Start};
+use fab_tree::{Node, Role, Start};
 
 /// The most principals, workers and stores included.
 const PRINCIPALS: usize = 64;

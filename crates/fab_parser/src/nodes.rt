@@ -1,12 +1,13 @@
 //! Principals, workers and stores.
 ghost use Rattle.std.specs.Prelude.{◌≡◌, ◌↔◌, IsTrue, MatchResult};
-ghost use Rattle.fab_base.specs.Syntax.{IsPlace, IsRole, IsNode};
+ghost use Rattle.fab_tree.specs.Syntax.{IsPlace, IsRole, IsNode};
 ghost use Rattle.fab_parser.specs.Reading.{Read, Stops, Starts, BeginsWith, Lacks, any, begins_node};
 
 use crate::reading::{behind, name, next, sign};
 use crate::refusal::Refusal;
 use crate::rule::Rule;
-use fab_base::{Kind, Mark, Node, Role, Token};
+use fab_base::{Kind, Mark, Token};
+use fab_tree::{Node, Role};
 use std::alloc::Global;
 
 /// Whether a principal, a worker or a store comes next.
@@ -69,7 +70,7 @@ pub(crate) struct NodeRule;
 
 impl Rule for NodeRule {
     ghost use Rattle.std.specs.Prelude.{refl};
-    ghost use Rattle.fab_base.specs.Syntax.{IsNode};
+    ghost use Rattle.fab_tree.specs.Syntax.{IsNode};
     ghost use Rattle.fab_parser.specs.Reading.{any, begins_node};
     ghost use Rattle.fab_parser.specs.Firsts.{node_begins};
 

@@ -1,10 +1,11 @@
 //! Reading marks and names from tokens: each reader takes the tokens and answers those behind.
 ghost use Rattle.std.specs.Prelude.{◌≡◌, ◌↔◌, ◌∷◌, [], ◌+◌, length, IsTrue, MatchOption, MatchResult};
-ghost use Rattle.fab_base.specs.Syntax.{Is, IsName};
+ghost use Rattle.fab_tree.specs.Syntax.{Is, IsName};
 ghost use Rattle.fab_parser.specs.Reading.{Read, Stops, Starts, Lacks, CannotRead, CannotOpen, any, begins_name};
 
 use crate::refusal::Refusal;
-use fab_base::{Kind, Mark, Name, Token};
+use fab_base::{Kind, Mark, Token};
+use fab_tree::Name;
 use std::alloc::Global;
 
 /// The first item and those behind it.

@@ -1,8 +1,8 @@
 //! A whole bundle.
 ghost use Rattle.std.specs.Prelude.{◌≡◌, ◌<◌, ◌^◌, length, List, MatchResult, IfOk, IfErr, OnOk};
-ghost use Rattle.fab_base.specs.Syntax.{IsStart, IsText};
-ghost use Rattle.fab_base.specs.Depth.{KeepsDepth};
-ghost use Rattle.fab_base.specs.declared.start.Start.{Start as StartTree};
+ghost use Rattle.fab_tree.specs.Syntax.{IsStart, IsText};
+ghost use Rattle.fab_tree.specs.Depth.{KeepsDepth};
+ghost use Rattle.fab_tree.specs.declared.start.Start.{Start as StartTree};
 ghost use Rattle.fab_parser.specs.Reading.{Read, Stops, any};
 ghost use Rattle.fab_parser.specs.Texts.{RefusedAt, IsLimit, OnDepthLimit};
 
@@ -13,7 +13,8 @@ use crate::nodes::NodeRule;
 use crate::reading::{open, sign};
 use crate::refusal::Refusal;
 use crate::rule::repeated;
-use fab_base::{Mark, Start, Token};
+use fab_base::{Mark, Token};
+use fab_tree::Start;
 use std::alloc::Global;
 
 /// How many brackets may be open at once.

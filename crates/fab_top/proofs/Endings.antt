@@ -2,8 +2,8 @@
 use Rattle.std.proofs.Common.{◌≡◌, ◌≢◌, ◌⊎◌, inl, inr, ℕ, ◌≤◌, List, ◌++◌, length, Option, Some, None, IfSome, refl, sym, ap, ◌∙◌, subst, arith, append-nil, length-append, codes, String}
 use Rattle.std.specs.Io.KnownBytes.{Appends, IsAtEnd, Consumes}
 use Rattle.std.specs.declared.alloc.Global.{Global}
-use Rattle.fab_base.specs.declared.start.Start.{Start}
-use Rattle.fab_base.specs.Evaluation.{Spells, evaluation_text, line}
+use Rattle.fab_tree.specs.declared.start.Start.{Start}
+use Rattle.fab_tree.specs.Evaluation.{Spells, evaluation_text, line}
 use Rattle.fab_top.specs.Reply.{AskEvaluation, SpellsSome, SpellsNone, Replies, usage, evaluated, not_built, RepliesWith, Ends, Exactly, WritesEvaluation}
 use Rattle.fab_top.specs.declared.status.Status.{Status}
 use Rattle.fab_top.specs.declared.status.Status.TheVariants.{Ok, Usage, ReadFault, WriteFault, Memory, NotBuilt}

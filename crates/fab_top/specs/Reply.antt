@@ -2,8 +2,8 @@
 use Rattle.std.specs.Prelude.{◌≡◌, ◌⊎◌, ℕ, List, [], ◌∷◌, map, Option, codes, String, string_bytes}
 use Rattle.std.specs.Io.KnownBytes.{Appends, Keeps}
 use Rattle.std.specs.declared.alloc.Global.{Global}
-use Rattle.fab_base.specs.declared.start.Start.{Start}
-use Rattle.fab_base.specs.Evaluation.{Spells, evaluation_text, line}
+use Rattle.fab_tree.specs.declared.start.Start.{Start}
+use Rattle.fab_tree.specs.Evaluation.{Spells, evaluation_text, line}
 use Rattle.fab_top.specs.Reading.{ReadsText, WritesFront}
 use Rattle.fab_top.specs.declared.status.Status.{Status}
 use Rattle.fab_top.specs.declared.status.Status.TheVariants.{Ok, Usage, ReadFault, WriteFault, Memory, NotBuilt}

@@ -1,10 +1,13 @@
 //! The evaluation of a text.
 ghost use Rattle.std.specs.Prelude.{◌≡◌, IfOk, MatchOption};
-ghost use Rattle.fab_base.specs.Evaluation.{Spells, evaluation_text};
+ghost use Rattle.fab_tree.specs.Evaluation.{Spells, evaluation_text};
 ghost use Rattle.fab_top.specs.Reply.{SpellsNone};
 
-use fab_base::{NoMemory, Seq, Start};
-use fab_parser::{LexError, ParseError, bundle, is_evaluated, keeps_limits, keeps_names, tokens};
+use fab_base::{NoMemory, Seq};
+use fab_tree::Start;
+use fab_lexer::{LexError, tokens};
+use fab_names::keeps_names;
+use fab_parser::{ParseError, bundle, is_evaluated, keeps_limits};
 use std::alloc::{AllocError, Global};
 
 /// The most bytes that a text has.

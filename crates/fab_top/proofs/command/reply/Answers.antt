@@ -1,6 +1,6 @@
 use Rattle.std.proofs.Common.{◌≡◌, [], subst, false, IsTrue}
 use Rattle.std.proofs.KnownBytes.{Keeps-refl}
-use Rattle.fab_base.specs.Evaluation.{Spells}
+use Rattle.fab_tree.specs.Evaluation.{Spells}
 use Rattle.fab_top.specs.Reply.{AskEvaluation, usage, evaluated, not_built, SpellsNone}
 use Rattle.fab_top.proofs.command.reply.Goals as goal
 

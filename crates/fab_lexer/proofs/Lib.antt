@@ -1,0 +1,4 @@
+mod CutExamples
+pub mod Lexing
+pub mod PieceLemmas
+pub mod WordLemmas

@@ -1,0 +1,2 @@
+mod DeclarationExamples
+mod SyntaxExamples

@@ -1,0 +1,55 @@
+-- The grammar of what a bundle declares besides its nodes, delegations and labels: classes and roots.
+--
+-- As in the syntax of a bundle, IsX a t b says: the tokens a begin with those of t, and b is what follows.
+use Rattle.std.specs.Prelude.{◌≡◌, ℕ, List, ◌∷◌, ℤ, pos, negsuc, zero, suc}
+use Rattle.fab_base.specs.declared.token.Mark.TheVariants as m
+use Rattle.fab_base.specs.declared.token.Kind.TheVariants as k
+use Rattle.fab_base.specs.declared.token.Token.{Token}
+use Rattle.fab_tree.specs.declared.start.Name.{Name}
+use Rattle.fab_tree.specs.declared.start.Sort.{Sort}
+use Rattle.fab_tree.specs.declared.start.Sort.TheVariants as sorts
+use Rattle.fab_tree.specs.declared.start.Field.{Field}
+use Rattle.fab_tree.specs.declared.start.Class.{Class}
+use Rattle.fab_tree.specs.declared.start.Literal.{Literal}
+use Rattle.fab_tree.specs.declared.start.Literal.TheVariants as literals
+use Rattle.fab_tree.specs.declared.start.Given.{Given}
+use Rattle.fab_tree.specs.declared.start.Root.{Root}
+use Rattle.fab_tree.specs.Syntax.{Is, IsName, Repeated, Separated}
+
+-- a number behind a minus sign
+abbrev pub minus : ℕ → ℤ
+minus zero = pos 0
+minus (suc n) = negsuc n
+
+-- sort, a type = "int" | name
+pub data IsSort : List Token → Sort → List Token → Type 0 where
+  int : {a b : List Token} → Is m.Int a b → IsSort a sorts.Int b
+  class : {a b : List Token} {x : Name} → IsName a x b → IsSort a (sorts.Class x) b
+
+-- field = sort name ";"
+pub data IsField : List Token → Field → List Token → Type 0 where
+  field : {a b c d : List Token} {x : Sort} {y : Name} → IsSort a x b → IsName b y c → Is m.Semicolon c d → IsField a (record { sort = x; name = y }) d
+
+-- class = "class" name "label" name "access" name "{" {field} "}"
+pub data IsClass : List Token → Class → List Token → Type 0 where
+  class : {a b c d e f g h i j : List Token} {x y z : Name} {ws : List Field}
+      → Is m.Class a b → IsName b x c → Is m.Label c d → IsName d y e → Is m.Access e f → IsName f z g → Is m.LeftBrace g h → Repeated IsField h ws i → Is m.RightBrace i j
+      → IsClass a (record { name = x; label = y; access = z; fields = ws }) j
+
+-- literal = number | "-" number | "-" 2147483648 | "null" | name
+pub data IsLiteral : List Token → Literal → List Token → Type 0 where
+  number : {t : Token} {ts : List Token} {n : ℕ} → t.kind ≡ k.Number n → IsLiteral (t ∷ ts) (literals.Int (pos n)) ts
+  negative : {a ts : List Token} {t : Token} {n : ℕ} → Is m.Minus a (t ∷ ts) → t.kind ≡ k.Number n → IsLiteral a (literals.Int (minus n)) ts
+  least : {a ts : List Token} {t : Token} → Is m.Minus a (t ∷ ts) → t.kind ≡ k.Least → IsLiteral a (literals.Int (minus 2147483648)) ts
+  null : {a b : List Token} → Is m.Null a b → IsLiteral a literals.Null b
+  root : {a b : List Token} {x : Name} → IsName a x b → IsLiteral a (literals.Root x) b
+
+-- a literal, with its place
+pub data IsGiven : List Token → Given → List Token → Type 0 where
+  given : {t : Token} {ts b : List Token} {x : Literal} → IsLiteral (t ∷ ts) x b → IsGiven (t ∷ ts) (record { literal = x; at = t.at }) b
+
+-- root = "root" name ":" name "@" name "(" [literal {"," literal}] ")" ";"
+pub data IsRoot : List Token → Root → List Token → Type 0 where
+  root : {a b c d e f g h i j k : List Token} {x y z : Name} {ws : List Given}
+      → Is m.Root a b → IsName b x c → Is m.Colon c d → IsName d y e → Is m.At e f → IsName f z g → Is m.LeftParen g h → Separated m.Comma IsGiven h ws i → Is m.RightParen i j → Is m.Semicolon j k
+      → IsRoot a (record { name = x; class = y; store = z; values = ws }) k
