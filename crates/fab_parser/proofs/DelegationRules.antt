@@ -4,7 +4,8 @@ use Rattle.fab_base.specs.declared.token.Mark.TheVariants as m
 use Rattle.fab_base.specs.declared.token.Token.{Token}
 use Rattle.fab_tree.specs.declared.start.Name.{Name}
 use Rattle.fab_tree.specs.declared.start.Delegation.{Delegation}
-use Rattle.fab_tree.specs.Syntax.{IsName, IsDelegation, delegation}
+use Rattle.fab_tree.specs.Lists.{IsName}
+use Rattle.fab_tree.specs.Declarations.{IsDelegation, delegation}
 use Rattle.fab_parser.specs.Reading.{any}
 use Rattle.fab_parser.proofs.Rules.{Then, End, Sign, Going, start, turn}
 

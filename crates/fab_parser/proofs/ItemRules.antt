@@ -4,7 +4,7 @@ use Rattle.fab_base.specs.declared.token.Mark.{Mark}
 use Rattle.fab_base.specs.declared.token.Kind.{Kind}
 use Rattle.fab_base.specs.declared.token.Kind.TheVariants as k
 use Rattle.fab_base.specs.declared.token.Token.{Token}
-use Rattle.fab_tree.specs.Syntax.{Is, is, Repeated, no_more, one_more, Behind, behind, Separated, none, some}
+use Rattle.fab_tree.specs.Lists.{Is, is, Repeated, no_more, one_more, Behind, behind, Separated, none, some}
 use Rattle.fab_parser.specs.Reading.{Lacks, Starts, SameHead, Follows, behind_items}
 use Rattle.fab_parser.proofs.Rules.{Then, End, Sign, Going, HasText, start, turn, lacks_too, same_sign, starts_too}
 

@@ -10,7 +10,8 @@ use Rattle.fab_tree.specs.declared.start.Aspect.{Aspect}
 use Rattle.fab_tree.specs.declared.start.Aspect.TheVariants as aspects
 use Rattle.fab_tree.specs.declared.start.PolicyText.{PolicyText}
 use Rattle.fab_tree.specs.declared.start.LabelText.{LabelText}
-use Rattle.fab_tree.specs.Syntax.{Is, is, IsName, Separated, none, IsAspect, readers, writers, IsPolicy, policy, IsLabel, label}
+use Rattle.fab_tree.specs.Lists.{Is, is, IsName, Separated, none}
+use Rattle.fab_tree.specs.Declarations.{IsAspect, readers, writers, IsPolicy, policy, IsLabel, label}
 use Rattle.fab_parser.specs.Reading.{Lacks, BeginsWith, Starts, Read, Refused, Stops, CannotRead, any, behind_items, behind_names, begins_name, is_semicolon}
 use Rattle.fab_parser.specs.declared.refusal.Refusal.{Refusal}
 use Rattle.fab_parser.specs.declared.refusal.Refusal.TheVariants as refusal

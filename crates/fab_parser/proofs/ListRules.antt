@@ -3,7 +3,7 @@ use Rattle.std.proofs.Common.{◌≡◌, ℕ, Bool, true, false, not, ◌&&◌, 
 use Rattle.std.specs.Cmp.{second_so}
 use Rattle.fab_base.specs.declared.token.Kind.{Kind}
 use Rattle.fab_base.specs.declared.token.Token.{Token}
-use Rattle.fab_tree.specs.Syntax.{Repeated, no_more, one_more}
+use Rattle.fab_tree.specs.Lists.{Repeated, no_more, one_more}
 use Rattle.fab_parser.specs.Reading.{Starts, SameHead, Follows, behind_list}
 use Rattle.fab_parser.proofs.Rules.{Then, End, Going, HasText, turn}
 

@@ -10,7 +10,8 @@ use Rattle.fab_tree.specs.declared.start.Role.{Role}
 use Rattle.fab_tree.specs.declared.start.Role.TheVariants as r
 use Rattle.fab_tree.specs.declared.start.Node.{Node}
 use Rattle.fab_tree.specs.Depth.{room_by}
-use Rattle.fab_tree.specs.Syntax.{Is, is, IsName, name, IsPlace, worker, store, IsRole, principal, honest, hostile, IsNode, node}
+use Rattle.fab_tree.specs.Lists.{Is, is, IsName, name}
+use Rattle.fab_tree.specs.Declarations.{IsPlace, worker, store, IsRole, principal, honest, hostile, IsNode, node}
 use Rattle.fab_parser.specs.Reading.{Lacks, BeginsWith, Starts, Read, Refused, Stops, CannotRead, any, begins_name}
 use Rattle.fab_parser.specs.declared.refusal.Refusal.{Refusal}
 use Rattle.fab_parser.specs.declared.refusal.Refusal.TheVariants as refusal

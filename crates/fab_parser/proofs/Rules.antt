@@ -6,7 +6,7 @@ use Rattle.fab_base.specs.declared.token.Kind.TheVariants as k
 use Rattle.fab_base.specs.declared.token.Token.{Token}
 use Rattle.fab_parser.specs.declared.refusal.Refusal.{Refusal}
 use Rattle.fab_parser.specs.declared.refusal.Refusal.TheVariants as refusal
-use Rattle.fab_tree.specs.Syntax.{Is, is}
+use Rattle.fab_tree.specs.Lists.{Is, is}
 use Rattle.fab_tree.specs.Depth.{room_by, room_after}
 use Rattle.fab_parser.specs.Reading.{Lacks, BeginsWith, Starts, SameHead, Follows, Read, Refused, Deep, Stops, CannotRead, CannotOpen, any, nothing}
 

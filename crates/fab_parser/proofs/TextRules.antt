@@ -9,7 +9,9 @@ use Rattle.fab_tree.specs.declared.start.LabelText.{LabelText}
 use Rattle.fab_tree.specs.declared.start.Node.{Node}
 use Rattle.fab_tree.specs.declared.start.Start.{Start}
 use Rattle.fab_tree.specs.Depth.{room_after, room_by, KeepsDepth}
-use Rattle.fab_tree.specs.Syntax.{Repeated, no_more, one_more, IsNode, IsDelegation, IsLabel, IsStart, start}
+use Rattle.fab_tree.specs.Lists.{Repeated, no_more, one_more}
+use Rattle.fab_tree.specs.Declarations.{IsNode, IsDelegation, IsLabel}
+use Rattle.fab_tree.specs.Syntax.{IsStart, start}
 use Rattle.fab_parser.specs.Reading.{SameHead, Follows, Read, Refused, Deep, any, nothing, Starts, begins_node, begins_name, begins_label, behind_list}
 use Rattle.fab_parser.specs.Firsts.{delegation_begins, label_begins}
 use Rattle.fab_parser.proofs.ListRules.{starts_follows}

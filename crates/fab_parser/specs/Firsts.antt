@@ -6,7 +6,8 @@ use Rattle.fab_tree.specs.declared.start.LabelText.{LabelText}
 use Rattle.fab_tree.specs.declared.start.Name.{Name}
 use Rattle.fab_tree.specs.declared.start.Node.{Node}
 use Rattle.fab_tree.specs.declared.start.PolicyText.{PolicyText}
-use Rattle.fab_tree.specs.Syntax.{is, worker, store, principal, honest, hostile, IsNode, node, name, IsName, IsDelegation, delegation, IsPolicy, policy, IsLabel, label}
+use Rattle.fab_tree.specs.Lists.{is, name, IsName}
+use Rattle.fab_tree.specs.Declarations.{worker, store, principal, honest, hostile, IsNode, node, IsDelegation, delegation, IsPolicy, policy, IsLabel, label}
 use Rattle.fab_parser.specs.Reading.{Starts, begins_node, begins_name, begins_label}
 
 pub node_begins : (a : List Token) (v : Node) (b : List Token) → IsNode a v b → Starts begins_node a

@@ -5,7 +5,7 @@ use Rattle.fab_base.specs.declared.token.Mark.TheVariants as m
 use Rattle.fab_base.specs.declared.token.Kind.{Kind}
 use Rattle.fab_base.specs.declared.token.Kind.TheVariants as k
 use Rattle.fab_base.specs.declared.token.Token.{Token}
-use Rattle.fab_tree.specs.Syntax.{Is}
+use Rattle.fab_tree.specs.Lists.{Is}
 use Rattle.fab_tree.specs.Depth.{room_by, room_after}
 use Rattle.fab_parser.specs.declared.refusal.Refusal.{Refusal}
 use Rattle.fab_parser.specs.declared.refusal.Refusal.TheVariants as refusal

@@ -1,6 +1,6 @@
 //! Delegations.
 ghost use Rattle.std.specs.Prelude.{◌≡◌, MatchResult};
-ghost use Rattle.fab_tree.specs.Syntax.{IsDelegation};
+ghost use Rattle.fab_tree.specs.Declarations.{IsDelegation};
 ghost use Rattle.fab_parser.specs.Reading.{Read, Stops, any};
 
 use crate::reading::{name, sign, starts_name};
@@ -26,7 +26,7 @@ pub(crate) struct DelegationRule;
 
 impl Rule for DelegationRule {
     ghost use Rattle.std.specs.Prelude.{refl};
-    ghost use Rattle.fab_tree.specs.Syntax.{IsDelegation};
+    ghost use Rattle.fab_tree.specs.Declarations.{IsDelegation};
     ghost use Rattle.fab_parser.specs.Reading.{any, begins_name};
     ghost use Rattle.fab_parser.specs.Firsts.{delegation_begins};
 

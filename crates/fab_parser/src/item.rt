@@ -1,6 +1,6 @@
 //! Lists of items with a mark between them.
 ghost use Rattle.std.specs.Prelude.{◌≡◌, ◌↔◌, IsTrue, MatchResult};
-ghost use Rattle.fab_tree.specs.Syntax.{Separated};
+ghost use Rattle.fab_tree.specs.Lists.{Separated};
 ghost use Rattle.fab_parser.specs.Reading.{Read, Stops, behind_items};
 
 use crate::reading::behind;

@@ -1,6 +1,6 @@
 //! Labels and their policies.
 ghost use Rattle.std.specs.Prelude.{◌≡◌, ◌↔◌, IsTrue, MatchResult};
-ghost use Rattle.fab_tree.specs.Syntax.{IsAspect, IsPolicy, IsLabel};
+ghost use Rattle.fab_tree.specs.Declarations.{IsAspect, IsPolicy, IsLabel};
 ghost use Rattle.fab_parser.specs.Reading.{Read, Stops, Starts, any, begins_label, behind_names};
 
 use crate::item::{Item, separated};
@@ -17,7 +17,7 @@ struct NameItem;
 impl Item for NameItem {
     ghost use Rattle.std.specs.Prelude.{refl};
     ghost use Rattle.fab_base.specs.declared.token.Mark.TheVariants.{Comma};
-    ghost use Rattle.fab_tree.specs.Syntax.{IsName};
+    ghost use Rattle.fab_tree.specs.Lists.{IsName};
     ghost use Rattle.fab_parser.specs.Reading.{any, begins_name, is_comma};
     ghost use Rattle.fab_parser.specs.Firsts.{name_begins};
 
@@ -88,7 +88,7 @@ struct PolicyItem;
 impl Item for PolicyItem {
     ghost use Rattle.std.specs.Prelude.{refl};
     ghost use Rattle.fab_base.specs.declared.token.Mark.TheVariants.{Semicolon};
-    ghost use Rattle.fab_tree.specs.Syntax.{IsPolicy};
+    ghost use Rattle.fab_tree.specs.Declarations.{IsPolicy};
     ghost use Rattle.fab_parser.specs.Reading.{begins_name, behind_names, is_semicolon};
     ghost use Rattle.fab_parser.specs.Firsts.{policy_begins};
 
@@ -154,7 +154,7 @@ pub(crate) struct LabelRule;
 
 impl Rule for LabelRule {
     ghost use Rattle.std.specs.Prelude.{refl};
-    ghost use Rattle.fab_tree.specs.Syntax.{IsLabel};
+    ghost use Rattle.fab_tree.specs.Declarations.{IsLabel};
     ghost use Rattle.fab_parser.specs.Reading.{any, begins_label};
     ghost use Rattle.fab_parser.specs.Firsts.{label_begins};
 

@@ -1,6 +1,6 @@
 //! Principals, workers and stores.
 ghost use Rattle.std.specs.Prelude.{◌≡◌, ◌↔◌, IsTrue, MatchResult};
-ghost use Rattle.fab_tree.specs.Syntax.{IsPlace, IsRole, IsNode};
+ghost use Rattle.fab_tree.specs.Declarations.{IsPlace, IsRole, IsNode};
 ghost use Rattle.fab_parser.specs.Reading.{Read, Stops, Starts, BeginsWith, Lacks, any, begins_node};
 
 use crate::reading::{behind, name, next, sign};
@@ -70,7 +70,7 @@ pub(crate) struct NodeRule;
 
 impl Rule for NodeRule {
     ghost use Rattle.std.specs.Prelude.{refl};
-    ghost use Rattle.fab_tree.specs.Syntax.{IsNode};
+    ghost use Rattle.fab_tree.specs.Declarations.{IsNode};
     ghost use Rattle.fab_parser.specs.Reading.{any, begins_node};
     ghost use Rattle.fab_parser.specs.Firsts.{node_begins};
 

@@ -1,6 +1,6 @@
 //! Reading marks and names from tokens: each reader takes the tokens and answers those behind.
 ghost use Rattle.std.specs.Prelude.{◌≡◌, ◌↔◌, ◌∷◌, [], ◌+◌, length, IsTrue, MatchOption, MatchResult};
-ghost use Rattle.fab_tree.specs.Syntax.{Is, IsName};
+ghost use Rattle.fab_tree.specs.Lists.{Is, IsName};
 ghost use Rattle.fab_parser.specs.Reading.{Read, Stops, Starts, Lacks, CannotRead, CannotOpen, any, begins_name};
 
 use crate::refusal::Refusal;

@@ -1,6 +1,6 @@
 //! Lists of what one rule of the grammar reads.
 ghost use Rattle.std.specs.Prelude.{◌≡◌, ◌↔◌, IsTrue, MatchResult};
-ghost use Rattle.fab_tree.specs.Syntax.{Repeated};
+ghost use Rattle.fab_tree.specs.Lists.{Repeated};
 ghost use Rattle.fab_parser.specs.Reading.{Read, Stops, behind_list};
 
 use crate::refusal::Refusal;

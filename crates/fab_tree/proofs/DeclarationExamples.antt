@@ -1,6 +1,7 @@
 -- Worked examples of the grammar of declarations.
 use Rattle.std.proofs.Common.{ℕ, List, [], ◌∷◌, refl, codes, pos, negsuc}
-use Rattle.fab_tree.specs.Syntax.{Is, is, name, no_more, one_more, IsDelegation, delegation, behind, none, some, readers, writers, IsPolicy, policy, IsLabel, label}
+use Rattle.fab_tree.specs.Lists.{Is, is, name, no_more, one_more, behind, none, some}
+use Rattle.fab_tree.specs.Declarations.{IsDelegation, delegation, readers, writers, IsPolicy, policy, IsLabel, label}
 use Rattle.fab_tree.specs.Declarations.{IsLiteral, number, negative, least, null, root}
 use Rattle.fab_base.specs.declared.token.Mark.{Mark}
 use Rattle.fab_base.specs.declared.token.Mark.TheVariants as m

@@ -1,2 +1,3 @@
 mod DeclarationExamples
+mod EvaluationExamples
 mod SyntaxExamples

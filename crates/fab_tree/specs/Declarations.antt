@@ -1,11 +1,17 @@
--- The grammar of what a bundle declares besides its nodes, delegations and labels: classes and roots.
---
--- As in the syntax of a bundle, IsX a t b says: the tokens a begin with those of t, and b is what follows.
-use Rattle.std.specs.Prelude.{◌≡◌, ℕ, List, ◌∷◌, ℤ, pos, negsuc, zero, suc}
+-- The grammar of what a bundle declares: nodes, delegations, labels, classes and roots.
+use Rattle.std.specs.Prelude.{◌≡◌, ℕ, Bool, true, false, List, ◌∷◌, ℤ, pos, negsuc, zero, suc}
 use Rattle.fab_base.specs.declared.token.Mark.TheVariants as m
 use Rattle.fab_base.specs.declared.token.Kind.TheVariants as k
 use Rattle.fab_base.specs.declared.token.Token.{Token}
 use Rattle.fab_tree.specs.declared.start.Name.{Name}
+use Rattle.fab_tree.specs.declared.start.Role.{Role}
+use Rattle.fab_tree.specs.declared.start.Role.TheVariants as r
+use Rattle.fab_tree.specs.declared.start.Node.{Node}
+use Rattle.fab_tree.specs.declared.start.Delegation.{Delegation}
+use Rattle.fab_tree.specs.declared.start.Aspect.{Aspect}
+use Rattle.fab_tree.specs.declared.start.Aspect.TheVariants as aspects
+use Rattle.fab_tree.specs.declared.start.PolicyText.{PolicyText}
+use Rattle.fab_tree.specs.declared.start.LabelText.{LabelText}
 use Rattle.fab_tree.specs.declared.start.Sort.{Sort}
 use Rattle.fab_tree.specs.declared.start.Sort.TheVariants as sorts
 use Rattle.fab_tree.specs.declared.start.Field.{Field}
@@ -14,7 +20,41 @@ use Rattle.fab_tree.specs.declared.start.Literal.{Literal}
 use Rattle.fab_tree.specs.declared.start.Literal.TheVariants as literals
 use Rattle.fab_tree.specs.declared.start.Given.{Given}
 use Rattle.fab_tree.specs.declared.start.Root.{Root}
-use Rattle.fab_tree.specs.Syntax.{Is, IsName, Repeated, Separated}
+use Rattle.fab_tree.specs.Lists.{Is, IsName, Repeated, Separated}
+
+-- place = "worker" | "store", behind "hostile" or not
+pub data IsPlace : Bool → List Token → Role → List Token → Type 0 where
+  worker : {hostile : Bool} {a b : List Token} → Is m.Worker a b → IsPlace hostile a (r.Worker hostile) b
+  store : {hostile : Bool} {a b : List Token} → Is m.Store a b → IsPlace hostile a (r.Store hostile) b
+
+-- role = "principal" | ["hostile"] place
+pub data IsRole : List Token → Role → List Token → Type 0 where
+  principal : {a b : List Token} → Is m.Principal a b → IsRole a r.Principal b
+  honest : {a b : List Token} {x : Role} → IsPlace false a x b → IsRole a x b
+  hostile : {a b c : List Token} {x : Role} → Is m.Hostile a b → IsPlace true b x c → IsRole a x c
+
+-- node = role name ";"
+pub data IsNode : List Token → Node → List Token → Type 0 where
+  node : {a b c d : List Token} {x : Role} {y : Name} → IsRole a x b → IsName b y c → Is m.Semicolon c d → IsNode a (record { role = x; name = y }) d
+
+-- delegation = name "actsfor" name ";"
+pub data IsDelegation : List Token → Delegation → List Token → Type 0 where
+  delegation : {a b c d e : List Token} {x y : Name} → IsName a x b → Is m.ActsFor b c → IsName c y d → Is m.Semicolon d e → IsDelegation a (record { actor = x; principal = y }) e
+
+-- aspect = "->" | "<-"
+pub data IsAspect : List Token → Aspect → List Token → Type 0 where
+  readers : {a b : List Token} → Is m.Arrow a b → IsAspect a aspects.Confidentiality b
+  writers : {a b : List Token} → Is m.BackArrow a b → IsAspect a aspects.Integrity b
+
+-- policy = name aspect [name {"," name}]
+pub data IsPolicy : List Token → PolicyText → List Token → Type 0 where
+  policy : {a b c d : List Token} {x : Name} {y : Aspect} {zs : List Name} → IsName a x b → IsAspect b y c → Separated m.Comma IsName c zs d → IsPolicy a (record { owner = x; aspect = y; others = zs }) d
+
+-- label = "label" name "=" "{" [policy {";" policy}] "}" ";"
+pub data IsLabel : List Token → LabelText → List Token → Type 0 where
+  label : {a b c d e f g h : List Token} {x : Name} {ys : List PolicyText}
+      → Is m.Label a b → IsName b x c → Is m.Equal c d → Is m.LeftBrace d e → Separated m.Semicolon IsPolicy e ys f → Is m.RightBrace f g → Is m.Semicolon g h
+      → IsLabel a (record { name = x; policies = ys }) h
 
 -- a number behind a minus sign
 abbrev pub minus : ℕ → ℤ

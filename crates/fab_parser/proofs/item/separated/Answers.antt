@@ -1,6 +1,6 @@
 use Rattle.std.proofs.Common.{◌++◌, ◌∷◌, sym, ap, subst, ◌∙◌, append-nil, arith}
 use Rattle.std.proofs.lemmas.Result.{err_from_is_err_and}
-use Rattle.fab_tree.specs.Syntax.{Is}
+use Rattle.fab_tree.specs.Lists.{Is}
 use Rattle.fab_parser.specs.Reading.{Lacks}
 use Rattle.fab_parser.proofs.Rules.{alike, part, sign, one_more, stop_part, sign_shorter, read_shorter, not_true, whole}
 use Rattle.fab_parser.proofs.ItemRules.{no_items, first_item, next_item, last_item, items_meet, items_text}

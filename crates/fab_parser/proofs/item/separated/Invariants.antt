@@ -1,5 +1,5 @@
 use Rattle.std.proofs.Common.{◌++◌, length}
-use Rattle.fab_tree.specs.Syntax.{Repeated, Behind, Separated}
+use Rattle.fab_tree.specs.Lists.{Repeated, Behind, Separated}
 use Rattle.fab_parser.specs.Reading.{behind_items}
 use Rattle.fab_parser.proofs.Rules.{Going}
 use Rattle.fab_parser.proofs.item.separated.Given as goal

@@ -1,5 +1,5 @@
 use Rattle.std.proofs.Common.{◌++◌, length}
-use Rattle.fab_tree.specs.Syntax.{Repeated}
+use Rattle.fab_tree.specs.Lists.{Repeated}
 use Rattle.fab_parser.specs.Reading.{behind_list}
 use Rattle.fab_parser.proofs.Rules.{Going}
 use Rattle.fab_parser.proofs.rule.repeated.Given as goal
