@@ -1,5 +1,6 @@
 -- Worked examples of resolution and of the text of an evaluation.
-use Rattle.std.proofs.Common.{◌≡◌, ℕ, true, false, List, [], ◌∷◌, refl, codes, pos, negsuc, map}
+use Rattle.std.proofs.Common.{◌≡◌, ℕ, true, false, List, [], ◌∷◌, refl, codes, pos, negsuc, map, arith}
+use Rattle.std.proofs.lemmas.Fmt.{decimal_digit}
 use Rattle.fab_tree.specs.declared.start.Name.{Name}
 use Rattle.fab_tree.specs.declared.start.Role.{Role}
 use Rattle.fab_tree.specs.declared.start.Role.TheVariants as roles
@@ -41,11 +42,11 @@ bundle = record {
   delegations = [];
   labels = record { name = named (codes "L"); policies = [] } ∷ [];
   classes = class (codes "D") [] ∷ class (codes "C") (field sorts.Int (codes "n") ∷ field (sorts.Class (named (codes "D"))) (codes "d") ∷ []) ∷ [];
-  roots = root (codes "x") (codes "C") (codes "a") (literals.Int (negsuc 2147483647) ∷ literals.Null ∷ []) ∷ root (codes "y") (codes "C") (codes "b") (literals.Int (pos 7) ∷ literals.Root (named (codes "z")) ∷ []) ∷ root (codes "z") (codes "D") (codes "b") [] ∷ [];
+  roots = root (codes "x") (codes "C") (codes "a") (literals.Int (negsuc 2) ∷ literals.Null ∷ []) ∷ root (codes "y") (codes "C") (codes "b") (literals.Int (pos 7) ∷ literals.Root (named (codes "z")) ∷ []) ∷ root (codes "z") (codes "D") (codes "b") [] ∷ [];
 }
 
-by_bytes_of_names : evaluation_text (resolved bundle) ≡ codes "object b z D\nobject b y C 7 z\nobject a x C -2147483648 null\nend\n"
-by_bytes_of_names = refl
+by_bytes_of_names : evaluation_text (resolved bundle) ≡ codes "object b z D\nobject b y C 7 z\nobject a x C -3 null\nend\n"
+by_bytes_of_names = rw (decimal_digit 7 (omega arith), decimal_digit 3 (omega arith)) refl
 
 no_object : evaluation_text (resolved (record bundle { roots = [] })) ≡ codes "end\n"
 no_object = refl
