@@ -35,7 +35,7 @@ module _ (first parts may : Kind → Bool) where
   may_follow [] h = tt
   may_follow (t ∷ ts) h = the_third (first t.kind) (parts t.kind) (may t.kind) h
 
-same_starts : (first : Kind → Bool) (a more : List Token) → SameHead a more → Starts first a → Starts first more
+pub same_starts : (first : Kind → Bool) (a more : List Token) → SameHead a more → Starts first a → Starts first more
 same_starts first [] more same s = absurd s
 same_starts first (t ∷ ts) [] same s = same
 same_starts first (t ∷ ts) (u ∷ us) same s = subst (λ x. IsTrue (first x.kind)) same s

@@ -1,5 +1,5 @@
 -- What a reader of one rule of the grammar answers.
-use Rattle.std.specs.Prelude.{◌≡◌, ℕ, Bool, true, false, not, ◌&&◌, IsTrue, List, [], ◌∷◌, ◌++◌, length, Some, None}
+use Rattle.std.specs.Prelude.{◌≡◌, ℕ, Bool, true, false, not, ◌&&◌, nat_lt, IsTrue, List, [], ◌∷◌, ◌++◌, length, Some, None}
 use Rattle.fab_base.specs.declared.token.Mark.{Mark}
 use Rattle.fab_base.specs.declared.token.Mark.TheVariants as m
 use Rattle.fab_base.specs.declared.token.Kind.{Kind}
@@ -97,6 +97,41 @@ abbrev pub begins_label : Kind → Bool
 begins_label (k.Fixed m.Label) = true
 begins_label _ = false
 
+-- a class
+abbrev pub begins_class : Kind → Bool
+begins_class (k.Fixed m.Class) = true
+begins_class _ = false
+
+-- a type, and a field
+abbrev pub begins_sort : Kind → Bool
+begins_sort (k.Fixed m.Int) = true
+begins_sort (k.Name x) = true
+begins_sort _ = false
+
+-- a root
+abbrev pub begins_root : Kind → Bool
+begins_root (k.Fixed m.Root) = true
+begins_root _ = false
+
+-- a number
+abbrev pub begins_numeral : Kind → Bool
+begins_numeral (k.Number n) = nat_lt n 2147483648
+begins_numeral _ = false
+
+-- what stands behind a minus sign
+abbrev pub begins_negated : Kind → Bool
+begins_negated (k.Number n) = nat_lt n 2147483648
+begins_negated k.Least = true
+begins_negated _ = false
+
+-- a literal
+abbrev pub begins_literal : Kind → Bool
+begins_literal (k.Number n) = nat_lt n 2147483648
+begins_literal (k.Fixed m.Minus) = true
+begins_literal (k.Fixed m.Null) = true
+begins_literal (k.Name x) = true
+begins_literal _ = false
+
 abbrev pub is_comma : Kind → Bool
 is_comma (k.Fixed m.Comma) = true
 is_comma _ = false
@@ -128,6 +163,14 @@ abbrev pub CannotOpen : Mark → ℕ → List Token → Refusal → Type 0
 CannotOpen mark room a refusal.Memory = ⊥
 CannotOpen mark room a (refusal.Syntax left) = (left ≡ length a) × Lacks mark a
 CannotOpen mark room a (refusal.Deep left) = (left ≡ length a) × (room ≡ 0) × BeginsWith mark a
+
+-- what may follow fields
+abbrev pub behind_fields : Kind → Bool
+behind_fields = behind_list begins_sort any
+
+-- what may follow literals with commas between them
+abbrev pub behind_literals : Kind → Bool
+behind_literals = behind_items begins_literal is_comma any
 
 -- what may follow names with commas between them
 abbrev pub behind_names : Kind → Bool

@@ -1,6 +1,7 @@
 //! From tokens to a bundle: the grammar, and the limits that a bundle keeps.
 #![tactic(auto)]
 
+mod classes;
 mod delegations;
 mod error;
 mod item;
@@ -9,6 +10,7 @@ mod limits;
 mod nodes;
 mod reading;
 mod refusal;
+mod roots;
 mod rule;
 mod text;
 

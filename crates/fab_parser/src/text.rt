@@ -6,12 +6,14 @@ ghost use Rattle.fab_tree.specs.declared.start.Start.{Start as StartTree};
 ghost use Rattle.fab_parser.specs.Reading.{Read, Stops, any};
 ghost use Rattle.fab_parser.specs.Texts.{RefusedAt, IsLimit, OnDepthLimit};
 
+use crate::classes::ClassRule;
 use crate::delegations::DelegationRule;
 use crate::error::ParseError;
 use crate::labels::LabelRule;
 use crate::nodes::NodeRule;
 use crate::reading::{open, sign};
 use crate::refusal::Refusal;
+use crate::roots::RootRule;
 use crate::rule::repeated;
 use fab_base::{Mark, Token};
 use fab_tree::Start;
@@ -20,20 +22,25 @@ use std::alloc::Global;
 /// How many brackets may be open at once.
 const DEPTH: u8 = 64;
 
+/// Nodes, delegations, labels and classes, and a run with its roots.
 fn start(alloc: Global, tokens: &[Token], room: u8) -> Result<(Start, &[Token]), Refusal>
     ensures { MatchResult result (λ x. Read IsStart any room tokens.now x.0 x.1.now) (λ e. Stops IsStart any room tokens.now e) }
 {
     let (nodes, rest) = repeated::<NodeRule>(alloc, tokens, room)?;
     let (delegations, rest) = repeated::<DelegationRule>(alloc, rest, room)?;
     let (labels, rest) = repeated::<LabelRule>(alloc, rest, room)?;
+    let (classes, rest) = repeated::<ClassRule>(alloc, rest, room)?;
     let rest = sign(rest, Mark::Run)?;
-    let (rest, _) = open(rest, Mark::LeftBrace, room)?;
+    let (rest, inner) = open(rest, Mark::LeftBrace, room)?;
+    let (roots, rest) = repeated::<RootRule>(alloc, rest, inner)?;
     let rest = sign(rest, Mark::RightBrace)?;
     Ok((
         Start {
             nodes,
             delegations,
             labels,
+            classes,
+            roots,
         },
         rest,
     ))

@@ -1,5 +1,5 @@
 -- The grammar of what a bundle declares: nodes, delegations, labels, classes and roots.
-use Rattle.std.specs.Prelude.{◌≡◌, ℕ, Bool, true, false, List, ◌∷◌, ℤ, pos, negsuc, zero, suc}
+use Rattle.std.specs.Prelude.{◌≡◌, ◌<◌, ℕ, Bool, true, false, List, ◌∷◌, ℤ, pos, negsuc, zero, suc}
 use Rattle.fab_base.specs.declared.token.Mark.TheVariants as m
 use Rattle.fab_base.specs.declared.token.Kind.TheVariants as k
 use Rattle.fab_base.specs.declared.token.Token.{Token}
@@ -76,11 +76,19 @@ pub data IsClass : List Token → Class → List Token → Type 0 where
       → Is m.Class a b → IsName b x c → Is m.Label c d → IsName d y e → Is m.Access e f → IsName f z g → Is m.LeftBrace g h → Repeated IsField h ws i → Is m.RightBrace i j
       → IsClass a (record { name = x; label = y; access = z; fields = ws }) j
 
--- literal = number | "-" number | "-" 2147483648 | "null" | name
+-- numeral = number, one that has 31 bits, as every number of a text
+pub data IsNumeral : List Token → ℕ → List Token → Type 0 where
+  numeral : {t : Token} {ts : List Token} {n : ℕ} → t.kind ≡ k.Number n → n < 2147483648 → IsNumeral (t ∷ ts) n ts
+
+-- negated = number | 2147483648, behind a minus sign
+pub data IsNegated : List Token → ℤ → List Token → Type 0 where
+  negative : {a b : List Token} {n : ℕ} → IsNumeral a n b → IsNegated a (minus n) b
+  least : {t : Token} {ts : List Token} → t.kind ≡ k.Least → IsNegated (t ∷ ts) (minus 2147483648) ts
+
+-- literal = number | "-" negated | "null" | name
 pub data IsLiteral : List Token → Literal → List Token → Type 0 where
-  number : {t : Token} {ts : List Token} {n : ℕ} → t.kind ≡ k.Number n → IsLiteral (t ∷ ts) (literals.Int (pos n)) ts
-  negative : {a ts : List Token} {t : Token} {n : ℕ} → Is m.Minus a (t ∷ ts) → t.kind ≡ k.Number n → IsLiteral a (literals.Int (minus n)) ts
-  least : {a ts : List Token} {t : Token} → Is m.Minus a (t ∷ ts) → t.kind ≡ k.Least → IsLiteral a (literals.Int (minus 2147483648)) ts
+  number : {a b : List Token} {n : ℕ} → IsNumeral a n b → IsLiteral a (literals.Int (pos n)) b
+  negated : {a b c : List Token} {n : ℤ} → Is m.Minus a b → IsNegated b n c → IsLiteral a (literals.Int n) c
   null : {a b : List Token} → Is m.Null a b → IsLiteral a literals.Null b
   root : {a b : List Token} {x : Name} → IsName a x b → IsLiteral a (literals.Root x) b
 
