@@ -1,5 +1,5 @@
 //! Values and objects.
-ghost use Rattle.std.specs.Prelude.{◌≡◌, ◌++◌, ◌∷◌, [], ◌×◌, OnOk, IfOk, map};
+ghost use Rattle.std.specs.Prelude.{◌≡◌, ◌++◌, ◌∷◌, [], OnOk, IfOk, map};
 ghost use Rattle.std.specs.Fmt.{signed_decimal};
 ghost use Rattle.fab_tree.specs.Evaluation.{value_text, spaced, object_line, objects_text};
 ghost use Rattle.fab_forms.specs.Numbered.{AreNumbered};

@@ -9,9 +9,9 @@ use Rattle.fab_tree.specs.declared.start.Field.{Field}
 use Rattle.fab_tree.specs.declared.start.Class.{Class}
 use Rattle.fab_tree.specs.Lists.{Is, is, IsName, name, Repeated}
 use Rattle.fab_tree.specs.Declarations.{IsSort, int, class, IsField, field, IsClass}
-use Rattle.fab_parser.specs.Reading.{Lacks, BeginsWith, Read, any}
-use Rattle.fab_parser.proofs.Rules.{Then, End, Sign, HasText, Going, start, turn, token_of, lacks_too}
-use Rattle.fab_parser.proofs.NodeRules.{mark_read}
+use Rattle.fab_reading.specs.Reading.{Lacks, BeginsWith, Read, any}
+use Rattle.fab_reading.proofs.Rules.{Then, End, Sign, HasText, Going, start, turn, token_of, lacks_too}
+use Rattle.fab_reading.proofs.TokenRules.{mark_read}
 
 -- ---- sort = "int" | name
 

@@ -1,21 +1,16 @@
 -- What each rule that can be repeated begins with.
-use Rattle.std.proofs.Common.{ℕ, ℤ, ◌<◌, nat_lt, IsTrue, List, refl, sym, subst}
-use Rattle.std.proofs.lemmas.Bool.{lt-ltb}
+use Rattle.std.proofs.Common.{IsTrue, List, refl, sym, subst}
 use Rattle.fab_base.specs.declared.token.Token.{Token}
 use Rattle.fab_tree.specs.declared.start.Delegation.{Delegation}
 use Rattle.fab_tree.specs.declared.start.LabelText.{LabelText}
-use Rattle.fab_tree.specs.declared.start.Name.{Name}
 use Rattle.fab_tree.specs.declared.start.Node.{Node}
 use Rattle.fab_tree.specs.declared.start.PolicyText.{PolicyText}
 use Rattle.fab_tree.specs.declared.start.Sort.{Sort}
 use Rattle.fab_tree.specs.declared.start.Field.{Field}
 use Rattle.fab_tree.specs.declared.start.Class.{Class}
-use Rattle.fab_tree.specs.declared.start.Literal.{Literal}
-use Rattle.fab_tree.specs.declared.start.Given.{Given}
-use Rattle.fab_tree.specs.declared.start.Root.{Root}
-use Rattle.fab_tree.specs.Lists.{is, name, IsName}
-use Rattle.fab_tree.specs.Declarations.{worker, store, principal, honest, hostile, IsNode, node, IsDelegation, delegation, IsPolicy, policy, IsLabel, label, IsSort, int, class, IsField, field, IsClass, IsNumeral, numeral, IsNegated, negative, least, IsLiteral, number, negated, null, root, IsGiven, given, IsRoot}
-use Rattle.fab_parser.specs.Reading.{Starts, begins_node, begins_name, begins_label, begins_class, begins_sort, begins_root, begins_literal, begins_numeral, begins_negated}
+use Rattle.fab_tree.specs.Lists.{is, name}
+use Rattle.fab_tree.specs.Declarations.{worker, store, principal, honest, hostile, IsNode, node, IsDelegation, delegation, IsPolicy, policy, IsLabel, label, IsSort, int, class, IsField, field, IsClass}
+use Rattle.fab_reading.specs.Reading.{Starts, begins_node, begins_name, begins_label, begins_class, begins_sort}
 
 pub node_begins : (a : List Token) (v : Node) (b : List Token) → IsNode a v b → Starts begins_node a
 node_begins a v b (node (principal (is e)) q r) = subst (λ x. IsTrue (begins_node x)) (sym e) refl
@@ -25,9 +20,6 @@ node_begins a v b (node (hostile (is e) p) q r) = subst (λ x. IsTrue (begins_no
 
 pub delegation_begins : (a : List Token) (v : Delegation) (b : List Token) → IsDelegation a v b → Starts begins_name a
 delegation_begins a v b (delegation (name e) p q r) = subst (λ x. IsTrue (begins_name x)) (sym e) refl
-
-pub name_begins : (a : List Token) (v : Name) (b : List Token) → IsName a v b → Starts begins_name a
-name_begins a v b (name e) = subst (λ x. IsTrue (begins_name x)) (sym e) refl
 
 pub policy_begins : (a : List Token) (v : PolicyText) (b : List Token) → IsPolicy a v b → Starts begins_name a
 policy_begins a v b (policy (name e) p q) = subst (λ x. IsTrue (begins_name x)) (sym e) refl
@@ -44,25 +36,3 @@ field_begins a v b (field p q r) = sort_begins a _ _ p
 
 pub class_begins : (a : List Token) (v : Class) (b : List Token) → IsClass a v b → Starts begins_class a
 class_begins a v b (class (is e) p q r s t u w x) = subst (λ x. IsTrue (begins_class x)) (sym e) refl
-
-small : (n : ℕ) → n < 2147483648 → IsTrue (nat_lt n 2147483648)
-small n h = lt-ltb n 2147483648 h
-
-pub numeral_begins : (a : List Token) (v : ℕ) (b : List Token) → IsNumeral a v b → Starts begins_numeral a
-numeral_begins a v b (numeral e h) = subst (λ x. IsTrue (begins_numeral x)) (sym e) (small v h)
-
-pub negated_begins : (a : List Token) (v : ℤ) (b : List Token) → IsNegated a v b → Starts begins_negated a
-negated_begins a v b (negative (numeral {n = n} e h)) = subst (λ x. IsTrue (begins_negated x)) (sym e) (small n h)
-negated_begins a v b (least e) = subst (λ x. IsTrue (begins_negated x)) (sym e) refl
-
-pub literal_begins : (a : List Token) (v : Literal) (b : List Token) → IsLiteral a v b → Starts begins_literal a
-literal_begins a v b (number (numeral {n = n} e h)) = subst (λ x. IsTrue (begins_literal x)) (sym e) (small n h)
-literal_begins a v b (negated (is e) p) = subst (λ x. IsTrue (begins_literal x)) (sym e) refl
-literal_begins a v b (null (is e)) = subst (λ x. IsTrue (begins_literal x)) (sym e) refl
-literal_begins a v b (root (name e)) = subst (λ x. IsTrue (begins_literal x)) (sym e) refl
-
-pub given_begins : (a : List Token) (v : Given) (b : List Token) → IsGiven a v b → Starts begins_literal a
-given_begins a v b (given p) = literal_begins a _ b p
-
-pub root_begins : (a : List Token) (v : Root) (b : List Token) → IsRoot a v b → Starts begins_root a
-root_begins a v b (root (is e) p q r s t u w x y) = subst (λ x. IsTrue (begins_root x)) (sym e) refl

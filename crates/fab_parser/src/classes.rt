@@ -1,17 +1,15 @@
 //! Classes and their fields.
 ghost use Rattle.std.specs.Prelude.{◌≡◌, ◌↔◌, IsTrue, MatchResult};
 ghost use Rattle.fab_tree.specs.Declarations.{IsSort, IsField, IsClass};
-ghost use Rattle.fab_parser.specs.Reading.{Read, Stops, Starts, any, begins_sort, begins_class};
+ghost use Rattle.fab_reading.specs.Reading.{Read, Stops, Starts, any, begins_sort, begins_class};
 
-use crate::reading::{behind, name, next, open, sign};
-use crate::refusal::Refusal;
-use crate::rule::{Rule, repeated};
 use fab_base::{Kind, Mark, Token};
+use fab_reading::{Refusal, Rule, behind, name, next, open, repeated, sign};
 use fab_tree::{Class, Field, Sort};
 use std::alloc::Global;
 
 /// A type.
-pub(crate) fn sort(alloc: Global, tokens: &[Token], room: u8) -> Result<(Sort, &[Token]), Refusal>
+pub fn sort(alloc: Global, tokens: &[Token], room: u8) -> Result<(Sort, &[Token]), Refusal>
     ensures { MatchResult result (λ x. Read IsSort any room tokens.now x.0 x.1.now) (λ e. Stops IsSort any room tokens.now e) }
 {
     match behind(tokens, Mark::Int) {
@@ -24,7 +22,7 @@ pub(crate) fn sort(alloc: Global, tokens: &[Token], room: u8) -> Result<(Sort, &
 }
 
 /// Whether a type comes next.
-pub(crate) fn starts_sort(tokens: &[Token]) -> bool
+pub fn starts_sort(tokens: &[Token]) -> bool
     ensures { IsTrue result ↔ Starts begins_sort tokens.now }
 {
     match next(tokens) {
@@ -49,7 +47,7 @@ struct FieldRule;
 impl Rule for FieldRule {
     ghost use Rattle.std.specs.Prelude.{refl};
     ghost use Rattle.fab_tree.specs.Declarations.{IsField};
-    ghost use Rattle.fab_parser.specs.Reading.{any, begins_sort};
+    ghost use Rattle.fab_reading.specs.Reading.{any, begins_sort};
     ghost use Rattle.fab_parser.specs.Firsts.{field_begins};
 
     type Tree = Field;
@@ -106,12 +104,12 @@ fn class(alloc: Global, tokens: &[Token], room: u8) -> Result<(Class, &[Token]),
 }
 
 /// The rule of one class.
-pub(crate) struct ClassRule;
+pub struct ClassRule;
 
 impl Rule for ClassRule {
     ghost use Rattle.std.specs.Prelude.{refl};
     ghost use Rattle.fab_tree.specs.Declarations.{IsClass};
-    ghost use Rattle.fab_parser.specs.Reading.{any, begins_class};
+    ghost use Rattle.fab_reading.specs.Reading.{any, begins_class};
     ghost use Rattle.fab_parser.specs.Firsts.{class_begins};
 
     type Tree = Class;

@@ -1,10 +1,10 @@
 use Rattle.std.proofs.Common.{refl}
 use Rattle.std.proofs.lemmas.Result.{err_from_is_err_and}
 use Rattle.fab_base.specs.declared.token.Mark.TheVariants as m
-use Rattle.fab_parser.specs.Reading.{any, behind_fields}
-use Rattle.fab_parser.proofs.Rules.{sign, part, any_follows, sign_follows, end_text, sign_text, then_text, stop_part, stop_sign, stop_open, opened, closed, whole}
-use Rattle.fab_parser.proofs.NodeRules.{name_text}
-use Rattle.fab_parser.proofs.ListRules.{repeated_text}
+use Rattle.fab_reading.specs.Reading.{any, behind_fields}
+use Rattle.fab_reading.proofs.Rules.{sign, part, any_follows, sign_follows, end_text, sign_text, then_text, stop_part, stop_sign, stop_open, opened, closed, whole}
+use Rattle.fab_reading.proofs.TokenRules.{name_text}
+use Rattle.fab_reading.proofs.ListRules.{repeated_text}
 use Rattle.fab_parser.proofs.ClassRules.{class_start}
 use Rattle.fab_parser.proofs.classes.class.Goals as goal
 

@@ -1,6 +1,6 @@
 use Rattle.std.proofs.lemmas.Result.{err_from_is_err_and}
-use Rattle.fab_parser.specs.Reading.{any}
-use Rattle.fab_parser.proofs.Rules.{part, ending, end_meets, end_text, stop_part, whole}
+use Rattle.fab_reading.specs.Reading.{any}
+use Rattle.fab_reading.proofs.Rules.{part, ending, end_meets, end_text, stop_part, whole}
 use Rattle.fab_parser.proofs.ClassRules.{int_read, named_start}
 use Rattle.fab_parser.proofs.classes.sort.Goals as goal
 
