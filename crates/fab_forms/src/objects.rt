@@ -47,9 +47,11 @@ fn put_values(
     requires { AreNumbered start.now.roots }
     ensures { OnOk result (out.new ≡ out.old ++ spaced (map (value_text start.now) values.now)) }
 {
-    'values: for value in values {
+    let mut rest = values;
+    'values: while let Some((value, after)) = rest.split_first() {
         out.push(b' ')?;
         put_value(alloc, out, start, *value)?;
+        rest = after;
     }
     Ok(())
 }
@@ -83,8 +85,10 @@ pub fn put_objects(
     requires { AreNumbered start.now.roots }
     ensures { OnOk result (out.new ≡ out.old ++ objects_text start.now rows.now) }
 {
-    'rows: for row in rows {
+    let mut rest = rows;
+    'rows: while let Some((row, after)) = rest.split_first() {
         put_object(alloc, out, start, row)?;
+        rest = after;
     }
     Ok(())
 }
