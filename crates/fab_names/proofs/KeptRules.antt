@@ -237,10 +237,15 @@ module _ (s : Start) where
   made None d m e = absurd (cc)
   made (Some x) d m e = (cc (m.0), m.1)
 
-  pub answer_made : (o : Option Start) (d : Start) (b : Bool) → Made s o → o ≡ Some d → b ≡ (declares_once d && knows_all d) → (IsTrue b ↔ KeepsNames s)
-  answer_made o d b m e h = let r = made o d m e in answer s b r.1 (h ∙ ap (λ x. declares_once x && knows_all x) r.0)
+  -- the other rules are kept
+  pub kept : (o : Option Start) (d : Start) (b : Bool) → Made s o → o ≡ Some d → b ≡ (declares_once d && knows_all d) → b ≡ true → KeepsNames s × (d ≡ s)
+  kept o d b m e h t = let r = made o d m e in ((answer s b r.1 (h ∙ ap (λ x. declares_once x && knows_all x) r.0)).0 t, r.0)
+
+  -- or not
+  pub not_kept : (o : Option Start) (d : Start) (b : Bool) → Made s o → o ≡ Some d → b ≡ (declares_once d && knows_all d) → b ≡ false → KeepsNames s → ⊥
+  not_kept o d b m e h f k = let r = made o d m e in let t = (answer s b r.1 (h ∙ ap (λ x. declares_once x && knows_all x) r.0)).1 k in cc (t, f)
 
   -- there is none, as two roots have one name
-  pub answer_none : (o : Option Start) → Made s o → o ≡ None → KeepsNames s → ⊥
-  answer_none (Some x) m e k = absurd (cc)
-  answer_none None m e k = let once = once_from s k in cc
+  pub no_table : (o : Option Start) → Made s o → o ≡ None → KeepsNames s → ⊥
+  no_table (Some x) m e k = absurd (cc)
+  no_table None m e k = let once = once_from s k in cc

@@ -1,11 +1,12 @@
 -- Names that are declared once, names that are declared at all, and their numbers.
-use Rattle.std.proofs.Common.{◌≡◌, ◌≢◌, ℕ, zero, suc, ◌<◌, ◌≤◌, Bool, true, false, cond, not, ◌||◌, List, [], ◌∷◌, ◌++◌, length, get_or, map, ltb-false, Some, None, slice_get, refl, sym, ap, ◌∙◌, arith, ◌⊎◌, inl, inr, if◌then◌else◌}
+use Rattle.std.proofs.Common.{◌≡◌, ◌≢◌, ℕ, zero, suc, ◌<◌, ◌≤◌, Bool, true, false, cond, not, ◌||◌, List, [], ◌∷◌, ◌++◌, length, get_or, map, filter, count_by, ltb-false, Some, None, slice_get, refl, sym, ap, ◌∙◌, arith, ◌⊎◌, inl, inr, if◌then◌else◌}
 use Rattle.std.specs.Prelude.{All, Contains, ◌&&◌, ◌↔◌, nat_lt}
 use Rattle.std.specs.List.{list_all, list_any, position, position_or_len}
 use Rattle.std.specs.Option.{unwrap_or}
 use Rattle.std.specs.Str.{bytes_eq}
 use Rattle.std.proofs.lemmas.Slice.Eq.{bytes_eq-Decides}
 use Rattle.std.proofs.lemmas.List.Kept.{AllPairs-cons}
+use Rattle.std.proofs.lemmas.List.Sums.{length-filter}
 use Rattle.std.proofs.lemmas.List.Recursion.{is_position_or_len}
 use Rattle.fab_tree.specs.Names.{Distinct}
 use Rattle.fab_tree.specs.Resolution.{number_of}
@@ -236,3 +237,9 @@ module _ {A : Type 0} (p : A → Bool) (xs : List A) where
 
   pub place_or_length : {n : ℕ} → position_or_len p xs ≡ n → n ≤ length xs → unwrap_or (position p xs) (length xs) ≡ n
   place_or_length e within = place_else (position_or_len p xs) (omega (arith, e, within)) ∙ e
+
+-- the same among those that pass another test, of which there are so many
+pub place_among : {A : Type 0} (text : A → List ℕ) (q : A → Bool) (xs : List A) (name : List ℕ) → unwrap_or (position (λ x. bytes_eq (text x) name) (filter q xs)) (count_by q xs) ≡ number_of text (filter q xs) name
+place_among text q xs name =
+    ap (unwrap_or (position (λ x. bytes_eq (text x) name) (filter q xs))) (sym (length-filter q xs))
+    ∙ place_or_length (λ x. bytes_eq (text x) name) (filter q xs) (first_place text name (λ x. bytes_eq (text x) name) (λ x. refl) (filter q xs)) (number_within text (filter q xs) name)

@@ -1,5 +1,5 @@
 //! What a bundle declares, with the names of its roots in a table.
-ghost use Rattle.std.specs.Prelude.{◌≡◌, true, false, IfOk, MatchOption, option_copied, slice_get};
+ghost use Rattle.std.specs.Prelude.{◌≡◌, ◌≤◌, true, false, length, IfOk, MatchOption, option_copied, slice_get};
 ghost use Rattle.fab_tree.specs.Names.{root_name};
 ghost use Rattle.fab_tree.specs.Resolution.{number_of};
 ghost use Rattle.fab_names.specs.Known.{is_distinct};
@@ -53,7 +53,8 @@ impl<'a> Declared<'a> {
 
     /// The number of the root of this name, or how many roots there are where none has it.
     pub(crate) fn root_number(&self, name: &Name) -> usize
-        ensures { result ≡ number_of root_name self.now.roots name.now.text }
+        ensures number { result ≡ number_of root_name self.now.roots name.now.text }
+        ensures within { result ≤ length self.now.roots }
     {
         self.roots
             .get_index_of(name.text.as_str())

@@ -3,7 +3,11 @@
 
 mod declared;
 mod named;
+mod numbered;
+mod numbers;
+mod resolution;
 mod rules;
 mod types;
 
+pub use resolution::resolve;
 pub use rules::keeps_names;

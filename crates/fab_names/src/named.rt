@@ -1,11 +1,13 @@
 //! What is declared with a name, of whatever kind.
-ghost use Rattle.std.specs.Prelude.{◌≡◌, ◌↔◌, ◌≤◌, ◌<◌, ◌∷◌, [], true, length, MatchOption};
+ghost use Rattle.std.specs.Prelude.{◌≡◌, ◌↔◌, ◌≤◌, ◌<◌, ◌∷◌, [], true, length, IfOk, MatchOption};
 ghost use Rattle.std.specs.List.{position};
 ghost use Rattle.std.specs.Str.{bytes_eq};
 ghost use Rattle.fab_tree.specs.Resolution.{number_of};
 ghost use Rattle.fab_names.specs.Known.{is_among, is_distinct};
 
-use fab_tree::{Class, Field, LabelText, Node};
+use fab_base::NoMemory;
+use fab_tree::{Class, Field, LabelText, Name, Node};
+use std::alloc::Global;
 
 /// What is declared with a name.
 pub(crate) trait Named {
@@ -99,4 +101,14 @@ fn place_of<T: Named>(items: &[T], name: &str) -> Option<usize>
     ensures { result ≡ position (λ x. bytes_eq (T.text x) name.now) items.now }
 {
     items.iter().position(|item| item.text() == name)
+}
+
+/// The same name again, at the same place.
+pub(crate) fn copied(alloc: Global, name: &Name) -> Result<Name, NoMemory>
+    ensures { IfOk result (λ n. n ≡ name.now) }
+{
+    Ok(Name {
+        text: name.text.copy(alloc)?,
+        at: name.at,
+    })
 }

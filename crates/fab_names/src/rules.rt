@@ -1,5 +1,5 @@
 //! The rules of names.
-ghost use Rattle.std.specs.Prelude.{◌≡◌, ◌↔◌, ◌&&◌, IfOk, IsTrue};
+ghost use Rattle.std.specs.Prelude.{◌≡◌, ◌↔◌, ◌&&◌, IfOk, IsTrue, MatchOption};
 ghost use Rattle.std.specs.List.{list_all};
 ghost use Rattle.fab_tree.specs.Names.{KeepsNames, node_name};
 ghost use Rattle.fab_names.specs.Known.{is_among, knows, knows_policy, knows_label, knows_class, declares_once, knows_all};
@@ -14,15 +14,25 @@ use std::alloc::Global;
 pub fn keeps_names(alloc: Global, start: &Start) -> Result<bool, NoMemory>
     ensures { IfOk result (λ b. IsTrue b ↔ KeepsNames start.now) }
 {
-    match Declared::make(alloc, start)? {
-        Some(declared) => Ok(declared.keeps_names()),
-        None => Ok(false),
-    }
+    Ok(Declared::kept(alloc, start)?.is_some())
 }
 
-impl Declared<'_> {
-    /// Whether the bundle keeps the rules of names, as no two of its roots have one name.
-    pub(crate) fn keeps_names(&self) -> bool
+impl<'a> Declared<'a> {
+    /// What a bundle declares, if it keeps the rules of names.
+    pub(crate) fn kept(alloc: Global, start: &'a Start) -> Result<Option<Declared<'a>>, NoMemory>
+        ensures { IfOk result (λ o. MatchOption o (¬ KeepsNames start.now) (λ d. KeepsNames start.now × (d ≡ start.now))) }
+    {
+        let Some(declared) = Declared::make(alloc, start)? else {
+            return Ok(None);
+        };
+        if !declared.keeps_others() {
+            return Ok(None);
+        }
+        Ok(Some(declared))
+    }
+
+    /// Whether the bundle keeps the rules of names but the one on names of roots.
+    fn keeps_others(&self) -> bool
         ensures { result ≡ (declares_once self.now && knows_all self.now) }
     {
         self.are_declared_once() && self.are_all_known()
