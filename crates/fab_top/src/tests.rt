@@ -2,7 +2,9 @@
 ghost use Rattle.std.specs.Prelude.{Some};
 
 use crate::{Status, fab};
-use fab_base::{Failed, MemSink, MemSource, NoMemory, Seq, Sink, SinkError, Source, SureSink, SureSource};
+use fab_base::{
+    Failed, MemSink, MemSource, NoMemory, Seq, Sink, SinkError, Source, SureSink, SureSource,
+};
 use std::alloc::Global;
 use std::process::Abort;
 use std::test::Fail;
