@@ -18,7 +18,7 @@ pub use boxed::Boxed;
 pub use entry::Entry;
 pub use label::{Label, Policy};
 pub use message::{Answer, Items, Message, Why};
-pub use object::{Object, ObjectMap, Oid, Stop, Tid, Value};
+pub use object::{Object, Oid, Stop, Tid, Value};
 pub use outside::{
     Failed, FailingCalls, MemSink, MemSource, Sink, SinkError, Source, StdSink, StdSource,
     SureSink, SureSource, sure_objects_never_fail,

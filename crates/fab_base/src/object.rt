@@ -41,12 +41,6 @@ pub struct Object {
     pub fields: Seq<Value>,
 }
 
-/// Objects by name.
-#[derive(Debug, Drop)]
-pub struct ObjectMap {
-    pub rows: Seq<(Oid, Object)>,
-}
-
 /// At which limit an evaluation was stopped: 1,000,000 of fuel, 64 calls deep, 1,024 objects
 /// touched, 256 objects written or made.
 #[derive(Clone, Copy, Debug, PartialEq, Eq)]
