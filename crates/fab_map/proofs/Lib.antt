@@ -1,2 +1,4 @@
+pub mod Found
+pub mod Made
 pub mod Order
 pub mod Rows

@@ -1,8 +1,8 @@
 -- The order of names: that it is total, and that names which it doesn't tell apart are one.
-use Rattle.std.proofs.Common.{◌≡◌, ℕ, Bool, true, false, nat_eq, List, [], ◌∷◌, length, get_or, refl, sym, ◌∙◌, ap, inl, inr, ◌⊎◌, arith}
+use Rattle.std.proofs.Common.{◌≡◌, ℕ, Bool, true, false, nat_eq, List, [], ◌∷◌, length, get_or, refl, sym, ◌∙◌, ap, subst, inl, inr, ◌⊎◌, arith}
 use Rattle.std.specs.Cmp.{IsTotalOrder, IsEquivalence}
 use Rattle.std.specs.Cmp.Lexicographic.{slice_cmp, lists_ties, bytes_decides}
-use Rattle.std.specs.Ordering.{nat_cmp, is_lt, is_eq, is_gt, ordering_reverse, eq_by_cmp}
+use Rattle.std.specs.Ordering.{nat_cmp, is_lt, is_eq, ordering_reverse, ordering_then, eq_by_cmp}
 use Rattle.std.specs.declared.cmp.Ordering.{Ordering}
 use Rattle.std.specs.declared.cmp.Ordering.TheVariants.{Less, Equal, Greater}
 use Rattle.std.proofs.lemmas.Cmp.{nat_list_cmp_total, on_total, eq_by_cmp_equiv, tied_itself}
@@ -10,7 +10,7 @@ use Rattle.std.proofs.lemmas.Bool.Decides.{nat_tests}
 use Rattle.fab_base.specs.declared.object.Oid.{Oid}
 use Rattle.fab_base.specs.FlatMap.{parts_of, precedes, is_before, is_same}
 
--- names by their parts, as the derived `cmp` compares them
+-- names by their parts
 abbrev pub name_cmp : Oid → Oid → Ordering
 name_cmp o p = slice_cmp nat_cmp (parts_of o) (parts_of p)
 
@@ -92,3 +92,22 @@ differ o p h = same_is o p ∙ ap is_eq (less_from_before o p h)
 
 pub differ_back : (o p : Oid) → is_before o p ≡ true → is_same p o ≡ false
 differ_back o p h = same_flips p o ∙ differ o p h
+
+-- ---- the derived comparison
+abbrev pub derived_cmp : Oid → Oid → Ordering
+derived_cmp o p =
+    ordering_then (nat_cmp o.store p.store) (ordering_then (nat_cmp o.class p.class) (ordering_then (nat_cmp o.worker p.worker)
+    (ordering_then (nat_cmp o.boot p.boot) (ordering_then (nat_cmp o.number p.number) (ordering_then (nat_cmp o.site p.site) (nat_cmp o.index p.index))))))
+
+then_equal : (r : Ordering) → r ≡ ordering_then r Equal
+then_equal Less = refl
+then_equal Equal = refl
+then_equal Greater = refl
+
+pub derived_is : (o p : Oid) → derived_cmp o p ≡ name_cmp o p
+derived_is o p =
+    ap (λ r. ordering_then (nat_cmp o.store p.store) (ordering_then (nat_cmp o.class p.class) (ordering_then (nat_cmp o.worker p.worker)
+    (ordering_then (nat_cmp o.boot p.boot) (ordering_then (nat_cmp o.number p.number) (ordering_then (nat_cmp o.site p.site) r)))))) (then_equal (nat_cmp o.index p.index))
+
+pub derived_total : IsTotalOrder derived_cmp
+derived_total = subst IsTotalOrder (λ i o p. sym (derived_is o p) i) name_cmp_total

@@ -1,0 +1,11 @@
+use Rattle.std.proofs.Common.{rules}
+use Rattle.std.proofs.lemmas.List.Sorted.{answers_always}
+use Rattle.fab_map.proofs.Found.{placed_by_derived}
+use Rattle.fab_map.proofs.map.place.Goals as goal
+
+-- the closure gives a row's name
+pub returns : goal.returns
+returns c =
+    let facts = c.binary_search_by_key.ensures in
+    let by_key = facts.position (λ row. row.0) (answers_always _ _ _ (λ f a r g called. search rules)) in
+    placed_by_derived c.args.rows.now c.requires c.args.oid c.binary_search_by_key.result facts.bound by_key
