@@ -1,5 +1,5 @@
 -- That rows of distinct names, once sorted, are what putting them into a map one by one gives.
-use Rattle.std.proofs.Common.{◌≡◌, ℕ, zero, suc, ◌+◌, ◌<◌, ◌≤◌, Bool, true, false, [], ◌∷◌, length, get_or, Option, Some, None, if◌then◌else◌, refl, sym, ◌∙◌, ap, inl, inr, add-one, arith}
+use Rattle.std.proofs.Common.{◌≡◌, ℕ, suc, ◌+◌, ◌<◌, Bool, true, false, [], ◌∷◌, length, get_or, Option, Some, None, if◌then◌else◌, refl, sym, ◌∙◌, ap, inl, inr, add-one, arith}
 use Rattle.std.specs.List.{IsDistinct, AllByRecursion}
 use Rattle.std.specs.List.Sorted.{IsPermutation, IsSortedBy}
 use Rattle.std.specs.Map.{keys_of, lookup}
@@ -10,8 +10,8 @@ use Rattle.std.proofs.lemmas.Map.Views.{Contains-from_lookup, lookup-from_Contai
 use Rattle.fab_base.specs.declared.object.Oid.{Oid}
 use Rattle.fab_base.specs.declared.object.Object.{Object}
 use Rattle.fab_base.specs.FlatMap.{is_before, is_same, FlatMap, get, put, put_all, map_of, ascends}
-use Rattle.fab_map.proofs.Order.{name_cmp, derived_cmp, derived_is, before_is, one_name, same_self, same_flips, same_is_equivalence, cases_name}
-use Rattle.fab_map.proofs.Rows.{get_here, get_past, ascends_cons, ascends-put_all, get-put_same, get-put_other, same_from_get}
+use Rattle.fab_map.proofs.Order.{name_cmp, derived_cmp, derived_is, before_is, one_name, same_self, same_flips, same_is_equivalence, cases_name, differ}
+use Rattle.fab_map.proofs.Rows.{get_here, get_past, leads, leads_from, ascends_leads, ascends_rest, ascends_cons, ascends-put_all, get-put_same, get-put_other, same_from_get}
 
 -- ---- sorted rows of distinct names ascend
 before_next : (o p : Oid) → is_same o p ≡ false → is_lt (name_cmp p o) ≡ false → is_before o p ≡ true
@@ -102,3 +102,21 @@ module _ (xs ys : FlatMap) (moved : IsPermutation xs ys) (apart : IsDistinct is_
   sorted_is_map_of =
       same_from_get ys (map_of xs) ascends_sorted (ascends-put_all xs [] refl)
       (λ q. sym (get-IsPermutation xs ys moved apart q) ∙ sym (get-map_of xs q apart))
+
+-- ---- a map's own rows
+apart_behind : (o : Oid) (rows : FlatMap) → ascends rows ≡ true → leads o rows ≡ true → AllByRecursion (λ p. is_same o p ≡ false) (keys_of rows)
+apart_behind o [] h l = tt
+apart_behind o (row ∷ rows) h l = (differ o row.0 l, apart_behind o rows (ascends_rest row rows h) (leads_from o row.0 rows l (ascends_leads row rows h)))
+
+pub distinct_from_ascends : (rows : FlatMap) → ascends rows ≡ true → IsDistinct is_same (keys_of rows)
+unfolding IsDistinct
+distinct_from_ascends [] h = tt
+distinct_from_ascends (row ∷ rows) h = (apart_behind row.0 rows (ascends_rest row rows h) (ascends_leads row rows h), distinct_from_ascends rows (ascends_rest row rows h))
+
+pub map_of_own : (m : FlatMap) → ascends m ≡ true → map_of m ≡ m
+map_of_own m h = same_from_get (map_of m) m (ascends-put_all m [] refl) h (λ q. get-map_of m q (distinct_from_ascends m h))
+
+pub map_of-IsPermutation : (xs ys : FlatMap) → IsPermutation xs ys → IsDistinct is_same (keys_of xs) → map_of xs ≡ map_of ys
+map_of-IsPermutation xs ys moved apart =
+    same_from_get (map_of xs) (map_of ys) (ascends-put_all xs [] refl) (ascends-put_all ys [] refl)
+    (λ q. get-map_of xs q apart ∙ get-IsPermutation xs ys moved apart q ∙ sym (get-map_of ys q (distinct_moved xs ys moved apart)))

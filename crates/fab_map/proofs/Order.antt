@@ -1,5 +1,5 @@
 -- The order of names: that it is total, and that names which it doesn't tell apart are one.
-use Rattle.std.proofs.Common.{◌≡◌, ℕ, Bool, true, false, nat_eq, List, [], ◌∷◌, length, get_or, refl, sym, ◌∙◌, ap, subst, inl, inr, ◌⊎◌, arith}
+use Rattle.std.proofs.Common.{◌≡◌, ◌≢◌, ℕ, Bool, true, false, nat_eq, List, [], ◌∷◌, length, get_or, refl, sym, ◌∙◌, ap, inl, inr, ◌⊎◌, arith}
 use Rattle.std.specs.Cmp.{IsTotalOrder, IsEquivalence}
 use Rattle.std.specs.Cmp.Lexicographic.{slice_cmp, lists_ties, bytes_decides}
 use Rattle.std.specs.Ordering.{nat_cmp, is_lt, is_eq, ordering_reverse, ordering_then, eq_by_cmp}
@@ -93,6 +93,13 @@ differ o p h = same_is o p ∙ ap is_eq (less_from_before o p h)
 pub differ_back : (o p : Oid) → is_before o p ≡ true → is_same p o ≡ false
 differ_back o p h = same_flips p o ∙ differ o p h
 
+pub apart_names : (o p : Oid) → o ≢ p → is_same o p ≡ false
+apart_names o p h = by_test (is_same o p) refl
+  where
+    by_test : (b : Bool) → is_same o p ≡ b → is_same o p ≡ false
+    by_test true e = absurd (h (one_name o p e))
+    by_test false e = e
+
 -- ---- the derived comparison
 abbrev pub derived_cmp : Oid → Oid → Ordering
 derived_cmp o p =
@@ -109,5 +116,8 @@ derived_is o p =
     ap (λ r. ordering_then (nat_cmp o.store p.store) (ordering_then (nat_cmp o.class p.class) (ordering_then (nat_cmp o.worker p.worker)
     (ordering_then (nat_cmp o.boot p.boot) (ordering_then (nat_cmp o.number p.number) (ordering_then (nat_cmp o.site p.site) r)))))) (then_equal (nat_cmp o.index p.index))
 
-pub derived_total : IsTotalOrder derived_cmp
-derived_total = subst IsTotalOrder (λ i o p. sym (derived_is o p) i) name_cmp_total
+pub derived_equal : (o p : Oid) → derived_cmp o p ≡ Equal → o ≡ p
+derived_equal o p h = one_name o p (same_is o p ∙ ap is_eq (sym (derived_is o p) ∙ h))
+
+pub derived_itself : (o : Oid) → derived_cmp o o ≡ Equal
+derived_itself o = derived_is o o ∙ tied_itself name_cmp_total o

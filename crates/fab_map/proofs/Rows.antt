@@ -1,10 +1,10 @@
 -- `get`, `put` and `ascends` by their cases, and what they do together.
-use Rattle.std.proofs.Common.{◌≡◌, ℕ, ◌<◌, Bool, true, false, ◌&&◌, List, [], ◌∷◌, length, get_or, Option, Some, None, if◌then◌else◌, refl, sym, ◌∙◌, ap, subst, inl, inr, ◌⊎◌, arith}
-use Rattle.std.proofs.lemmas.Bool.{and_parts, and_from, false≢true, true≢false, cases_Bool}
+use Rattle.std.proofs.Common.{◌≡◌, Bool, true, false, [], ◌∷◌, Some, None, if◌then◌else◌, refl, sym, ◌∙◌, ap, inl, inr}
+use Rattle.std.proofs.lemmas.Bool.{and_parts, and_from}
 use Rattle.fab_base.specs.declared.object.Oid.{Oid}
 use Rattle.fab_base.specs.declared.object.Object.{Object}
-use Rattle.fab_base.specs.FlatMap.{is_before, is_same, FlatMap, get, put, put_all, map_of, ascends}
-use Rattle.fab_map.proofs.Order.{one_name, same_self, same_flips, not_itself, not_back, before_trans, cases_name, differ, differ_back}
+use Rattle.fab_base.specs.FlatMap.{is_before, is_same, FlatMap, get, put, put_all, ascends}
+use Rattle.fab_map.proofs.Order.{one_name, same_self, not_itself, not_back, before_trans, cases_name, differ, differ_back}
 
 -- ---- the cases of `get`
 pub get_here : (row : Oid × Object) (rows : FlatMap) (o : Oid) → is_same row.0 o ≡ true → get (row ∷ rows) o ≡ Some row.1
@@ -111,9 +111,9 @@ same_from_get (row ∷ l) [] h k e = let no : Some row.1 ≡ None = sym (get_fir
 same_from_get (r ∷ l) (s ∷ m) h k e = elim (cases_name r.0 s.0) [
   | inl before ↦ let no : Some r.1 ≡ None = sym (get_first r l) ∙ e r.0 ∙ get_none_before r.0 (s ∷ m) k before in cc
   | inr (inl same) ↦
-    let one : Some r.1 ≡ Some s.1 = sym (get_first r l) ∙ e r.0 ∙ ap (get (s ∷ m)) same ∙ get_first s m in
-    let object : r.1 ≡ s.1 = cc in
-    λ i. (same i, object i) ∷ same_from_get l m (ascends_rest r l h) (ascends_rest s m k) (rest same) i
+      let one : Some r.1 ≡ Some s.1 = sym (get_first r l) ∙ e r.0 ∙ ap (get (s ∷ m)) same ∙ get_first s m in
+      let object : r.1 ≡ s.1 = cc in
+      λ i. (same i, object i) ∷ same_from_get l m (ascends_rest r l h) (ascends_rest s m k) (rest same) i
   | inr (inr behind) ↦ let no : None ≡ Some s.1 = sym (get_none_before s.0 (r ∷ l) h behind) ∙ e s.0 ∙ get_first s m in cc
 ]
   where

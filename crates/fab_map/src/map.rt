@@ -77,7 +77,7 @@ impl ObjectMap {
         ensures all { result.now ≡ self.now }
         ensures ascending { ascends self.now ≡ true }
     {
-        &self.rows
+        self.rows.as_slice()
     }
 
     /// The rows, in the order of names, without taking memory.
