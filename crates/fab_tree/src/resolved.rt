@@ -138,5 +138,16 @@ pub struct Resolved {
     pub pairs: Seq<(u16, u16)>,
     pub labels: Seq<NamedLabel>,
     pub classes: Seq<Class>,
+    pub methods: Seq<Method>,
     pub roots: Seq<Root>,
+}
+
+/// A request: its worker's number among the nodes, its own number in the worker's session, from 1,
+/// and the method with what it is given.
+#[derive(Debug, Drop)]
+pub struct Request {
+    pub worker: u16,
+    pub number: u32,
+    pub method: u16,
+    pub args: Seq<Value>,
 }
