@@ -5,7 +5,7 @@ use Rattle.std.proofs.lemmas.List.{map-append}
 use Rattle.std.proofs.lemmas.Bool.{true≢false}
 use Rattle.std.proofs.lemmas.Bool.Decides.{nat_tests}
 use Rattle.fab_base.specs.declared.object.Oid.{Oid}
-use Rattle.fab_base.specs.FlatMap.{parts_of, is_same}
+use Rattle.fab_base.specs.FlatMap.{is_same}
 use Rattle.fab_base.specs.contracts.object.OidPartialEq as oids
 use Rattle.std.specs.contracts.prelude.U16PartialEq as numbers
 use Rattle.fab_tree.specs.Meaning.{is_among, without, each_once, touched, noted, is_full}
@@ -36,37 +36,40 @@ among_without : (o p : Oid) (xs : List Oid) → is_same p o ≡ false → is_amo
 among_without o p [] h = refl
 among_without o p (x ∷ xs) h =
     elim (is_same x p) as (λ b. is_same x p ≡ b → is_among o (if b then without p xs else x ∷ without p xs) ≡ is_among o (x ∷ xs)) [
-      true ↦ λ e. among_without o p xs h ∙ rw (other x o p e h) refl
-    | false ↦ λ e. ap (λ b. is_same x o || b) (among_without o p xs h) ] refl
- where
-  other : (x o p : Oid) → is_same x p ≡ true → is_same p o ≡ false → is_same x o ≡ false
-  other x o p e h = grind (arith, nat_tests)
+      | true ↦ λ e. among_without o p xs h ∙ rw (other x o p e h) refl
+      | false ↦ λ e. ap (λ b. is_same x o || b) (among_without o p xs h)
+    ] refl
+  where
+    other : (x o p : Oid) → is_same x p ≡ true → is_same p o ≡ false → is_same x o ≡ false
+    other x o p e h = grind (arith, nat_tests)
 
 among_once : (o : Oid) (xs : List Oid) → is_among o (each_once xs) ≡ is_among o xs
 among_once o [] = refl
 among_once o (p ∷ ps) =
     elim (is_same p o) as (λ b. is_same p o ≡ b → (b || is_among o (without p (each_once ps))) ≡ (b || is_among o ps)) [
-      true ↦ λ e. refl
-    | false ↦ λ e. among_without o p (each_once ps) e ∙ among_once o ps ] refl
+      | true ↦ λ e. refl
+      | false ↦ λ e. among_without o p (each_once ps) e ∙ among_once o ps
+    ] refl
 
 without_more : (p o : Oid) (xs : List Oid) → without p (xs ++ o ∷ []) ≡ without p xs ++ (if is_same o p then [] else o ∷ [])
 without_more p o [] = refl
 without_more p o (x ∷ xs) =
     elim (is_same x p) as (λ b. (if b then without p (xs ++ o ∷ []) else x ∷ without p (xs ++ o ∷ [])) ≡ (if b then without p xs else x ∷ without p xs) ++ (if is_same o p then [] else o ∷ [])) [
-      true ↦ without_more p o xs
-    | false ↦ ap (λ l. x ∷ l) (without_more p o xs) ]
+      | true ↦ without_more p o xs
+      | false ↦ ap (λ l. x ∷ l) (without_more p o xs)
+    ]
 
 once_more : (o : Oid) (xs : List Oid) → each_once (xs ++ o ∷ []) ≡ (if is_among o xs then each_once xs else each_once xs ++ o ∷ [])
 once_more o [] = refl
 once_more o (p ∷ ps) = rw (once_more o ps) (split (is_among o ps))
- where
-  split : (b : Bool) → p ∷ without p (if b then each_once ps else each_once ps ++ o ∷ []) ≡ (if is_same p o || b then p ∷ without p (each_once ps) else p ∷ without p (each_once ps) ++ o ∷ [])
-  split true = elim (is_same p o) as (λ c. p ∷ without p (each_once ps) ≡ (if c || true then p ∷ without p (each_once ps) else p ∷ without p (each_once ps) ++ o ∷ [])) [ true ↦ refl | false ↦ refl ]
-  split false = rw (without_more p o (each_once ps), same_back o p) (last (is_same p o))
-   where
-    last : (c : Bool) → p ∷ without p (each_once ps) ++ (if c then [] else o ∷ []) ≡ (if c || false then p ∷ without p (each_once ps) else p ∷ without p (each_once ps) ++ o ∷ [])
-    last true = ap (λ l. p ∷ l) (append-nil _)
-    last false = refl
+  where
+    split : (b : Bool) → p ∷ without p (if b then each_once ps else each_once ps ++ o ∷ []) ≡ (if is_same p o || b then p ∷ without p (each_once ps) else p ∷ without p (each_once ps) ++ o ∷ [])
+    split true = elim (is_same p o) as (λ c. p ∷ without p (each_once ps) ≡ (if c || true then p ∷ without p (each_once ps) else p ∷ without p (each_once ps) ++ o ∷ [])) [ true ↦ refl | false ↦ refl ]
+    split false = rw (without_more p o (each_once ps), same_back o p) (last (is_same p o))
+      where
+        last : (c : Bool) → p ∷ without p (each_once ps) ++ (if c then [] else o ∷ []) ≡ (if c || false then p ∷ without p (each_once ps) else p ∷ without p (each_once ps) ++ o ∷ [])
+        last true = ap (λ l. p ∷ l) (append-nil _)
+        last false = refl
 
 objects_more : (site : ℕ) (o : Oid) (ts : List (ℕ × Oid)) → touched (ts ++ (site, o) ∷ []) ≡ (if is_among o (touched ts) then touched ts else touched ts ++ o ∷ [])
 objects_more site o ts =
@@ -76,24 +79,26 @@ objects_more site o ts =
 -- an object that is touched already
 pub known : (site : ℕ) (o : Oid) (ts : List (ℕ × Oid)) → list_any (λ (t : ℕ × Oid). (t.0 == site) && is_same t.1 o) ts ≡ true → is_among o (touched ts) ≡ true
 known site o ts h = among_once o (map (λ (t : ℕ × Oid). t.1) ts) ∙ along ts h
- where
-  along : (xs : List (ℕ × Oid)) → list_any (λ (t : ℕ × Oid). (t.0 == site) && is_same t.1 o) xs ≡ true → is_among o (map (λ (t : ℕ × Oid). t.1) xs) ≡ true
-  along [] h = h
-  along (x ∷ xs) h = grind (arith, nat_tests, along xs)
+  where
+    along : (xs : List (ℕ × Oid)) → list_any (λ (t : ℕ × Oid). (t.0 == site) && is_same t.1 o) xs ≡ true → is_among o (map (λ (t : ℕ × Oid). t.1) xs) ≡ true
+    along [] h = h
+    along (x ∷ xs) h = grind (arith, nat_tests, along xs)
 
 -- noting a pair of an object that is touched already
 pub noted_known : (site : ℕ) (o : Oid) (ts : List (ℕ × Oid)) → is_among o (touched ts) ≡ true → touched (noted site o ts) ≡ touched ts
 noted_known site o ts h =
     elim (list_any (λ (t : ℕ × Oid). (t.0 == site) && is_same t.1 o) ts) as (λ b. touched (if b then ts else ts ++ (site, o) ∷ []) ≡ touched ts) [
-      true ↦ refl
-    | false ↦ objects_more site o ts ∙ rw h refl ]
+      | true ↦ refl
+      | false ↦ objects_more site o ts ∙ rw h refl
+    ]
 
 -- noting a pair of one object more
 pub noted_new : (site : ℕ) (o : Oid) (ts : List (ℕ × Oid)) → is_among o (touched ts) ≡ false → touched (noted site o ts) ≡ touched ts ++ o ∷ []
 noted_new site o ts h =
     elim (list_any (λ (t : ℕ × Oid). (t.0 == site) && is_same t.1 o) ts) as (λ b. list_any (λ (t : ℕ × Oid). (t.0 == site) && is_same t.1 o) ts ≡ b → touched (if b then ts else ts ++ (site, o) ∷ []) ≡ touched ts ++ o ∷ []) [
-      true ↦ λ e. absurd (true≢false (sym (known site o ts e) ∙ h))
-    | false ↦ λ e. objects_more site o ts ∙ rw h refl ] refl
+      | true ↦ λ e. absurd (true≢false (sym (known site o ts e) ∙ h))
+      | false ↦ λ e. objects_more site o ts ∙ rw h refl
+    ] refl
 
 -- what a set of pairs holds after an insertion
 pub inserted : (site : ℕ) (o : Oid) (ts new : List (ℕ × Oid)) → new ≡ (if list_any (λ (t : ℕ × Oid). numbers.TheImpl.ghosts.eq site t.0 && oids.TheImpl.ghosts.eq o t.1) ts then ts else ts ++ (site, o) ∷ []) → new ≡ noted site o ts

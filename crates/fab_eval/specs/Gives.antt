@@ -1,8 +1,6 @@
 -- What a call of the evaluator gave, beside the meaning.
-use Rattle.std.specs.Prelude.{◌≡◌, ℕ, List, Result, Ok, Err}
-use Rattle.fab_base.specs.declared.object.Oid.{Oid}
+use Rattle.std.specs.Prelude.{◌≡◌, ℕ, Result, Ok, Err}
 use Rattle.fab_base.specs.declared.object.Value.{Value}
-use Rattle.fab_base.specs.FlatMap.{FlatMap}
 use Rattle.fab_tree.specs.Meaning as m
 use Rattle.fab_tree.specs.Meaning.{M, Run, goes, ends, gives, ◌>>=◌, access, field_of}
 use Rattle.fab_eval.specs.declared.state.State.{State}

@@ -28,11 +28,7 @@ pub(crate) fn charge(state: &mut State) -> Result<(), Halt>
 pub(crate) fn local(state: &State, x: u16) -> Value
     ensures { Gives (Ok result) state.now (local x (shown state.now)) }
 {
-    state
-        .locals
-        .get(x as usize)
-        .copied()
-        .unwrap_or(Value::Null)
+    state.locals.get(x as usize).copied().unwrap_or(Value::Null)
 }
 
 /// Gives a local a value.

@@ -53,11 +53,7 @@ pub(crate) fn value(state: &mut State, expression: &Expression) -> Result<Value,
 
 /// The statements of a block, in order.
 #[cycle(run)]
-pub(crate) fn block(
-    alloc: Global,
-    state: &mut State,
-    statements: &[Statement],
-) -> Result<(), Halt>
+pub(crate) fn block(alloc: Global, state: &mut State, statements: &[Statement]) -> Result<(), Halt>
     ensures gives { Gives result state.new (block statements.now (shown state.old)) }
     ensures fuel { state.new.fuel ≤ state.old.fuel }
 {

@@ -2,7 +2,14 @@
 #![tactic(auto)]
 
 mod access;
+mod done;
 mod eval;
+mod job;
 mod state;
 mod touches;
 mod values;
+mod whole;
+
+pub use done::Done;
+pub use job::{EvalRefused, Job, Outcome};
+pub use whole::evaluate;

@@ -1,12 +1,12 @@
 //! What an evaluation has at a point, and how it ends before its last statement.
 
+ghost use Rattle.std.specs.Prelude.{◌≡◌};
+ghost use Rattle.fab_eval.specs.declared.state.Halt.TheVariants.{Memory};
+
 use crate::touches::Touches;
 use fab_base::{Oid, Stop, Value};
 use fab_map::ObjectMap;
 use std::alloc::{AllocError, AllocFailed};
-
-ghost use Rattle.std.specs.Prelude.{◌≡◌};
-ghost use Rattle.fab_eval.specs.declared.state.Halt.TheVariants.{Memory};
 
 /// How an evaluation ends before its last statement.
 #[derive(Clone, Copy, Debug, PartialEq, Eq)]

@@ -1,4 +1,4 @@
-use Rattle.std.proofs.Common.{sym, ap, ◌∙◌, ◌++◌, ◌∷◌, [], List}
+use Rattle.std.proofs.Common.{ap, ◌∙◌, ◌++◌, ◌∷◌, [], List}
 use Rattle.fab_base.specs.declared.object.Oid.{Oid}
 use Rattle.fab_tree.specs.Meaning.{is_among}
 use Rattle.fab_eval.proofs.Noting.{found_fits, found_noted, noted_in, kept, grown}
