@@ -1,2 +1,4 @@
 mod DeclarationExamples
+pub mod Forms
+mod MeaningExamples
 mod SyntaxExamples
