@@ -87,9 +87,9 @@ fn statement(alloc: Global, state: &mut State, s: &Statement) -> Result<(), Halt
             site,
         } => {
             charge(state)?;
-            let v = value(state, e)?;
+            let new = value(state, e)?;
             let at = local(state, object.number);
-            write(alloc, state, *site, *field, at, v)
+            write(alloc, state, *site, *field, at, new)
         }
         Statement::If {
             condition,

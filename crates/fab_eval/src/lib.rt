@@ -6,6 +6,8 @@ mod done;
 mod eval;
 mod job;
 mod state;
+#[cfg(test)]
+mod tests;
 mod touches;
 mod values;
 mod whole;
