@@ -1,3 +1,4 @@
 pub mod Gives
 pub mod Outcomes
+pub mod Runs
 pub mod Settles

@@ -5,6 +5,7 @@ mod access;
 mod done;
 mod eval;
 mod job;
+mod laws;
 mod state;
 #[cfg(test)]
 mod tests;
@@ -14,4 +15,5 @@ mod whole;
 
 pub use done::Done;
 pub use job::{EvalRefused, Job, Outcome};
+pub use laws::{blocks_in_a_row, fuel_never_rises};
 pub use whole::evaluate;
