@@ -1,3 +1,5 @@
 pub mod Noting
 pub mod Settling
 pub mod Blocks
+pub mod Few
+pub mod Progress

@@ -29,10 +29,10 @@ noted_by site o ts = same_any _ _ (pair_is site o) ts
 -- ---- names among names
 
 -- names that are alike are among the same names
-alike : (o p q : Oid) → is_same p o ≡ true → is_same q p ≡ is_same q o
+pub alike : (o p q : Oid) → is_same p o ≡ true → is_same q p ≡ is_same q o
 alike o p q h = grind (arith, nat_tests)
 
-among_without : (o p : Oid) (xs : List Oid) → is_same p o ≡ false → is_among o (without p xs) ≡ is_among o xs
+pub among_without : (o p : Oid) (xs : List Oid) → is_same p o ≡ false → is_among o (without p xs) ≡ is_among o xs
 among_without o p [] h = refl
 among_without o p (x ∷ xs) h =
     elim (is_same x p) as (λ b. is_same x p ≡ b → is_among o (if b then without p xs else x ∷ without p xs) ≡ is_among o (x ∷ xs)) [
@@ -43,7 +43,7 @@ among_without o p (x ∷ xs) h =
     other : (x o p : Oid) → is_same x p ≡ true → is_same p o ≡ false → is_same x o ≡ false
     other x o p e h = grind (arith, nat_tests)
 
-among_once : (o : Oid) (xs : List Oid) → is_among o (each_once xs) ≡ is_among o xs
+pub among_once : (o : Oid) (xs : List Oid) → is_among o (each_once xs) ≡ is_among o xs
 among_once o [] = refl
 among_once o (p ∷ ps) =
     elim (is_same p o) as (λ b. is_same p o ≡ b → (b || is_among o (without p (each_once ps))) ≡ (b || is_among o ps)) [

@@ -2,3 +2,4 @@ pub mod Gives
 pub mod Outcomes
 pub mod Runs
 pub mod Settles
+pub mod Typed
