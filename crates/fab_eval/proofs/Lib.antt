@@ -3,3 +3,4 @@ pub mod Settling
 pub mod Blocks
 pub mod Few
 pub mod Progress
+mod TypedExamples

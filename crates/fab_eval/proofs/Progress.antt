@@ -62,8 +62,9 @@ below_less : (x n : ℕ) → is_in x (below n) ≡ true → x < n
 below_less x zero h = absurd (true≢false (sym h))
 below_less x (suc n) h =
     elim (x == n) as (λ b. (x == n) ≡ b → (b || is_in x (below n)) ≡ true → x < suc n) [
-      true ↦ λ i _. let q = eq_from x n i in omega arith
-    | false ↦ λ _ j. let q = below_less x n j in omega arith ] refl h
+      | true ↦ λ i _. let q = eq_from x n i in omega arith
+      | false ↦ λ _ j. let q = below_less x n j in omega arith
+    ] refl h
 
 or_true : (b : Bool) → (b || true) ≡ true
 or_true true = refl
@@ -77,18 +78,19 @@ some_same x y h = cc
 kept_object : (classes : List Class) (c field : ℕ) (n : ℤ) (x : Object) → IsObject classes c x → IsObject classes c (with_field field (Int n) x)
 kept_object classes c field n x ok other k =
     elim (other == field) as (λ b. (other == field) ≡ b → (l : ℤ) × (slice_get (slice_set x.fields field (Int n)) other ≡ Some (Int l))) [
-      true ↦ λ i. let q = eq_from other field i in (n, ap (slice_get (slice_set x.fields field (Int n))) q ∙ get_set_same x.fields field (Int n) (let w = slice_get_within x.fields other _ (ok other k).1 in omega arith))
-    | false ↦ λ i. ((ok other k).0, get_set_other x.fields field other (Int n) (ne_from other field i) ∙ (ok other k).1) ] refl
+      | true ↦ λ i. let q = eq_from other field i in (n, ap (slice_get (slice_set x.fields field (Int n))) q ∙ get_set_same x.fields field (Int n) (let w = slice_get_within x.fields other _ (ok other k).1 in omega arith))
+      | false ↦ λ i. ((ok other k).0, get_set_other x.fields field other (Int n) (ne_from other field i) ∙ (ok other k).1)
+    ] refl
 
 put_keeps : (classes : List Class) (os : List Oid) (known : FlatMap) (o : Oid) (x : Object) (field : ℕ) (n : ℤ) → get known o ≡ Some x → (k : Kind) (u : Value) → IsOf classes os known k u → IsOf classes os (put o (with_field field (Int n) x) known) k u
 put_keeps classes os known o x field n g int u i = i
 put_keeps classes os known o x field n g (object c) u i =
     elim (is_same o i.0) as (λ b. is_same o i.0 ≡ b → IsOf classes os (put o (with_field field (Int n) x) known) (object c) u) [
-      true ↦ λ j. let q = one_name o i.0 j in (i.0, i.1, i.2, (with_field field (Int n) x, ap (get (put o (with_field field (Int n) x) known)) (sym q) ∙ get-put_same o (with_field field (Int n) x) known, kept_object classes c field n x (subst (IsObject classes c) (some_same i.3.0 x (sym i.3.1 ∙ ap (get known) (sym q) ∙ g)) i.3.2)))
-    | false ↦ λ j. (i.0, i.1, i.2, (i.3.0, get-put_other o i.0 (with_field field (Int n) x) known j ∙ i.3.1, i.3.2)) ] refl
+      | true ↦ λ j. let q = one_name o i.0 j in (i.0, i.1, i.2, (with_field field (Int n) x, ap (get (put o (with_field field (Int n) x) known)) (sym q) ∙ get-put_same o (with_field field (Int n) x) known, kept_object classes c field n x (subst (IsObject classes c) (some_same i.3.0 x (sym i.3.1 ∙ ap (get known) (sym q) ∙ g)) i.3.2)))
+      | false ↦ λ j. (i.0, i.1, i.2, (i.3.0, get-put_other o i.0 (with_field field (Int n) x) known j ∙ i.3.1, i.3.2))
+    ] refl
 
 module _ (classes : List Class) (locals : List Local) (os : List Oid) (small : length os ≤ 256) where
-
   -- ---- what holds along a run: each known local has a value of its type, and what was touched and written is among the few names
   record Holds (known : List ℕ) (s : State) : Type 0 where
     pub width : length s.locals ≡ length locals
@@ -146,7 +148,7 @@ module _ (classes : List Class) (locals : List Local) (os : List Oid) (small : l
       let t : State = record s { touches = r.ts } in
       let q = f t (again known s r.ts h r.within) in
       along _ _ s int (compared_means a comparison b) (then_value (value a s) (λ v. value b >>= λ w. gives (Int (if compares comparison v w then pos 1 else pos 0))) s k int r
-        (then_value (value b t) (λ w. gives (Int (if compares comparison r.v w then pos 1 else pos 0))) t l int q (done _ (record t { touches = q.ts }) int (_, refl) q.within)))
+      (then_value (value b t) (λ w. gives (Int (if compares comparison r.v w then pos 1 else pos 0))) t l int q (done _ (record t { touches = q.ts }) int (_, refl) q.within)))
 
   mutual
     values_end : (known : List ℕ) (a : Expression) (k : Kind) → HasKind classes locals known a k → (s : State) → Holds known s → Evaluates (value a s) s k
@@ -182,9 +184,9 @@ module _ (classes : List Class) (locals : List Local) (os : List Oid) (small : l
 
   charged : (s : State) → 1 ≤ s.fuel → charge s ≡ goes tt (paid s)
   charged s le = ap (λ b. if b then ends (stopped Fuel) s else goes tt (paid s)) (apart_from_none s.fuel le)
-   where
-    apart_from_none : (n : ℕ) → 1 ≤ n → (n == 0) ≡ false
-    apart_from_none n le = grind (arith, nat_tests)
+    where
+      apart_from_none : (n : ℕ) → 1 ≤ n → (n == 0) ≡ false
+      apart_from_none n le = grind (arith, nat_tests)
 
   after_paying : (known : List ℕ) (s : State) → Holds known s → Holds known (paid s)
   after_paying known s h = record { width = h.width; values = h.values; touched_in = h.touched_in; apart = h.apart; written_in = h.written_in }
@@ -195,39 +197,39 @@ module _ (classes : List Class) (locals : List Local) (os : List Oid) (small : l
 
   in_locals : (x : ℕ) (k : Kind) → local_kind locals x ≡ Some k → x < length locals
   in_locals x k h = inside (slice_get locals x) refl h
-   where
-    inside : (o : Option Local) → slice_get locals x ≡ o → option_and_then (λ l. Some (kind_of l.sort)) o ≡ Some k → x < length locals
-    inside None i j = cc
-    inside (Some l) i j = slice_get_within locals x l i
+    where
+      inside : (o : Option Local) → slice_get locals x ≡ o → option_and_then (λ l. Some (kind_of l.sort)) o ≡ Some k → x < length locals
+      inside None i j = cc
+      inside (Some l) i j = slice_get_within locals x l i
 
   assigned : (known : List ℕ) (x : ℕ) (k : Kind) (v : Value) (s : State) → Holds known s → local_kind locals x ≡ Some k → IsOf classes os s.map k v → Holds (x ∷ known) (record s { locals = slice_set s.locals x v })
   assigned known x k v s h kind i = record {
-      width = length-set s.locals x v ∙ h.width;
-      values = λ y l g j. each y l (y == x) refl g j;
-      touched_in = h.touched_in;
-      apart = h.apart;
-      written_in = h.written_in;
-    }
-   where
-    each : (y : ℕ) (l : Kind) (b : Bool) → (y == x) ≡ b → (b || is_in y known) ≡ true → local_kind locals y ≡ Some l → IsOf classes os s.map l (unwrap_or (slice_get (slice_set s.locals x v) y) Null)
-    each y l true e g j =
-        let q = eq_from y x e in
-        let lt = in_locals x k kind in
-        let w = h.width in
-        let kl : k ≡ l = some_same k l (sym kind ∙ ap (local_kind locals) (sym q) ∙ j) in
-        let got : slice_get (slice_set s.locals x v) y ≡ Some v = ap (slice_get (slice_set s.locals x v)) q ∙ get_set_same s.locals x v (omega arith) in
-        subst (λ u. IsOf classes os s.map l u) (ap (λ o. unwrap_or o Null) (sym got)) (subst (λ m. IsOf classes os s.map m v) kl i)
-    each y l false e g j =
-        subst (λ u. IsOf classes os s.map l u) (ap (λ o. unwrap_or o Null) (sym (get_set_other s.locals x y v (ne_from y x e)))) (h.values y l g j)
+    width = length-set s.locals x v ∙ h.width;
+    values = λ y l g j. each y l (y == x) refl g j;
+    touched_in = h.touched_in;
+    apart = h.apart;
+    written_in = h.written_in;
+  }
+    where
+      each : (y : ℕ) (l : Kind) (b : Bool) → (y == x) ≡ b → (b || is_in y known) ≡ true → local_kind locals y ≡ Some l → IsOf classes os s.map l (unwrap_or (slice_get (slice_set s.locals x v) y) Null)
+      each y l true e g j =
+          let q = eq_from y x e in
+          let lt = in_locals x k kind in
+          let w = h.width in
+          let kl : k ≡ l = some_same k l (sym kind ∙ ap (local_kind locals) (sym q) ∙ j) in
+          let got : slice_get (slice_set s.locals x v) y ≡ Some v = ap (slice_get (slice_set s.locals x v)) q ∙ get_set_same s.locals x v (omega arith) in
+          subst (λ u. IsOf classes os s.map l u) (ap (λ o. unwrap_or o Null) (sym got)) (subst (λ m. IsOf classes os s.map m v) kl i)
+      each y l false e g j =
+          subst (λ u. IsOf classes os s.map l u) (ap (λ o. unwrap_or o Null) (sym (get_set_other s.locals x y v (ne_from y x e)))) (h.values y l g j)
 
   put_holds : (known : List ℕ) (o : Oid) (x : Object) (field : ℕ) (n : ℤ) (s : State) → get s.map o ≡ Some x → is_among o os ≡ true → Holds known s → Holds known (record s { map = put o (with_field field (Int n) x) s.map; written = with_written o s.written })
   put_holds known o x field n s g among h = record {
-      width = h.width;
-      values = λ y k i j. put_keeps classes os s.map o x field n g k _ (h.values y k i j);
-      touched_in = h.touched_in;
-      apart = written_apart o s.written h.apart;
-      written_in = written_within o s.written os h.written_in among;
-    }
+    width = h.width;
+    values = λ y k i j. put_keeps classes os s.map o x field n g k _ (h.values y k i j);
+    touched_in = h.touched_in;
+    apart = written_apart o s.written h.apart;
+    written_in = written_within o s.written os h.written_in among;
+  }
 
   replaced : (v : Value) (y : Object) (s : State) (o : Oid) → v ≡ Ref o → is_among o os ≡ true → Apart s.written → Within s.written os → replaces (name_in v) y s ≡ goes tt (record s { map = put o y s.map; written = with_written o s.written })
   replaced v y s o i among a w =
@@ -256,11 +258,11 @@ module _ (classes : List Class) (locals : List Local) (os : List Oid) (small : l
       record {
         next = record u { map = put i.0 (with_field field (Int r.is_of.0) i.3.0) s.map; written = with_written i.0 s.written };
         goes_on =
-          ap (λ (q : M (Unit {0})). q s) (write_means x field a site)
-          ∙ with_value a (λ v. m.local x.number >>= λ o. write site field o v) s int le r
-          ∙ ap (λ v. write site field at v t) r.is_of.1
-          ∙ ap (λ q. and_then q (λ y. replaces (name_in at) (with_field field (Int r.is_of.0) y))) (accessed site c at t r.within i)
-          ∙ replaced at (with_field field (Int r.is_of.0) i.3.0) u i.0 i.1 i.2 h.apart h.written_in;
+            ap (λ (q : M (Unit {0})). q s) (write_means x field a site)
+            ∙ with_value a (λ v. m.local x.number >>= λ o. write site field o v) s int le r
+            ∙ ap (λ v. write site field at v t) r.is_of.1
+            ∙ ap (λ q. and_then q (λ y. replaces (name_in at) (with_field field (Int r.is_of.0) y))) (accessed site c at t r.within i)
+            ∙ replaced at (with_field field (Int r.is_of.0) i.3.0) u i.0 i.1 i.2 h.apart h.written_in;
         holds = put_holds known i.0 i.3.0 field r.is_of.0 u i.3.1 i.2 held;
         spent = omega arith;
       }
@@ -269,11 +271,11 @@ module _ (classes : List Class) (locals : List Local) (os : List Oid) (small : l
   grows : (known : List ℕ) (xs : List Statement) (after : List ℕ) → AreTyped classes locals known xs after → (y : ℕ) → is_in y known ≡ true → is_in y after ≡ true
   grows _ _ _ no_more y h = h
   grows _ _ _ (one_more {known} {next} {after} {x} {xs} d ds) y h = grows next xs after ds y (one known x next d y h)
-   where
-    one : (known : List ℕ) (x : Statement) (next : List ℕ) → IsTyped classes locals known x next → (y : ℕ) → is_in y known ≡ true → is_in y next ≡ true
-    one _ _ _ (assigns {known} x at a k d f) y h = ap (λ b. (y == x) || b) h ∙ or_true (y == x)
-    one _ _ _ (writes x field site c a q f d) y h = h
-    one _ _ _ (when a b o d ds es) y h = h
+    where
+      one : (known : List ℕ) (x : Statement) (next : List ℕ) → IsTyped classes locals known x next → (y : ℕ) → is_in y known ≡ true → is_in y next ≡ true
+      one _ _ _ (assigns {known} x at a k d f) y h = ap (λ b. (y == x) || b) h ∙ or_true (y == x)
+      one _ _ _ (writes x field site c a q f d) y h = h
+      one _ _ _ (when a b o d ds es) y h = h
 
   fewer : (known after : List ℕ) (s : State) → ((y : ℕ) → is_in y known ≡ true → is_in y after ≡ true) → Holds after s → Holds known s
   fewer known after s g h = record { width = h.width; values = λ x k i j. h.values x k (g x i) j; touched_in = h.touched_in; apart = h.apart; written_in = h.written_in }
@@ -331,21 +333,22 @@ module _ (classes : List Class) (locals : List Local) (os : List Oid) (small : l
 
   started : (m : Method) → m.locals ≡ locals → m.parameters ≤ length locals → (known : FlatMap) (args : List Value) (fuel : ℕ) → AreGiven classes m os known args → Holds (below m.parameters) (record (state_at_start known fuel) { locals = locals_at_start m args })
   started m agrees fits known args fuel given = record {
-      width = length-append args (replicate (length m.locals - length args) Null) ∙ ap (λ n. length args + n) (length-replicate (length m.locals - length args) Null) ∙ filled;
-      values = λ x k i j. valued x k (below_less x m.parameters i) (ap (λ ls. local_kind ls x) agrees ∙ j);
-      touched_in = λ o e. absurd (true≢false (sym e));
-      apart = tt;
-      written_in = λ o e. absurd (true≢false (sym e));
-    }
-   where
-    filled : length args + (length m.locals - length args) ≡ length locals
-    filled = let c = given.count in let l = ap length agrees in omega arith
-    valued : (x : ℕ) (k : Kind) → x < m.parameters → local_kind m.locals x ≡ Some k → IsOf classes os known k (unwrap_or (slice_get (locals_at_start m args) x) Null)
-    valued x k lt j =
-        let c = given.count in
-        let there : x < length args = omega arith in
-        let got = slice_get-get_or args x Null there in
-        subst (λ v. IsOf classes os known k v) (ap (λ o. unwrap_or o Null) (sym (get_front args (replicate (length m.locals - length args) Null) x there ∙ got))) (given.each x k j (get_or args x Null) got)
+    width = length-append args (replicate (length m.locals - length args) Null) ∙ ap (λ n. length args + n) (length-replicate (length m.locals - length args) Null) ∙ filled;
+    values = λ x k i j. valued x k (below_less x m.parameters i) (ap (λ ls. local_kind ls x) agrees ∙ j);
+    touched_in = λ o e. absurd (true≢false (sym e));
+    apart = tt;
+    written_in = λ o e. absurd (true≢false (sym e));
+  }
+    where
+      filled : length args + (length m.locals - length args) ≡ length locals
+      filled = let c = given.count in let l = ap length agrees in omega arith
+
+      valued : (x : ℕ) (k : Kind) → x < m.parameters → local_kind m.locals x ≡ Some k → IsOf classes os known k (unwrap_or (slice_get (locals_at_start m args) x) Null)
+      valued x k lt j =
+          let c = given.count in
+          let there : x < length args = omega arith in
+          let got = slice_get-get_or args x Null there in
+          subst (λ v. IsOf classes os known k v) (ap (λ o. unwrap_or o Null) (sym (get_front args (replicate (length m.locals - length args) Null) x there ∙ got))) (given.each x k j (get_or args x Null) got)
 
 -- the meaning of a request for a method that is well typed
 pub request_ends : (program : Resolved) (m : Method) (os : List Oid) (known : FlatMap) (request : Request) (fuel : ℕ) → slice_get program.methods request.method ≡ Some m → IsTypedMethod program.classes m → AreGiven program.classes m os known request.args → length os ≤ 256 → size_of m.body ≤ fuel → (meaning program known request fuel).ending ≡ Ended None
