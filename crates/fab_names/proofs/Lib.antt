@@ -1,1 +1,3 @@
-pub mod DistinctNames
+pub mod KeptRules
+pub mod Names
+pub mod RootTable

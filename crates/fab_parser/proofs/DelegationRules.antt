@@ -4,9 +4,10 @@ use Rattle.fab_base.specs.declared.token.Mark.TheVariants as m
 use Rattle.fab_base.specs.declared.token.Token.{Token}
 use Rattle.fab_tree.specs.declared.start.Name.{Name}
 use Rattle.fab_tree.specs.declared.start.Delegation.{Delegation}
-use Rattle.fab_tree.specs.Syntax.{IsName, IsDelegation, delegation}
-use Rattle.fab_parser.specs.Reading.{any}
-use Rattle.fab_parser.proofs.Rules.{Then, End, Sign, Going, start, turn}
+use Rattle.fab_tree.specs.Lists.{IsName}
+use Rattle.fab_tree.specs.Declarations.{IsDelegation, delegation}
+use Rattle.fab_reading.specs.Reading.{any}
+use Rattle.fab_reading.proofs.Rules.{Then, End, Sign, Going, start, turn}
 
 abbrev pub DelegationParts : Type 0
 DelegationParts = Name × (Unit {0} × (Name × (Unit {0} × Unit {0})))

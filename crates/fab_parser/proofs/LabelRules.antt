@@ -10,12 +10,13 @@ use Rattle.fab_tree.specs.declared.start.Aspect.{Aspect}
 use Rattle.fab_tree.specs.declared.start.Aspect.TheVariants as aspects
 use Rattle.fab_tree.specs.declared.start.PolicyText.{PolicyText}
 use Rattle.fab_tree.specs.declared.start.LabelText.{LabelText}
-use Rattle.fab_tree.specs.Syntax.{Is, is, IsName, Separated, none, IsAspect, readers, writers, IsPolicy, policy, IsLabel, label}
-use Rattle.fab_parser.specs.Reading.{Lacks, BeginsWith, Starts, Read, Refused, Stops, CannotRead, any, behind_items, behind_names, begins_name, is_semicolon}
-use Rattle.fab_parser.specs.declared.refusal.Refusal.{Refusal}
-use Rattle.fab_parser.specs.declared.refusal.Refusal.TheVariants as refusal
-use Rattle.fab_parser.proofs.Rules.{Then, End, Sign, HasText, Going, start, turn, here, never, token_of}
-use Rattle.fab_parser.proofs.NodeRules.{mark_read}
+use Rattle.fab_tree.specs.Lists.{Is, is, IsName, Separated}
+use Rattle.fab_tree.specs.Declarations.{IsAspect, readers, writers, IsPolicy, policy, IsLabel, label}
+use Rattle.fab_reading.specs.Reading.{Lacks, BeginsWith, Starts, Read, Refused, Stops, CannotRead, any, behind_items, behind_names, begins_name, is_semicolon}
+use Rattle.fab_reading.specs.declared.refusal.Refusal.{Refusal}
+use Rattle.fab_reading.specs.declared.refusal.Refusal.TheVariants as refusal
+use Rattle.fab_reading.proofs.Rules.{Then, End, Sign, HasText, Going, start, turn, here, never, token_of}
+use Rattle.fab_reading.proofs.TokenRules.{mark_read}
 
 -- ---- aspect = "->" | "<-"
 
@@ -84,9 +85,6 @@ policy_back (policy {x = x} {y = y} {zs = zs} p q r) = ((x, (y, (zs, tt))), refl
 
 pub policy_start : {room : ℕ} (a : List Token) → Going IsPolicy behind_names room a PolicyRule policy_of room a
 policy_start {room = room} a = turn policy_of (start IsPolicy behind_names room a) (λ more v after p. subst (λ x. IsPolicy more (policy_of v) x) p.second.second.second (policy p.first p.second.first p.second.second.first)) (λ more v after same p h. policy_back p)
-
-pub separated_text : {A : Type 0} {P : List Token → A → List Token → Type 0} {mark : Mark} → HasText (Separated mark P)
-separated_text = ([], [], λ after. none)
 
 -- ---- label = "label" name "=" "{" [policy {";" policy}] "}" ";"
 

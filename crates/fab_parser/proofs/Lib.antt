@@ -1,7 +1,4 @@
+pub mod ClassRules
 pub mod DelegationRules
-pub mod ItemRules
 pub mod LabelRules
-pub mod ListRules
 pub mod NodeRules
-pub mod Rules
-pub mod TextRules

@@ -1,5 +1,5 @@
 -- Principals, workers and stores, part by part.
-use Rattle.std.proofs.Common.{◌≡◌, ℕ, Bool, true, false, IsTrue, List, [], ◌∷◌, length, Some, refl, sym, ap, subst, ◌∙◌}
+use Rattle.std.proofs.Common.{◌≡◌, ℕ, Bool, true, false, IsTrue, List, [], ◌∷◌, length, refl, sym, ap, subst}
 use Rattle.fab_base.specs.declared.token.Mark.{Mark}
 use Rattle.fab_base.specs.declared.token.Mark.TheVariants as m
 use Rattle.fab_base.specs.declared.token.Kind.{Kind}
@@ -9,36 +9,13 @@ use Rattle.fab_tree.specs.declared.start.Name.{Name}
 use Rattle.fab_tree.specs.declared.start.Role.{Role}
 use Rattle.fab_tree.specs.declared.start.Role.TheVariants as r
 use Rattle.fab_tree.specs.declared.start.Node.{Node}
-use Rattle.fab_tree.specs.Depth.{room_by}
-use Rattle.fab_tree.specs.Syntax.{Is, is, IsName, name, IsPlace, worker, store, IsRole, principal, honest, hostile, IsNode, node}
-use Rattle.fab_parser.specs.Reading.{Lacks, BeginsWith, Starts, Read, Refused, Stops, CannotRead, any, begins_name}
-use Rattle.fab_parser.specs.declared.refusal.Refusal.{Refusal}
-use Rattle.fab_parser.specs.declared.refusal.Refusal.TheVariants as refusal
-use Rattle.fab_parser.proofs.Rules.{Then, End, Sign, HasText, Going, start, turn, leaf, here, never, token_of, same_sign, lacks_too}
-
--- ---- names
-
-pub no_name_begins : (x : Kind) → ((y : List ℕ) → x ≡ k.Name y → ⊥) → IsTrue (begins_name x) → ⊥
-no_name_begins (k.Name y) h i = h y refl
-no_name_begins _ h i = never i
-
-pub name_text : HasText IsName
-name_text = (record { kind = k.Name []; at = 0; end = 0 } ∷ [], record { text = []; at = 0 }, λ after. name refl)
-
-name_only : {x : List ℕ} {t : Token} {more : List Token} {v : Name} {after : List Token} → t.kind ≡ k.Name x → IsName (t ∷ more) v after → (v ≡ record { text = x; at = t.at }) × (after ≡ more)
-name_only {x = x} {t = t} h (name {x = y} g) = let same : y ≡ x = cc in (ap (λ z. let n : Name = record { text = z; at = t.at } in n) same, refl)
-
-pub name_read : {room : ℕ} {x : List ℕ} {a b : List Token} {t : Token} → a ≡ t ∷ b → t.kind ≡ k.Name x → Read IsName any room a (record { text = x; at = t.at }) b
-name_read {room = room} cut h = leaf cut (ap (λ x. room_by x room) h) (λ more. name h) (λ more v after d. name_only h d)
-
--- ---- one mark
-
--- a tree that is one mark, which is no bracket
-pub mark_read : {A : Type 0} {R : List Token → A → List Token → Type 0} {may : Kind → Bool} {room : ℕ} {a b : List Token} {t : A} (mark : Mark) → Is mark a b → room_by (k.Fixed mark) room ≡ Some room → ((x y : List Token) → Is mark x y → R x t y) → ((x : List Token) (v : A) (y : List Token) → BeginsWith mark x → R x v y → (v ≡ t) × Is mark x y) → Read R may room a t b
-mark_read {room = room} mark (is {t = u} e) level reads only = leaf refl (ap (λ x. room_by x room) e ∙ level) (λ more. reads _ _ (is e)) (λ more v after d. let x = only _ v after e d in (x.0, behind_same x.1))
-  where
-    behind_same : {u : Token} {x y : List Token} → Is mark (u ∷ x) y → y ≡ x
-    behind_same (is h) = refl
+use Rattle.fab_tree.specs.Lists.{Is, is, IsName}
+use Rattle.fab_tree.specs.Declarations.{IsPlace, worker, store, IsRole, principal, honest, hostile, IsNode, node}
+use Rattle.fab_reading.specs.Reading.{Lacks, BeginsWith, Starts, Read, Refused, Stops, CannotRead, any}
+use Rattle.fab_reading.specs.declared.refusal.Refusal.{Refusal}
+use Rattle.fab_reading.specs.declared.refusal.Refusal.TheVariants as refusal
+use Rattle.fab_reading.proofs.TokenRules.{mark_read}
+use Rattle.fab_reading.proofs.Rules.{Then, End, Sign, HasText, Going, start, turn, here, never, token_of, same_sign, lacks_too}
 
 -- ---- place = "worker" | "store"
 

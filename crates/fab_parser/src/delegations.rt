@@ -1,12 +1,10 @@
 //! Delegations.
 ghost use Rattle.std.specs.Prelude.{◌≡◌, MatchResult};
-ghost use Rattle.fab_tree.specs.Syntax.{IsDelegation};
-ghost use Rattle.fab_parser.specs.Reading.{Read, Stops, any};
+ghost use Rattle.fab_tree.specs.Declarations.{IsDelegation};
+ghost use Rattle.fab_reading.specs.Reading.{Read, Stops, any};
 
-use crate::reading::{name, sign, starts_name};
-use crate::refusal::Refusal;
-use crate::rule::Rule;
 use fab_base::{Mark, Token};
+use fab_reading::{Refusal, Rule, name, sign, starts_name};
 use fab_tree::Delegation;
 use std::alloc::Global;
 
@@ -22,12 +20,12 @@ fn delegation(alloc: Global, tokens: &[Token], room: u8) -> Result<(Delegation, 
 }
 
 /// The rule of one delegation.
-pub(crate) struct DelegationRule;
+pub struct DelegationRule;
 
 impl Rule for DelegationRule {
     ghost use Rattle.std.specs.Prelude.{refl};
-    ghost use Rattle.fab_tree.specs.Syntax.{IsDelegation};
-    ghost use Rattle.fab_parser.specs.Reading.{any, begins_name};
+    ghost use Rattle.fab_tree.specs.Declarations.{IsDelegation};
+    ghost use Rattle.fab_reading.specs.Reading.{any, begins_name};
     ghost use Rattle.fab_parser.specs.Firsts.{delegation_begins};
 
     type Tree = Delegation;

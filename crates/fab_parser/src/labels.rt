@@ -1,13 +1,10 @@
 //! Labels and their policies.
 ghost use Rattle.std.specs.Prelude.{◌≡◌, ◌↔◌, IsTrue, MatchResult};
-ghost use Rattle.fab_tree.specs.Syntax.{IsAspect, IsPolicy, IsLabel};
-ghost use Rattle.fab_parser.specs.Reading.{Read, Stops, Starts, any, begins_label, behind_names};
+ghost use Rattle.fab_tree.specs.Declarations.{IsAspect, IsPolicy, IsLabel};
+ghost use Rattle.fab_reading.specs.Reading.{Read, Stops, Starts, any, begins_label, behind_names};
 
-use crate::item::{Item, separated};
-use crate::reading::{behind, name, next, open, sign, starts_name};
-use crate::refusal::Refusal;
-use crate::rule::Rule;
 use fab_base::{Kind, Mark, Token};
+use fab_reading::{Item, Refusal, Rule, behind, name, next, open, separated, sign, starts_name};
 use fab_tree::{Aspect, LabelText, Name, PolicyText};
 use std::alloc::Global;
 
@@ -17,9 +14,9 @@ struct NameItem;
 impl Item for NameItem {
     ghost use Rattle.std.specs.Prelude.{refl};
     ghost use Rattle.fab_base.specs.declared.token.Mark.TheVariants.{Comma};
-    ghost use Rattle.fab_tree.specs.Syntax.{IsName};
-    ghost use Rattle.fab_parser.specs.Reading.{any, begins_name, is_comma};
-    ghost use Rattle.fab_parser.specs.Firsts.{name_begins};
+    ghost use Rattle.fab_tree.specs.Lists.{IsName};
+    ghost use Rattle.fab_reading.specs.Reading.{any, begins_name, is_comma};
+    ghost use Rattle.fab_reading.specs.Firsts.{name_begins};
 
     type Tree = Name;
 
@@ -88,8 +85,8 @@ struct PolicyItem;
 impl Item for PolicyItem {
     ghost use Rattle.std.specs.Prelude.{refl};
     ghost use Rattle.fab_base.specs.declared.token.Mark.TheVariants.{Semicolon};
-    ghost use Rattle.fab_tree.specs.Syntax.{IsPolicy};
-    ghost use Rattle.fab_parser.specs.Reading.{begins_name, behind_names, is_semicolon};
+    ghost use Rattle.fab_tree.specs.Declarations.{IsPolicy};
+    ghost use Rattle.fab_reading.specs.Reading.{begins_name, behind_names, is_semicolon};
     ghost use Rattle.fab_parser.specs.Firsts.{policy_begins};
 
     type Tree = PolicyText;
@@ -150,12 +147,12 @@ fn label(alloc: Global, tokens: &[Token], room: u8) -> Result<(LabelText, &[Toke
 }
 
 /// The rule of one label.
-pub(crate) struct LabelRule;
+pub struct LabelRule;
 
 impl Rule for LabelRule {
     ghost use Rattle.std.specs.Prelude.{refl};
-    ghost use Rattle.fab_tree.specs.Syntax.{IsLabel};
-    ghost use Rattle.fab_parser.specs.Reading.{any, begins_label};
+    ghost use Rattle.fab_tree.specs.Declarations.{IsLabel};
+    ghost use Rattle.fab_reading.specs.Reading.{any, begins_label};
     ghost use Rattle.fab_parser.specs.Firsts.{label_begins};
 
     type Tree = LabelText;

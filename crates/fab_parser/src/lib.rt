@@ -1,17 +1,12 @@
-//! From tokens to a bundle: the grammar, and the limits that a bundle keeps.
+//! The grammar of what a bundle declares before its run.
 #![tactic(auto)]
 
+mod classes;
 mod delegations;
-mod error;
-mod item;
 mod labels;
-mod limits;
 mod nodes;
-mod reading;
-mod refusal;
-mod rule;
-mod text;
 
-pub use error::ParseError;
-pub use limits::{is_evaluated, keeps_limits};
-pub use text::bundle;
+pub use classes::ClassRule;
+pub use delegations::DelegationRule;
+pub use labels::LabelRule;
+pub use nodes::NodeRule;

@@ -1,12 +1,10 @@
 //! Principals, workers and stores.
 ghost use Rattle.std.specs.Prelude.{◌≡◌, ◌↔◌, IsTrue, MatchResult};
-ghost use Rattle.fab_tree.specs.Syntax.{IsPlace, IsRole, IsNode};
-ghost use Rattle.fab_parser.specs.Reading.{Read, Stops, Starts, BeginsWith, Lacks, any, begins_node};
+ghost use Rattle.fab_tree.specs.Declarations.{IsPlace, IsRole, IsNode};
+ghost use Rattle.fab_reading.specs.Reading.{Read, Stops, Starts, BeginsWith, Lacks, any, begins_node};
 
-use crate::reading::{behind, name, next, sign};
-use crate::refusal::Refusal;
-use crate::rule::Rule;
 use fab_base::{Kind, Mark, Token};
+use fab_reading::{Refusal, Rule, behind, name, next, sign};
 use fab_tree::{Node, Role};
 use std::alloc::Global;
 
@@ -66,12 +64,12 @@ fn node(alloc: Global, tokens: &[Token], room: u8) -> Result<(Node, &[Token]), R
 }
 
 /// The rule of one principal, worker or store.
-pub(crate) struct NodeRule;
+pub struct NodeRule;
 
 impl Rule for NodeRule {
     ghost use Rattle.std.specs.Prelude.{refl};
-    ghost use Rattle.fab_tree.specs.Syntax.{IsNode};
-    ghost use Rattle.fab_parser.specs.Reading.{any, begins_node};
+    ghost use Rattle.fab_tree.specs.Declarations.{IsNode};
+    ghost use Rattle.fab_reading.specs.Reading.{any, begins_node};
     ghost use Rattle.fab_parser.specs.Firsts.{node_begins};
 
     type Tree = Node;

@@ -1,7 +1,8 @@
 -- Worked examples of the grammar of declarations.
-use Rattle.std.proofs.Common.{ℕ, List, [], ◌∷◌, refl, codes, pos, negsuc}
-use Rattle.fab_tree.specs.Syntax.{Is, is, name, no_more, one_more, IsDelegation, delegation, behind, none, some, readers, writers, IsPolicy, policy, IsLabel, label}
-use Rattle.fab_tree.specs.Declarations.{IsLiteral, number, negative, least, null, root}
+use Rattle.std.proofs.Common.{ℕ, List, [], ◌∷◌, refl, codes, pos, negsuc, arith}
+use Rattle.fab_tree.specs.Lists.{Is, is, name, no_more, one_more, behind, none, some}
+use Rattle.fab_tree.specs.Declarations.{IsDelegation, delegation, readers, writers, IsPolicy, policy, IsLabel, label}
+use Rattle.fab_tree.specs.Declarations.{IsNumeral, numeral, negative, least, IsLiteral, number, negated, null, root}
 use Rattle.fab_base.specs.declared.token.Mark.{Mark}
 use Rattle.fab_base.specs.declared.token.Mark.TheVariants as m
 use Rattle.fab_base.specs.declared.token.Kind.{Kind}
@@ -43,24 +44,26 @@ one_policy = label (is refl) (name refl) (is refl) (is refl) (some (policy (name
 
 -- numbers: `7`, `-7`, `-0` and the least
 seven : IsLiteral (front (k.Number 7) ∷ []) (literals.Int (pos 7)) []
-seven = number refl
+seven = number (numeral refl (omega arith))
 
 minus_seven : IsLiteral (mark m.Minus ∷ front (k.Number 7) ∷ []) (literals.Int (negsuc 6)) []
-minus_seven = negative (is refl) refl
+minus_seven = negated (is refl) (negative (numeral refl (omega arith)))
 
 minus_zero : IsLiteral (mark m.Minus ∷ front (k.Number 0) ∷ []) (literals.Int (pos 0)) []
-minus_zero = negative (is refl) refl
+minus_zero = negated (is refl) (negative (numeral refl (omega arith)))
 
 the_least : IsLiteral (mark m.Minus ∷ front k.Least ∷ []) (literals.Int (negsuc 2147483647)) []
-the_least = least (is refl) refl
+the_least = negated (is refl) (least refl)
 
 no_sign : {ts : List Token} → Is m.Minus (front k.Least ∷ []) ts → ⊥
 no_sign (is e) = absurd (cc)
 
 -- the least number without its minus sign is no literal
+no_numeral : {n : ℕ} {b : List Token} → IsNumeral (front k.Least ∷ []) n b → ⊥
+no_numeral (numeral e h) = absurd (cc)
+
 no_minus : {x : Literal} {b : List Token} → IsLiteral (front k.Least ∷ []) x b → ⊥
-no_minus (number e) = absurd (cc)
-no_minus (negative i h) = no_sign i
-no_minus (least i h) = no_sign i
+no_minus (number e) = no_numeral e
+no_minus (negated i h) = no_sign i
 no_minus (null (is e)) = absurd (cc)
 no_minus (root (name e)) = absurd (cc)

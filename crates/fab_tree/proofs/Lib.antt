@@ -1,4 +1,5 @@
 mod DeclarationExamples
+mod EvaluationExamples
 pub mod Forms
 mod MeaningExamples
 mod SyntaxExamples

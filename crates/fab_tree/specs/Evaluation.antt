@@ -1,8 +1,18 @@
 -- What is evaluated, and the text of an evaluation.
-use Rattle.std.specs.Prelude.{◌≡◌, ℕ, ◌≤◌, List, [], ◌∷◌, ◌++◌, length, count_by, codes}
+use Rattle.std.specs.Prelude.{◌≡◌, ℕ, ◌≤◌, ◌/◌, ◌%◌, ◌==◌, Bool, false, option_map, slice_get, List, [], ◌∷◌, ◌++◌, map, length, count_by, codes, All, Option, Some, None, find}
+use Rattle.std.specs.List.{flat_map}
+use Rattle.std.specs.Fmt.{signed_decimal, digit_glyph}
 use Rattle.fab_base.specs.declared.token.Token.{Token}
-use Rattle.fab_tree.specs.declared.start.Start.{Start}
+use Rattle.fab_base.specs.declared.object.Oid.{Oid}
+use Rattle.fab_base.specs.declared.object.Object.{Object}
+use Rattle.fab_base.specs.declared.object.Value.{Value}
+use Rattle.fab_base.specs.declared.object.Value.TheVariants.{Int, Null, Ref}
+use Rattle.fab_base.specs.FieldSpelling.{oid_bytes}
+use Rattle.fab_base.specs.FlatMap.{FlatMap, map_of, is_same}
 use Rattle.fab_base.specs.Tokens.{Lexes}
+use Rattle.fab_tree.specs.declared.start.Sort.TheVariants as sorts
+use Rattle.fab_tree.specs.declared.start.Start.{Start}
+use Rattle.fab_tree.specs.declared.resolved.Resolved.{Resolved}
 use Rattle.fab_tree.specs.Syntax.{IsText}
 use Rattle.fab_tree.specs.Depth.{KeepsDepth}
 use Rattle.fab_tree.specs.Limits.{is_worker, is_store, is_hostile, KeepsLimits}
@@ -12,11 +22,12 @@ use Rattle.fab_tree.specs.Names.{KeepsNames}
 abbrev pub line : List ℕ → List ℕ
 line letters = letters ++ 10 ∷ []
 
--- The form that is evaluated so far: one worker and one store, of which neither is hostile.
+-- The form that is evaluated so far: one worker and one store, of which neither is hostile, and fields that are numbers.
 pub record IsEvaluated (s : Start) : Type 0 where
   pub one_worker : count_by (λ x. is_worker x.role) s.nodes ≡ 1
   pub one_store : count_by (λ x. is_store x.role) s.nodes ≡ 1
   pub none_hostile : count_by (λ x. is_hostile x.role) s.nodes ≡ 0
+  pub numbers : All (λ c. All (λ f. f.sort ≡ sorts.Int) c.fields) s.classes
 
 -- The text spells this bundle: it has at most 1,000,000 bytes, its tokens stand for the bundle, and the bundle is of the form, within the limits and true to the rules of names.
 pub record Spells (text : List ℕ) (s : Start) : Type 0 where
@@ -29,6 +40,50 @@ pub record Spells (text : List ℕ) (s : Start) : Type 0 where
   pub names : KeepsNames s
   pub form : IsEvaluated s
 
--- the text of an evaluation: its last line says that it ended
-abbrev pub evaluation_text : Start → List ℕ
-evaluation_text s = line (codes "end")
+-- the objects that there are from the start
+abbrev pub map_at_start : Resolved → FlatMap
+map_at_start r = map_of (map (λ x. (x.oid, record { class = x.oid.class; fields = x.values })) r.roots)
+
+-- ---- names and values as they are printed
+
+abbrev pub hex : List ℕ → List ℕ
+hex = flat_map (λ b. digit_glyph false (b / 16) ∷ digit_glyph false (b % 16) ∷ [])
+
+abbrev pub text_or : List ℕ → Option (List ℕ) → List ℕ
+text_or other None = other
+text_or other (Some text) = text
+
+abbrev pub is_number : ℕ → Option ℕ → Bool
+is_number n None = false
+is_number n (Some k) = n == k
+
+-- an object's name: that of its root, else # and the 36 digits of its 18 bytes
+abbrev pub name_text : Resolved → Oid → List ℕ
+name_text r o = text_or (35 ∷ hex (oid_bytes o)) (option_map (λ x. x.name.text) (find (λ x. is_same x.oid o) r.roots))
+
+abbrev pub value_text : Resolved → Value → List ℕ
+value_text r (Int n) = signed_decimal n
+value_text r Null = codes "null"
+value_text r (Ref o) = name_text r o
+
+-- the name of the worker or store of a number
+abbrev pub node_text : Resolved → ℕ → List ℕ
+node_text r n = text_or [] (option_map (λ x. x.name.text) (find (λ x. is_number n x.node) r.nodes))
+
+abbrev pub class_text : Resolved → ℕ → List ℕ
+class_text r n = text_or [] (option_map (λ c. c.name.text) (slice_get r.classes n))
+
+-- words with a space before each
+abbrev pub spaced : List (List ℕ) → List ℕ
+spaced = flat_map (λ w. 32 ∷ w)
+
+-- `object`, the store, the name, the class and the values
+abbrev pub object_line : Resolved → Oid × Object → List ℕ
+object_line r row = line (codes "object" ++ spaced (node_text r row.0.store ∷ name_text r row.0 ∷ class_text r row.0.class ∷ map (value_text r) row.1.fields))
+
+abbrev pub objects_text : Resolved → FlatMap → List ℕ
+objects_text r m = flat_map (object_line r) m
+
+-- the text of an evaluation: the objects in the order of their names, and that it ended
+abbrev pub evaluation_text : Resolved → List ℕ
+evaluation_text r = objects_text r (map_at_start r) ++ line (codes "end")

@@ -2,6 +2,8 @@ pub mod Declarations
 pub mod Depth
 pub mod Evaluation
 pub mod Limits
+pub mod Lists
 pub mod Meaning
 pub mod Names
+pub mod Resolution
 pub mod Syntax

@@ -1,5 +1,5 @@
 -- The limits on the counts of a bundle.
-use Rattle.std.specs.Prelude.{◌≤◌, Bool, true, false, length, count_by}
+use Rattle.std.specs.Prelude.{◌≤◌, Bool, true, false, length, count_by, All}
 use Rattle.fab_tree.specs.declared.start.Role.{Role}
 use Rattle.fab_tree.specs.declared.start.Role.TheVariants as r
 use Rattle.fab_tree.specs.declared.start.Start.{Start}
@@ -30,3 +30,6 @@ pub record KeepsLimits (s : Start) : Type 0 where
   pub principals : length s.nodes ≤ 64
   pub nodes : count_by (λ x. is_node x.role) s.nodes ≤ 32
   pub labels : length s.labels ≤ 64
+  pub classes : length s.classes ≤ 64
+  pub fields : All (λ c. length c.fields ≤ 16) s.classes
+  pub roots : length s.roots ≤ 100000

@@ -108,4 +108,6 @@ pub struct Start {
     pub nodes: Seq<Node>,
     pub delegations: Seq<Delegation>,
     pub labels: Seq<LabelText>,
+    pub classes: Seq<Class>,
+    pub roots: Seq<Root>,
 }

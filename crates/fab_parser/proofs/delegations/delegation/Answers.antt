@@ -1,9 +1,9 @@
 use Rattle.std.proofs.Common.{refl}
 use Rattle.std.proofs.lemmas.Result.{err_from_is_err_and}
 use Rattle.fab_base.specs.declared.token.Mark.TheVariants as m
-use Rattle.fab_parser.specs.Reading.{any}
-use Rattle.fab_parser.proofs.Rules.{sign, part, any_follows, end_text, sign_text, then_text, stop_part, stop_sign, whole}
-use Rattle.fab_parser.proofs.NodeRules.{name_text}
+use Rattle.fab_reading.specs.Reading.{any}
+use Rattle.fab_reading.proofs.Rules.{sign, part, any_follows, end_text, sign_text, then_text, stop_part, stop_sign, whole}
+use Rattle.fab_reading.proofs.TokenRules.{name_text}
 use Rattle.fab_parser.proofs.DelegationRules.{delegation_start}
 use Rattle.fab_parser.proofs.delegations.delegation.Goals as goal
 

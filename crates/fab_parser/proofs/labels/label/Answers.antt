@@ -1,10 +1,11 @@
 use Rattle.std.proofs.Common.{refl}
 use Rattle.std.proofs.lemmas.Result.{err_from_is_err_and}
 use Rattle.fab_base.specs.declared.token.Mark.TheVariants as m
-use Rattle.fab_parser.specs.Reading.{any}
-use Rattle.fab_parser.proofs.Rules.{sign, part, any_follows, sign_follows, end_text, sign_text, then_text, stop_part, stop_sign, stop_open, opened, closed, whole}
-use Rattle.fab_parser.proofs.NodeRules.{name_text}
-use Rattle.fab_parser.proofs.LabelRules.{label_start, separated_text, behind_policies}
+use Rattle.fab_reading.specs.Reading.{any}
+use Rattle.fab_reading.proofs.Rules.{sign, part, any_follows, sign_follows, end_text, sign_text, then_text, stop_part, stop_sign, stop_open, opened, closed, whole}
+use Rattle.fab_reading.proofs.TokenRules.{name_text}
+use Rattle.fab_reading.proofs.ItemRules.{separated_text}
+use Rattle.fab_parser.proofs.LabelRules.{label_start, behind_policies}
 use Rattle.fab_parser.proofs.labels.label.Goals as goal
 
 pub returns-in_err-rest : goal.returns-in_err-rest

@@ -1,7 +1,8 @@
 use Rattle.std.proofs.lemmas.Result.{err_from_is_err_and}
-use Rattle.fab_parser.specs.Reading.{any, behind_names}
-use Rattle.fab_parser.proofs.Rules.{part, any_follows, end_meets, end_text, then_text, stop_part, whole}
-use Rattle.fab_parser.proofs.LabelRules.{policy_start, aspect_text, separated_text}
+use Rattle.fab_reading.specs.Reading.{any, behind_names}
+use Rattle.fab_reading.proofs.Rules.{part, any_follows, end_meets, end_text, then_text, stop_part, whole}
+use Rattle.fab_reading.proofs.ItemRules.{separated_text}
+use Rattle.fab_parser.proofs.LabelRules.{policy_start, aspect_text}
 use Rattle.fab_parser.proofs.labels.policy.Goals as goal
 
 pub returns-in_err-owner : goal.returns-in_err-owner

@@ -1,7 +1,7 @@
 use Rattle.std.proofs.Common.{refl}
 use Rattle.std.proofs.lemmas.Result.{err_from_is_err_and}
-use Rattle.fab_parser.specs.Reading.{any}
-use Rattle.fab_parser.proofs.Rules.{sign, part, ending, end_meets, end_text, stop_part, whole}
+use Rattle.fab_reading.specs.Reading.{any}
+use Rattle.fab_reading.proofs.Rules.{sign, part, ending, end_meets, end_text, stop_part, whole}
 use Rattle.fab_parser.proofs.NodeRules.{principal_read, hostile_start, honest_start}
 use Rattle.fab_parser.proofs.nodes.role.Goals as goal
 

@@ -1,0 +1,2 @@
+pub mod RootRules
+pub mod TextRules

@@ -1,0 +1,11 @@
+//! From tokens to a bundle: the grammar of a whole text, and the limits that it keeps.
+#![tactic(auto)]
+
+mod error;
+mod limits;
+mod roots;
+mod text;
+
+pub use error::ParseError;
+pub use limits::{is_evaluated, keeps_limits};
+pub use text::bundle;

@@ -1,0 +1,70 @@
+//! What a bundle declares, with the names of its roots in a table.
+ghost use Rattle.std.specs.Prelude.{◌≡◌, ◌≤◌, true, false, length, IfOk, MatchOption, option_copied, slice_get};
+ghost use Rattle.fab_tree.specs.Names.{root_name};
+ghost use Rattle.fab_tree.specs.Resolution.{number_of};
+ghost use Rattle.fab_names.specs.Known.{is_distinct};
+
+use fab_base::NoMemory;
+use fab_tree::{Name, Root, Start};
+use indexmap::IndexSet;
+use std::alloc::Global;
+use std::marker::Model;
+
+/// What a bundle declares. There may be many roots, so their names stand in a table, in which each
+/// has its root's number. Contracts see it as the bundle.
+#[derive(Drop)]
+pub(crate) struct Declared<'a> {
+    start: &'a Start,
+    roots: IndexSet<&'a str>,
+}
+
+impl<'a> Model for Declared<'a> {
+    ghost use Rattle.std.specs.Prelude.{◌≡◌, map};
+    ghost use Rattle.fab_tree.specs.declared.start.Start.{Start as Bundle};
+    ghost use Rattle.fab_tree.specs.Names.{root_name};
+
+    ghost Value = { Bundle };
+
+    ghost view = { λ d. d.start.now };
+
+    ghost invariant = { λ d. map (λ k. k.now) d.roots.keys ≡ map root_name d.start.now.roots };
+}
+
+impl<'a> Declared<'a> {
+    /// The table of a bundle, unless two of its roots have one name.
+    pub(crate) fn make(alloc: Global, start: &'a Start) -> Result<Option<Declared<'a>>, NoMemory>
+        ensures { IfOk result (λ o. MatchOption o (is_distinct root_name start.now.roots ≡ false) (λ d. (d ≡ start.now) × (is_distinct root_name start.now.roots ≡ true))) }
+    {
+        let mut roots = IndexSet::new(alloc);
+        for root in start.roots.as_slice() {
+            if !roots.insert(root.name.text.as_str())? {
+                return Ok(None);
+            }
+        }
+        Ok(Some(Declared { start, roots }))
+    }
+
+    /// The bundle.
+    pub(crate) fn start(&self) -> &'a Start
+        ensures { result.now ≡ self.now }
+    {
+        self.start
+    }
+
+    /// The number of the root of this name, or how many roots there are where none has it.
+    pub(crate) fn root_number(&self, name: &Name) -> usize
+        ensures number { result ≡ number_of root_name self.now.roots name.now.text }
+        ensures within { result ≤ length self.now.roots }
+    {
+        self.roots
+            .get_index_of(name.text.as_str())
+            .unwrap_or(self.roots.len())
+    }
+
+    /// The root of this name.
+    pub(crate) fn root(&self, name: &Name) -> Option<&'a Root>
+        ensures { option_copied result ≡ slice_get self.now.roots (number_of root_name self.now.roots name.now.text) }
+    {
+        self.start.roots.as_slice().get(self.root_number(name))
+    }
+}

@@ -1,0 +1,4 @@
+pub mod ItemRules
+pub mod ListRules
+pub mod Rules
+pub mod TokenRules

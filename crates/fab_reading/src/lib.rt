@@ -1,0 +1,12 @@
+//! Reading a text by the rules of a grammar: marks, names and lists, from tokens.
+#![tactic(auto)]
+
+mod item;
+mod reading;
+mod refusal;
+mod rule;
+
+pub use item::{Item, separated};
+pub use reading::{behind, name, next, open, sign, starts_name};
+pub use refusal::Refusal;
+pub use rule::{Rule, repeated};
