@@ -1,12 +1,12 @@
 -- Names that all are among few are few.
-use Rattle.std.proofs.Common.{◌≡◌, ℕ, zero, suc, ◌+◌, ◌<◌, ◌≤◌, Bool, true, false, not, ◌&&◌, ◌||◌, if◌then◌else◌, List, [], ◌∷◌, ◌++◌, length, length-append, refl, sym, ap, ◌∙◌, arith, subst}
+use Rattle.std.proofs.Common.{◌≡◌, ℕ, suc, ◌<◌, ◌≤◌, Bool, true, false, not, ◌&&◌, ◌||◌, if◌then◌else◌, List, [], ◌∷◌, ◌++◌, length, length-append, refl, sym, ap, ◌∙◌, arith, subst}
 use Rattle.std.specs.Prelude.{nat_le}
 use Rattle.std.proofs.lemmas.Bool.{true≢false}
 use Rattle.std.proofs.lemmas.Bool.Decides.{nat_tests}
 use Rattle.fab_base.specs.declared.object.Oid.{Oid}
 use Rattle.fab_base.specs.FlatMap.{is_same}
 use Rattle.fab_map.proofs.Order.{same_self, same_flips, one_name}
-use Rattle.fab_tree.specs.Meaning.{is_among, is_full, without, each_once, touched, noted, with_written}
+use Rattle.fab_tree.specs.Meaning.{is_among, without, each_once, touched, noted, with_written}
 use Rattle.fab_eval.proofs.Noting.{among_without, noted_known, noted_new}
 
 -- no name stands twice

@@ -1,5 +1,4 @@
 -- What a run leaves.
-use Rattle.std.specs.Prelude.{ℕ}
 use Rattle.fab_tree.specs.Meaning.{Run, goes, ends, State}
 
 -- the state behind a run, whether it went on or ended

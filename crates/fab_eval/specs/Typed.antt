@@ -1,11 +1,11 @@
 -- Methods that are well typed, over the resolved tree.
 --
 -- A local is known in a block from the statement that first gives it a value on; its parameters are known from the start.
-use Rattle.std.specs.Prelude.{◌≡◌, ℕ, zero, suc, ◌+◌, ◌≤◌, Bool, true, false, ◌||◌, ◌==◌, ℤ, List, [], ◌∷◌, length, map, sum, Option, Some, None, option_and_then, slice_get, unwrap_or}
+use Rattle.std.specs.Prelude.{◌≡◌, ℕ, zero, suc, ◌+◌, ◌≤◌, Bool, true, false, ◌||◌, ◌==◌, ℤ, List, [], ◌∷◌, length, map, sum, Option, Some, option_and_then, slice_get}
 use Rattle.fab_base.specs.declared.object.Oid.{Oid}
 use Rattle.fab_base.specs.declared.object.Object.{Object}
 use Rattle.fab_base.specs.declared.object.Value.{Value}
-use Rattle.fab_base.specs.declared.object.Value.TheVariants.{Int, Null, Ref}
+use Rattle.fab_base.specs.declared.object.Value.TheVariants.{Int, Ref}
 use Rattle.fab_base.specs.FlatMap.{FlatMap, get}
 use Rattle.fab_tree.specs.declared.program.Sign.{Sign}
 use Rattle.fab_tree.specs.declared.program.Comparison.{Comparison}
