@@ -6,7 +6,7 @@ use crate::seq::Seq;
 /// name the transaction, `site` the place in the program, and `index` counts the objects of that
 /// site in that transaction. A root has worker 65535, boot 0, its root number, site 65535 and
 /// index 0. The fields stand in the order in which names are compared and spelled.
-#[derive(Clone, Copy, Debug, PartialEq, Eq, PartialOrd, Ord)]
+#[derive(Clone, Copy, Debug, PartialEq, Eq, PartialOrd, Ord, Hash)]
 pub struct Oid {
     pub store: u16,
     pub class: u16,

@@ -1,3 +1,5 @@
 mod DeclarationExamples
 mod EvaluationExamples
+pub mod Forms
+mod MeaningExamples
 mod SyntaxExamples

@@ -1,0 +1,6 @@
+pub mod Noting
+pub mod Settling
+pub mod Blocks
+pub mod Few
+pub mod Progress
+mod TypedExamples

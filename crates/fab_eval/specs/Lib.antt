@@ -1,0 +1,5 @@
+pub mod Gives
+pub mod Outcomes
+pub mod Runs
+pub mod Settles
+pub mod Typed

@@ -1,0 +1,40 @@
+//! What is evaluated, and what that may come to.
+
+use fab_base::{Object, Oid, Seq, Stop, Tid, Value};
+use fab_tree::Resolved;
+use fab_tree::resolved::Request;
+use std::sync::Arc;
+
+/// A request in a program, the attempt that runs it, and the objects that were answered so far,
+/// each with the version that was read.
+#[derive(Drop)]
+pub struct Job {
+    pub program: Arc<Resolved>,
+    pub request: Request,
+    pub tid: Tid,
+    pub answers: Seq<(Oid, u32, Object)>,
+}
+
+/// What a request comes to over its answers: one object more is needed, at a site, for it to go on;
+/// it ended, with its value, what it wrote, each object with the version that was read, and what it
+/// made, both in the order of names; it failed; or it came to a limit.
+#[derive(Drop)]
+pub enum Outcome {
+    Need {
+        site: u16,
+        oid: Oid,
+    },
+    Ended {
+        value: Option<Value>,
+        writes: Seq<(Oid, u32, Object)>,
+        creates: Seq<(Oid, Object)>,
+    },
+    Failed,
+    Stopped(Stop),
+}
+
+/// Want of memory, with the job as it was.
+#[derive(Drop)]
+pub struct EvalRefused {
+    pub job: Job,
+}
