@@ -1,10 +1,10 @@
 //! What a declaration becomes where numbers stand for names.
-ghost use Rattle.std.specs.Prelude.{◌≡◌, map, take, IfOk};
+ghost use Rattle.std.specs.Prelude.{◌≡◌, map, IfOk};
 ghost use Rattle.fab_tree.specs.Limits.{KeepsLimits};
 
 use crate::declared::Declared;
 use crate::named::copied;
-use fab_base::{Label, NoMemory, Seq};
+use fab_base::{NoMemory, Seq};
 use fab_tree::resolved::{Class as NumberedClass, Field as NumberedField, NamedLabel};
 use fab_tree::{Class, Field, LabelText};
 use std::alloc::Global;

@@ -5,7 +5,7 @@ ghost use Rattle.std.specs.Str.{bytes_eq};
 ghost use Rattle.fab_tree.specs.Limits.{KeepsLimits, is_node};
 ghost use Rattle.fab_names.specs.Numbered.{said_by};
 ghost use Rattle.fab_tree.specs.Names.{node_name, label_name, root_name};
-ghost use Rattle.fab_tree.specs.Resolution.{number_of, use_of, principal_number, node_number, nodes_of, pair_of, policy_of, sort_of, oid_of, root_value, value_of};
+ghost use Rattle.fab_tree.specs.Resolution.{number_of, use_of, principal_number, node_number, pair_of, policy_of, sort_of, oid_of, root_value, value_of};
 
 use crate::declared::Declared;
 use crate::named::{Named, number_of};

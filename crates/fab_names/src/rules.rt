@@ -2,12 +2,12 @@
 ghost use Rattle.std.specs.Prelude.{◌≡◌, ◌↔◌, ◌&&◌, IfOk, IsTrue, MatchOption};
 ghost use Rattle.std.specs.List.{list_all};
 ghost use Rattle.fab_tree.specs.Names.{KeepsNames, node_name};
-ghost use Rattle.fab_names.specs.Known.{is_among, knows, knows_policy, knows_label, knows_class, declares_once, knows_all};
+ghost use Rattle.fab_names.specs.Known.{is_among, knows, knows_policy, knows_label, declares_once, knows_all};
 
 use crate::declared::Declared;
 use crate::named::{are_distinct, is_named};
 use fab_base::NoMemory;
-use fab_tree::{Class, Delegation, LabelText, Name, PolicyText, Start};
+use fab_tree::{Delegation, LabelText, Name, PolicyText, Start};
 use std::alloc::Global;
 
 /// Whether the bundle keeps the rules of names.

@@ -1,9 +1,9 @@
 //! The rules of types.
-ghost use Rattle.std.specs.Prelude.{◌≡◌, ◌&&◌};
+ghost use Rattle.std.specs.Prelude.{◌≡◌};
 ghost use Rattle.std.specs.List.{list_all};
 ghost use Rattle.std.specs.Str.{bytes_eq};
 ghost use Rattle.fab_tree.specs.Limits.{is_store};
-ghost use Rattle.fab_tree.specs.Names.{label_name, class_name};
+ghost use Rattle.fab_tree.specs.Names.{label_name};
 ghost use Rattle.fab_names.specs.Known.{is_among, knows_sort, knows_class, knows_root, knows_store, is_of, are_of_class, fits, fit_each, fit_all};
 
 use crate::declared::Declared;
