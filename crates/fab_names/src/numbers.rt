@@ -178,7 +178,10 @@ fn number_of_node(nodes: &[Node], name: &Name) -> usize
     ensures number { result ≡ number_of node_name (filter (λ x. is_node x.role) nodes.now) name.now.text }
     ensures within { result ≤ count_by (λ x. is_node x.role) nodes.now }
 {
-    place_of_node(nodes, name).unwrap_or(count_of_nodes(nodes))
+    match place_of_node(nodes, name) {
+        Some(number) => number,
+        None => count_of_nodes(nodes),
+    }
 }
 
 /// Where the first of this name stands among the workers and stores.

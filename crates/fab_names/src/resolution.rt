@@ -15,6 +15,9 @@ use fab_tree::{Node, Root, Start};
 use std::alloc::Global;
 
 /// The bundle with numbers for names, or `None` where it doesn't keep the rules of names.
+///
+/// A root is found by its name in a table, and anything else by a scan, so within the limits the time
+/// grows with the length of the bundle.
 pub fn resolve(alloc: Global, start: &Start) -> Result<Option<Resolved>, NoMemory>
     requires { KeepsLimits start.now }
     ensures { IfOk result (λ o. MatchOption o (¬ KeepsNames start.now) (λ r. KeepsNames start.now × (r ≡ resolved start.now))) }

@@ -11,6 +11,9 @@ use fab_tree::{Class, Delegation, LabelText, Name, PolicyText, Start};
 use std::alloc::Global;
 
 /// Whether the bundle keeps the rules of names.
+///
+/// The names of roots stand in a table. Those of principals, labels, classes and a class's fields
+/// are compared each with each, so a caller tests first that they are as few as the limits allow.
 pub fn keeps_names(alloc: Global, start: &Start) -> Result<bool, NoMemory>
     ensures { IfOk result (λ b. IsTrue b ↔ KeepsNames start.now) }
 {

@@ -3,6 +3,7 @@ use Rattle.std.proofs.Common.{◌≡◌, ◌≢◌, ◌⊎◌, inl, inr, ℕ, �
 use Rattle.std.specs.Io.KnownBytes.{Appends, IsAtEnd, Consumes}
 use Rattle.std.specs.declared.alloc.Global.{Global}
 use Rattle.fab_tree.specs.declared.start.Start.{Start}
+use Rattle.fab_tree.specs.Resolution.{resolved}
 use Rattle.fab_tree.specs.Evaluation.{Spells, evaluation_text, line}
 use Rattle.fab_top.specs.Reply.{AskEvaluation, SpellsSome, SpellsNone, Replies, usage, evaluated, not_built, RepliesWith, Ends, Exactly, WritesEvaluation}
 use Rattle.fab_top.specs.declared.status.Status.{Status}
@@ -52,7 +53,7 @@ line_of_usage (usage n) = refl
 line_of_not_built : {words : List (String Global)} {text reply : List ℕ} → Replies words text NotBuilt reply → reply ≡ line (codes "not built")
 line_of_not_built (not_built a n) = refl
 
-spells_of : {words : List (String Global)} {text reply : List ℕ} → Replies words text Ok reply → (s : Start) × Spells text s × (reply ≡ evaluation_text s)
+spells_of : {words : List (String Global)} {text reply : List ℕ} → Replies words text Ok reply → (s : Start) × Spells text s × (reply ≡ evaluation_text (resolved s))
 spells_of (evaluated {s = s} a p) = (s, p, refl)
 
 none_of : {words : List (String Global)} {text reply : List ℕ} → Replies words text NotBuilt reply → SpellsNone text

@@ -1,3 +1,4 @@
 pub mod Bytes
 pub mod Endings
+pub mod Objects
 pub mod Words

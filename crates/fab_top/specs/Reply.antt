@@ -3,6 +3,8 @@ use Rattle.std.specs.Prelude.{◌≡◌, ◌⊎◌, ℕ, List, [], ◌∷◌, ma
 use Rattle.std.specs.Io.KnownBytes.{Appends, Keeps}
 use Rattle.std.specs.declared.alloc.Global.{Global}
 use Rattle.fab_tree.specs.declared.start.Start.{Start}
+use Rattle.fab_tree.specs.declared.resolved.Resolved.{Resolved}
+use Rattle.fab_tree.specs.Resolution.{resolved}
 use Rattle.fab_tree.specs.Evaluation.{Spells, evaluation_text, line}
 use Rattle.fab_top.specs.Reading.{ReadsText, WritesFront}
 use Rattle.fab_top.specs.declared.status.Status.{Status}
@@ -16,6 +18,10 @@ AskEvaluation words = map string_bytes words ≡ codes "eval" ∷ []
 abbrev pub SpellsSome : List ℕ → Type 0
 SpellsSome text = (s : Start) × Spells text s
 
+-- this is the bundle that the text spells, with numbers for names
+abbrev pub SpellsResolved : List ℕ → Resolved → Type 0
+SpellsResolved text r = (s : Start) × Spells text s × (r ≡ resolved s)
+
 -- the text spells no bundle of the form that is evaluated
 abbrev pub SpellsNone : List ℕ → Type 0
 SpellsNone text = (s : Start) → Spells text s → ⊥
@@ -23,7 +29,7 @@ SpellsNone text = (s : Start) → Spells text s → ⊥
 -- Replies words text status written: the status, and what is written, for these words and the text that was read.
 pub data Replies : List (String Global) → List ℕ → Status → List ℕ → Type 0 where
   usage : {words : List (String Global)} {text : List ℕ} → (AskEvaluation words → ⊥) → Replies words text Usage (line (codes "usage"))
-  evaluated : {words : List (String Global)} {text : List ℕ} {s : Start} → AskEvaluation words → Spells text s → Replies words text Ok (evaluation_text s)
+  evaluated : {words : List (String Global)} {text : List ℕ} {s : Start} → AskEvaluation words → Spells text s → Replies words text Ok (evaluation_text (resolved s))
   not_built : {words : List (String Global)} {text : List ℕ} → AskEvaluation words → SpellsNone text → Replies words text NotBuilt (line (codes "not built"))
 
 -- this was read for the words: the text where they ask for an evaluation, and else nothing
@@ -64,4 +70,4 @@ pub record Exactly (status S : Status) (P : Type 0) : Type 0 where
 
 -- the evaluation of the bundle that the text spells is written
 abbrev pub WritesEvaluation : List ℕ → Option (List ℕ) → Option (List ℕ) → Type 0
-WritesEvaluation text written written' = (s : Start) × Spells text s × Appends written written' (evaluation_text s)
+WritesEvaluation text written written' = (s : Start) × Spells text s × Appends written written' (evaluation_text (resolved s))

@@ -2,6 +2,8 @@
 #![tactic(auto)]
 
 mod command;
+#[cfg(test)]
+mod declared;
 mod evaluation;
 mod reading;
 mod status;

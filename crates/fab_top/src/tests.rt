@@ -2,7 +2,9 @@
 ghost use Rattle.std.specs.Prelude.{Some};
 
 use crate::{Status, fab};
-use fab_base::{Failed, MemSink, MemSource, NoMemory, Seq, Sink, SinkError, Source, SureSink, SureSource};
+use fab_base::{
+    Failed, MemSink, MemSource, NoMemory, Seq, Sink, SinkError, Source, SureSink, SureSource,
+};
 use std::alloc::Global;
 use std::process::Abort;
 use std::test::Fail;
@@ -18,7 +20,7 @@ fn words_of(alloc: Global, words: &[&str]) -> Result<Vec<String>, NoMemory> {
 }
 
 /// Evaluates a text, and compares the status and what is written.
-fn expect(
+pub(crate) fn expect(
     rt: &impl Abort,
     alloc: Global,
     text: &[u8],
@@ -32,6 +34,22 @@ fn expect(
     assert_eq!(rt; found, status);
     assert_eq!(rt; sink.bytes(), line.as_bytes());
     Ok(())
+}
+
+/// Evaluates a text with these declarations, behind a principal, a worker, a store and a label, and
+/// with these roots. It must be refused.
+pub(crate) fn refuses(
+    rt: &impl Abort,
+    alloc: Global,
+    declared: &str,
+    roots: &str,
+) -> Result<(), NoMemory> {
+    let mut text = String::from_str(alloc, "principal p;worker w1;store s1;label L={};")?;
+    text.push_str(declared)?;
+    text.push_str("run{")?;
+    text.push_str(roots)?;
+    text.push_str("}")?;
+    expect(rt, alloc, text.as_bytes(), Status::NotBuilt, "not built\n")
 }
 
 #[test]
@@ -63,7 +81,6 @@ fn other_texts(rt: HostRuntime) -> Result<(), Fail> {
         "worker w1;hostile store s1;run{}",
         "hostile worker w1;store s1;run{}",
         "hostile principal A;worker w1;store s1;run{}",
-        "worker w1;store s1;class C label P access P {} run{}",
         "worker w1;store s1;run{}99999999999999999999",
         "worker w;store w;run{}",
         "worker w1;store s1;A actsfor w1;run{}",

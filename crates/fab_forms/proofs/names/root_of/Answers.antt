@@ -1,5 +1,5 @@
 use Rattle.std.proofs.Common.{sym, ◌∙◌}
-use Rattle.fab_forms.proofs.Texts.{none_found, one_found, other_found}
+use Rattle.fab_forms.proofs.Roots.{none_found, one_found, other_found}
 use Rattle.fab_forms.proofs.names.root_of.Goals as goal
 
 pub returns-in-None : goal.returns-in-None
