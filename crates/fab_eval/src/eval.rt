@@ -69,13 +69,13 @@ fn statement(alloc: Global, state: &mut State, s: &Statement) -> Result<(), Halt
     ensures gives { Gives result state.new (statement s.now (shown state.old)) }
     ensures fuel { state.new.fuel ≤ state.old.fuel }
 {
+    charge(state)?;
     match s {
         Statement::Assign {
             local: x,
             value: e,
             at: _,
         } => {
-            charge(state)?;
             let v = value(state, e)?;
             assign(state, *x, v);
             Ok(())
@@ -86,7 +86,6 @@ fn statement(alloc: Global, state: &mut State, s: &Statement) -> Result<(), Halt
             value: e,
             site,
         } => {
-            charge(state)?;
             let new = value(state, e)?;
             let at = local(state, object.number);
             write(alloc, state, *site, *field, at, new)
@@ -96,7 +95,6 @@ fn statement(alloc: Global, state: &mut State, s: &Statement) -> Result<(), Halt
             block: then,
             otherwise,
         } => {
-            charge(state)?;
             let v = value(state, condition)?;
             if holds(v) {
                 block(alloc, state, then.as_slice())
