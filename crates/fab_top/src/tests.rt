@@ -69,6 +69,11 @@ fn good_texts(rt: HostRuntime) -> Result<(), Fail> {
     Ok(())
 }
 
+/// A text that isn't of the form.
+fn not_built(rt: &impl Abort, alloc: Global, text: &str) -> Result<(), NoMemory> {
+    expect(rt, alloc, text.as_bytes(), Status::NotBuilt, "not built\n")
+}
+
 #[test]
 fn other_texts(rt: HostRuntime) -> Result<(), Fail> {
     for text in [
@@ -88,16 +93,6 @@ fn other_texts(rt: HostRuntime) -> Result<(), Fail> {
         "worker w1;store s1;w1 actsfor s1 run{}",
         "worker w1;store s1;w1 actsfor;run{}",
         "worker w1;w1 actsfor w1;store s1;run{}",
-        "worker w1;store s1;label L={};label L={w1->};run{}",
-        "worker w1;store s1;label L={};label M={A->};run{}",
-        "worker w1;store s1;label L={w1->s1;w1<-s1,A};run{}",
-        "worker w1;store s1;label L={w1->;};run{}",
-        "worker w1;store s1;label L={w1->s1,};run{}",
-        "worker w1;store s1;label L={w1->w1 s1};run{}",
-        "worker w1;store s1;label L={w1};run{}",
-        "worker w1;store s1;label L={w1->;run{}",
-        "worker w1;store s1;label L={}run{}",
-        "worker w1;store s1;label L={};w1 actsfor s1;run{}",
         "principal w;worker w;store s;run{}",
         "worker w1;store s1;run{",
         "worker w1;store s1;run{}}",
@@ -110,13 +105,26 @@ fn other_texts(rt: HostRuntime) -> Result<(), Fail> {
         "worker w1;store s1;run{}/ end",
         "worker w\u{e9};store s1;run{}",
     ] {
-        expect(
-            &rt,
-            rt.alloc(),
-            text.as_bytes(),
-            Status::NotBuilt,
-            "not built\n",
-        )?;
+        not_built(&rt, rt.alloc(), text)?;
+    }
+    Ok(())
+}
+
+#[test]
+fn wrong_labels(rt: HostRuntime) -> Result<(), Fail> {
+    for text in [
+        "worker w1;store s1;label L={};label L={w1->};run{}",
+        "worker w1;store s1;label L={};label M={A->};run{}",
+        "worker w1;store s1;label L={w1->s1;w1<-s1,A};run{}",
+        "worker w1;store s1;label L={w1->;};run{}",
+        "worker w1;store s1;label L={w1->s1,};run{}",
+        "worker w1;store s1;label L={w1->w1 s1};run{}",
+        "worker w1;store s1;label L={w1};run{}",
+        "worker w1;store s1;label L={w1->;run{}",
+        "worker w1;store s1;label L={}run{}",
+        "worker w1;store s1;label L={};w1 actsfor s1;run{}",
+    ] {
+        not_built(&rt, rt.alloc(), text)?;
     }
     Ok(())
 }
