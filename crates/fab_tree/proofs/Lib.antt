@@ -1,3 +1,5 @@
 mod DeclarationExamples
 mod EvaluationExamples
+pub mod Places
+mod ProgramExamples
 mod SyntaxExamples
