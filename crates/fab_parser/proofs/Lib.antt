@@ -1,4 +1,6 @@
 pub mod ClassRules
 pub mod DelegationRules
+pub mod ExpressionRules
 pub mod LabelRules
 pub mod NodeRules
+pub mod StatementRules

@@ -3,8 +3,10 @@
 
 mod classes;
 mod delegations;
+mod expressions;
 mod labels;
 mod nodes;
+mod statements;
 
 pub use classes::ClassRule;
 pub use delegations::DelegationRule;
