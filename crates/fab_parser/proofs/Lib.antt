@@ -2,5 +2,6 @@ pub mod ClassRules
 pub mod DelegationRules
 pub mod ExpressionRules
 pub mod LabelRules
+pub mod MethodRules
 pub mod NodeRules
 pub mod StatementRules

@@ -8,7 +8,7 @@ use Rattle.fab_tree.specs.declared.start.Name.{Name}
 use Rattle.fab_tree.specs.declared.program.Expression.{Expression}
 use Rattle.fab_tree.specs.Lists.{Is, IsName}
 use Rattle.fab_tree.specs.Programs.{IsExpression}
-use Rattle.fab_reading.specs.Reading.{begins_numeral, behind_list}
+use Rattle.fab_reading.specs.Reading.{begins_numeral, any, begins_sort, is_comma, behind_items, behind_list}
 
 -- a number, a name, or an expression in brackets
 abbrev pub begins_primary : Kind → Bool
@@ -58,6 +58,10 @@ after_statement _ = true
 
 abbrev pub behind_statements : Kind → Bool
 behind_statements = behind_list begins_statement after_statement
+
+-- what may follow parameters with commas between them
+abbrev pub behind_parameters : Kind → Bool
+behind_parameters = behind_items begins_sort is_comma any
 
 -- the head of a method goes on with `fails`
 abbrev pub after_head : Kind → Bool
