@@ -1,2 +1,3 @@
 pub mod RootRules
+pub mod SessionRules
 pub mod TextRules

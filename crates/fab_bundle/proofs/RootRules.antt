@@ -1,5 +1,5 @@
 -- Roots and their literals, part by part.
-use Rattle.std.proofs.Common.{◌≡◌, ◌<◌, ℕ, ℤ, pos, IsTrue, List, [], ◌∷◌, ◌++◌, length, Some, refl, sym, ap, subst, ◌∙◌, append_assoc}
+use Rattle.std.proofs.Common.{◌≡◌, ℕ, ℤ, pos, IsTrue, List, [], ◌∷◌, ◌++◌, length, Some, refl, sym, ap, subst, ◌∙◌, append_assoc}
 use Rattle.fab_base.specs.declared.token.Mark.TheVariants as m
 use Rattle.fab_base.specs.declared.token.Kind.{Kind}
 use Rattle.fab_base.specs.declared.token.Kind.TheVariants as k
@@ -109,13 +109,6 @@ no_negated_starts (t ∷ ts) i g l = no_negated_begins t.kind i (g t ts refl) l
 
 pub negated_refused : {room : ℕ} (a : List Token) → (Starts begins_numeral a → ⊥) → ((t : Token) (ts : List Token) → a ≡ t ∷ ts → t.kind ≡ k.Least → ⊥) → Refused IsNegated any room a (length a)
 negated_refused a i g = here begins_negated negated_begins negated_text (no_negated_starts a i g)
-
--- a number of 31 bits at the front
-pub numeral_at : {a b : List Token} {t : Token} {n : ℕ} → a ≡ t ∷ b → (t.kind ≡ k.Number n) × (n < 2147483648) → IsNumeral a n b
-numeral_at {b = b} {n = n} e h = subst (λ x. IsNumeral x n b) (sym e) (numeral h.0 h.1)
-
-pub no_numeral_at : {a b : List Token} {t : Token} → a ≡ t ∷ b → (IsTrue (begins_numeral t.kind) → ⊥) → Starts begins_numeral a → ⊥
-no_numeral_at e h s = h (subst (Starts begins_numeral) e s)
 
 -- ---- literals with their places
 

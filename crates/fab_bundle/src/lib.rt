@@ -4,6 +4,7 @@
 mod error;
 mod limits;
 mod roots;
+mod sessions;
 mod text;
 
 pub use error::ParseError;

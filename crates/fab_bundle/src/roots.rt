@@ -1,21 +1,15 @@
 //! Roots and the literals that they are given.
-ghost use Rattle.std.specs.Prelude.{◌≡◌, ◌<◌, ◌↔◌, ◌∷◌, IsTrue, List, MatchOption, MatchResult, pos};
-ghost use Rattle.fab_base.specs.declared.token.Token.{Token as TokenTree};
-ghost use Rattle.fab_tree.specs.Declarations.{minus, IsNumeral, IsNegated, IsLiteral, IsGiven, IsRoot};
-ghost use Rattle.fab_reading.specs.Reading.{Read, Stops, Starts, any, begins_literal, begins_numeral, begins_root, behind_literals};
+ghost use Rattle.std.specs.Prelude.{◌≡◌, ◌<◌, ◌↔◌, IsTrue, MatchResult};
+ghost use Rattle.fab_tree.specs.Declarations.{minus, IsNegated, IsLiteral, IsGiven, IsRoot};
+ghost use Rattle.fab_reading.specs.Reading.{Read, Stops, Starts, any, begins_literal, begins_root, behind_literals};
 
 use fab_base::{Kind, Mark, Token};
-use fab_reading::{Item, Refusal, Rule, behind, name, next, open, separated, sign, starts_name};
+use fab_reading::{
+    Item, Refusal, Rule, behind, behind_least, name, next, numeral, open, positive, separated,
+    sign, starts_name,
+};
 use fab_tree::{Given, Literal, Root};
 use std::alloc::Global;
-
-/// A number of 31 bits as one of 32 bits with a sign.
-fn positive(number: u32) -> i32
-    requires { number < 2147483648 }
-    ensures { result ≡ pos number }
-{
-    number as i32
-}
 
 /// A number of 31 bits behind a minus sign.
 fn negative(number: u32) -> i32
@@ -23,48 +17,6 @@ fn negative(number: u32) -> i32
     ensures { result ≡ minus number }
 {
     -positive(number)
-}
-
-/// A number of 31 bits.
-fn numeral(tokens: &[Token]) -> Option<(u32, &[Token])>
-    ensures { MatchOption result (Starts begins_numeral tokens.now → ⊥) (λ x. IsNumeral tokens.now x.0 x.1.now) }
-{
-    match next(tokens) {
-        None => None,
-        Some((token, rest)) => match small_number(&token.kind) {
-            None => None,
-            Some(number) => Some((number, rest)),
-        },
-    }
-}
-
-/// The number that a token is, if it has 31 bits.
-fn small_number(kind: &Kind) -> Option<u32>
-    ensures { MatchOption result (IsTrue (begins_numeral kind.now) → ⊥) (λ n. (kind.now ≡ Kind.Number n) × (n < 2147483648)) }
-{
-    match kind {
-        Kind::Number(number) => {
-            if *number < 2_147_483_648 {
-                Some(*number)
-            } else {
-                None
-            }
-        }
-        _ => None,
-    }
-}
-
-/// The tokens behind 2147483648.
-fn behind_least(tokens: &[Token]) -> Option<&[Token]>
-    ensures { MatchOption result ((t : TokenTree) (ts : List TokenTree) → tokens.now ≡ t ∷ ts → t.kind ≡ Kind.Least → ⊥) (λ rest. (t : TokenTree) × (tokens.now ≡ t ∷ rest.now) × (t.kind ≡ Kind.Least)) }
-{
-    match next(tokens) {
-        None => None,
-        Some((token, rest)) => match token.kind {
-            Kind::Least => Some(rest),
-            _ => None,
-        },
-    }
 }
 
 /// The number behind a minus sign.

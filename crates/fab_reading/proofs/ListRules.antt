@@ -15,7 +15,7 @@ not_both true c h i = cc
 not_both false c h i = cc
 
 -- what begins an item doesn't follow the list
-apart : (first may : Kind → Bool) (a more : List Token) → SameHead a more → Starts first a → Follows (behind_list first may) more → ⊥
+pub apart : (first may : Kind → Bool) (a more : List Token) → SameHead a more → Starts first a → Follows (behind_list first may) more → ⊥
 apart first may a [] same s h = gone a same s
   where
     gone : (a : List Token) → SameHead a [] → Starts first a → ⊥
@@ -53,7 +53,7 @@ pub starts_follows : (first may : Kind → Bool) → ((k : Kind) → IsTrue (fir
 starts_follows first may meets [] s = tt
 starts_follows first may meets (t ∷ ts) s = meets t.kind s
 
-weaker : (first may : Kind → Bool) (a : List Token) → Follows (behind_list first may) a → Follows may a
+pub weaker : (first may : Kind → Bool) (a : List Token) → Follows (behind_list first may) a → Follows may a
 weaker first may [] h = tt
 weaker first may (t ∷ ts) h = second_so (not (first t.kind)) (may t.kind) h
 

@@ -8,7 +8,7 @@ use Rattle.fab_reading.specs.declared.refusal.Refusal.{Refusal}
 use Rattle.fab_reading.specs.declared.refusal.Refusal.TheVariants as refusal
 use Rattle.fab_tree.specs.Lists.{Is, is}
 use Rattle.fab_tree.specs.Depth.{room_by, room_after}
-use Rattle.fab_reading.specs.Reading.{Lacks, BeginsWith, Starts, SameHead, Follows, Read, Refused, Deep, Stops, CannotRead, CannotOpen, any, nothing}
+use Rattle.fab_reading.specs.Reading.{Lacks, BeginsWith, Starts, SameHead, Follows, Read, Refused, Deep, Stops, CannotRead, CannotOpen, any, nothing, first_place}
 
 -- one part, and then the others
 pub record Then {A B : Type 0} (P : List Token → A → List Token → Type 0) (Q : List Token → B → List Token → Type 0) (a : List Token) (v : A × B) (c : List Token) : Type 0 where
@@ -437,3 +437,34 @@ module _ {A B : Type 0} {R : List Token → A → List Token → Type 0} {P : Li
 -- what begins with a mark
 pub begins_at : {mark : Mark} {a b : List Token} → Is mark a b → BeginsWith mark a
 begins_at (is e) = e
+
+-- ---- what keeps the place of its first mark
+
+-- the mark is read, and its place kept for what is built
+pub behind_mark : {A B : Type 0} {R : List Token → A → List Token → Type 0} {may : Kind → Bool} {room : ℕ} {S : List Token → B → List Token → Type 0} (f : ℕ → B → A) {mark : Mark} {a c : List Token} {n : ℕ} → Is mark a c → room_by (k.Fixed mark) room ≡ Some n → ((t : Token) → t.kind ≡ k.Fixed mark → (more : List Token) (v : B) (after : List Token) → S more v after → R (t ∷ more) (f t.at v) after) → ((t : Token) → t.kind ≡ k.Fixed mark → (more : List Token) (u : A) (after : List Token) → R (t ∷ more) u after → Follows may after → (v : B) × (u ≡ f t.at v) × S more v after) → Going R may room a S (f (first_place a)) n c
+behind_mark {room = room} f (is {t = t} e) level to from = record {
+  front = t ∷ [];
+  cut = refl;
+  level = ap (option_and_then (room_after [])) (ap (λ y. room_by y room) e ∙ level);
+  builds = to t e;
+  only = λ more same. from t e more;
+}
+
+-- the first bracket is one too many
+deep_here : {A : Type 0} {R : List Token → A → List Token → Type 0} {room : ℕ} {mark : Mark} {a b : List Token} → room_by (k.Fixed mark) 0 ≡ None → ((t : Token) → t.kind ≡ k.Fixed mark → (more : List Token) × (v : A) × ((after : List Token) → R (t ∷ (more ++ after)) v after)) → room ≡ 0 → Is mark a b → Deep R room a (length a)
+deep_here opens more none (is {t = t} {ts = ts} e) = record {
+  front = [];
+  next = t;
+  back = ts;
+  cut = refl;
+  left_is = refl;
+  level = ap Some none;
+  opens = ap (λ y. room_by y 0) e ∙ opens;
+  begins = more t e;
+}
+
+-- nothing of the rule begins here, or its first bracket is one too many
+pub stop_here : {A : Type 0} {R : List Token → A → List Token → Type 0} (may : Kind → Bool) (room : ℕ) (a : List Token) (mark : Mark) (first : Kind → Bool) → ((x : List Token) (t : A) (y : List Token) → R x t y → Starts first x) → HasText R → (Lacks mark a → Starts first a → ⊥) → room_by (k.Fixed mark) 0 ≡ None → ((t : Token) → t.kind ≡ k.Fixed mark → (more : List Token) × (v : A) × ((after : List Token) → R (t ∷ (more ++ after)) v after)) → (e : Refusal) → CannotOpen mark room a e → Stops R may room a e
+stop_here may room a mark first begins some none opens more refusal.Memory x = absurd x
+stop_here {R = R} may room a mark first begins some none opens more (refusal.Syntax n) x = subst (λ y. Refused R may room a y) (sym x.0) (here first begins some (none x.1))
+stop_here {R = R} may room a mark first begins some none opens more (refusal.Deep n) x = subst (λ y. Deep R room a y) (sym x.0) (deep_here opens more x.1 (begun a x.2).1)

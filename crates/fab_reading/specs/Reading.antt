@@ -19,6 +19,11 @@ BeginsWith mark (t ∷ ts) = t.kind ≡ k.Fixed mark
 abbrev pub Lacks : Mark → List Token → Type 0
 Lacks mark a = (b : List Token) → Is mark a b → ⊥
 
+-- where the first token begins
+abbrev pub first_place : List Token → ℕ
+first_place [] = 0
+first_place (t ∷ ts) = t.at
+
 -- a begins with a token of one of these kinds
 abbrev pub Starts : (Kind → Bool) → List Token → Type 0
 Starts first [] = ⊥
@@ -112,6 +117,16 @@ begins_sort _ = false
 abbrev pub begins_root : Kind → Bool
 begins_root (k.Fixed m.Root) = true
 begins_root _ = false
+
+-- a method
+abbrev pub begins_method : Kind → Bool
+begins_method (k.Fixed m.Method) = true
+begins_method _ = false
+
+-- a session
+abbrev pub begins_session : Kind → Bool
+begins_session (k.Fixed m.Session) = true
+begins_session _ = false
 
 -- a number
 abbrev pub begins_numeral : Kind → Bool

@@ -2,11 +2,13 @@
 #![tactic(auto)]
 
 mod item;
+mod numbers;
 mod reading;
 mod refusal;
 mod rule;
 
 pub use item::{Item, separated};
-pub use reading::{behind, name, next, open, sign, starts_name};
+pub use numbers::{behind_least, numeral, positive};
+pub use reading::{behind, name, next, open, place, sign, starts_name};
 pub use refusal::Refusal;
 pub use rule::{Rule, repeated};

@@ -1,7 +1,7 @@
 //! Reading marks and names from tokens: each reader takes the tokens and answers those behind.
 ghost use Rattle.std.specs.Prelude.{◌≡◌, ◌↔◌, ◌∷◌, [], ◌+◌, length, IsTrue, MatchOption, MatchResult};
 ghost use Rattle.fab_tree.specs.Lists.{Is, IsName};
-ghost use Rattle.fab_reading.specs.Reading.{Read, Stops, Starts, Lacks, CannotRead, CannotOpen, any, begins_name};
+ghost use Rattle.fab_reading.specs.Reading.{Read, Stops, Starts, Lacks, CannotRead, CannotOpen, any, begins_name, first_place};
 
 use crate::refusal::Refusal;
 use fab_base::{Kind, Mark, Token};
@@ -13,6 +13,16 @@ pub fn next<T>(items: &[T]) -> Option<(&T, &[T])>
     ensures { MatchOption result (items.now ≡ []) (λ x. items.now ≡ x.0.now ∷ x.1.now) }
 {
     items.split_first()
+}
+
+/// The place of the first token, 0 where there is none.
+pub fn place(tokens: &[Token]) -> u32
+    ensures { result ≡ first_place tokens.now }
+{
+    match next(tokens) {
+        None => 0,
+        Some((token, _)) => token.at,
+    }
 }
 
 /// Whether a token is this mark.
