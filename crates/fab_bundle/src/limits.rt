@@ -62,6 +62,8 @@ pub fn is_evaluated(start: &Start) -> bool
         && stores(nodes) == 1
         && hostile_ones(nodes) == 0
         && have_numbers(start.classes.as_slice())
+        && start.methods.is_empty()
+        && start.sessions.is_empty()
 }
 
 /// Whether the fields of each class are numbers.

@@ -8,8 +8,9 @@ ghost use Rattle.fab_bundle.specs.Texts.{RefusedAt, IsLimit, OnDepthLimit};
 
 use crate::error::ParseError;
 use crate::roots::RootRule;
+use crate::sessions::SessionRule;
 use fab_base::{Mark, Token};
-use fab_parser::{ClassRule, DelegationRule, LabelRule, NodeRule};
+use fab_parser::{ClassRule, DelegationRule, LabelRule, MethodRule, NodeRule};
 use fab_reading::{Refusal, open, repeated, sign};
 use fab_tree::Start;
 use std::alloc::Global;
@@ -17,7 +18,7 @@ use std::alloc::Global;
 /// How many brackets may be open at once.
 const DEPTH: u8 = 64;
 
-/// Nodes, delegations, labels and classes, and a run with its roots.
+/// Nodes, delegations, labels, classes and methods, and a run with its roots and sessions.
 fn start(alloc: Global, tokens: &[Token], room: u8) -> Result<(Start, &[Token]), Refusal>
     ensures { MatchResult result (λ x. Read IsStart any room tokens.now x.0 x.1.now) (λ e. Stops IsStart any room tokens.now e) }
 {
@@ -25,9 +26,11 @@ fn start(alloc: Global, tokens: &[Token], room: u8) -> Result<(Start, &[Token]),
     let (delegations, rest) = repeated::<DelegationRule>(alloc, rest, room)?;
     let (labels, rest) = repeated::<LabelRule>(alloc, rest, room)?;
     let (classes, rest) = repeated::<ClassRule>(alloc, rest, room)?;
+    let (methods, rest) = repeated::<MethodRule>(alloc, rest, room)?;
     let rest = sign(rest, Mark::Run)?;
     let (rest, inner) = open(rest, Mark::LeftBrace, room)?;
     let (roots, rest) = repeated::<RootRule>(alloc, rest, inner)?;
+    let (sessions, rest) = repeated::<SessionRule>(alloc, rest, inner)?;
     let rest = sign(rest, Mark::RightBrace)?;
     Ok((
         Start {
@@ -35,7 +38,9 @@ fn start(alloc: Global, tokens: &[Token], room: u8) -> Result<(Start, &[Token]),
             delegations,
             labels,
             classes,
+            methods,
             roots,
+            sessions,
         },
         rest,
     ))

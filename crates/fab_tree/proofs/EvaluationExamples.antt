@@ -42,6 +42,8 @@ bundle = record {
   delegations = [];
   labels = record { name = named (codes "L"); policies = [] } ∷ [];
   classes = class (codes "D") [] ∷ class (codes "C") (field sorts.Int (codes "n") ∷ field (sorts.Class (named (codes "D"))) (codes "d") ∷ []) ∷ [];
+  methods = [];
+  sessions = [];
   roots = root (codes "x") (codes "C") (codes "a") (literals.Int (negsuc 2) ∷ literals.Null ∷ []) ∷ root (codes "y") (codes "C") (codes "b") (literals.Int (pos 7) ∷ literals.Root (named (codes "z")) ∷ []) ∷ root (codes "z") (codes "D") (codes "b") [] ∷ [];
 }
 

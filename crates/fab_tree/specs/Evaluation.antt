@@ -22,12 +22,14 @@ use Rattle.fab_tree.specs.Names.{KeepsNames}
 abbrev pub line : List ℕ → List ℕ
 line letters = letters ++ 10 ∷ []
 
--- The form that is evaluated so far: one worker and one store, of which neither is hostile, and fields that are numbers.
+-- The form that is evaluated so far: one worker and one store, of which neither is hostile, fields that are numbers, no methods and no sessions.
 pub record IsEvaluated (s : Start) : Type 0 where
   pub one_worker : count_by (λ x. is_worker x.role) s.nodes ≡ 1
   pub one_store : count_by (λ x. is_store x.role) s.nodes ≡ 1
   pub none_hostile : count_by (λ x. is_hostile x.role) s.nodes ≡ 0
   pub numbers : All (λ c. All (λ f. f.sort ≡ sorts.Int) c.fields) s.classes
+  pub no_methods : s.methods ≡ []
+  pub no_sessions : s.sessions ≡ []
 
 -- The text spells this bundle: it has at most 1,000,000 bytes, its tokens stand for the bundle, and the bundle is of the form, within the limits and true to the rules of names.
 pub record Spells (text : List ℕ) (s : Start) : Type 0 where

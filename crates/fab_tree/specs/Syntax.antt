@@ -7,16 +7,19 @@ use Rattle.fab_tree.specs.declared.start.Delegation.{Delegation}
 use Rattle.fab_tree.specs.declared.start.LabelText.{LabelText}
 use Rattle.fab_tree.specs.declared.start.Class.{Class}
 use Rattle.fab_tree.specs.declared.start.Root.{Root}
+use Rattle.fab_tree.specs.declared.program.Method.{Method}
+use Rattle.fab_tree.specs.declared.program.Session.{Session}
 use Rattle.fab_tree.specs.declared.start.Start.{Start}
 use Rattle.fab_tree.specs.Lists.{Is, Repeated}
 use Rattle.fab_tree.specs.Declarations.{IsNode, IsDelegation, IsLabel, IsClass, IsRoot}
+use Rattle.fab_tree.specs.Programs.{IsMethod, IsSession}
 
--- start = {node} {delegation} {label} {class} "run" "{" {root} "}"
+-- start = {node} {delegation} {label} {class} {method} "run" "{" {root} {session} "}"
 pub data IsStart : List Token → Start → List Token → Type 0 where
-  start : {a b c d e f g h i : List Token} {vs : List Node} {ws : List Delegation} {xs : List LabelText} {ys : List Class} {zs : List Root}
-      → Repeated IsNode a vs b → Repeated IsDelegation b ws c → Repeated IsLabel c xs d → Repeated IsClass d ys e
-      → Is m.Run e f → Is m.LeftBrace f g → Repeated IsRoot g zs h → Is m.RightBrace h i
-      → IsStart a (record { nodes = vs; delegations = ws; labels = xs; classes = ys; roots = zs }) i
+  start : {a b c d e f g h i j k : List Token} {ts : List Node} {us : List Delegation} {vs : List LabelText} {ws : List Class} {xs : List Method} {ys : List Root} {zs : List Session}
+      → Repeated IsNode a ts b → Repeated IsDelegation b us c → Repeated IsLabel c vs d → Repeated IsClass d ws e → Repeated IsMethod e xs f
+      → Is m.Run f g → Is m.LeftBrace g h → Repeated IsRoot h ys i → Repeated IsSession i zs j → Is m.RightBrace j k
+      → IsStart a (record { nodes = ts; delegations = us; labels = vs; classes = ws; methods = xs; roots = ys; sessions = zs }) k
 
 -- a whole text
 abbrev pub IsText : List Token → Start → Type 0

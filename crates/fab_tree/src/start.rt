@@ -1,5 +1,6 @@
 //! A bundle as it is written: what a program declares, and what a run of it begins with.
 
+use crate::program::{Method, Session};
 use fab_base::{Seq, Text};
 
 /// A name, and the place of its first byte in the source.
@@ -109,5 +110,7 @@ pub struct Start {
     pub delegations: Seq<Delegation>,
     pub labels: Seq<LabelText>,
     pub classes: Seq<Class>,
+    pub methods: Seq<Method>,
     pub roots: Seq<Root>,
+    pub sessions: Seq<Session>,
 }
