@@ -5,7 +5,7 @@ ghost use Rattle.std.specs.Option.{option_copied};
 ghost use Rattle.std.specs.Prelude.{option_map};
 ghost use Rattle.fab_base.specs.FieldSpelling.{two_bytes, four_bytes, oid_bytes};
 ghost use Rattle.fab_base.specs.FlatMap.{is_same};
-ghost use Rattle.fab_tree.specs.Evaluation.{hex, is_number, name_text, node_text, class_text};
+ghost use Rattle.fab_tree.specs.Evaluation.{hex, has_number, name_text, node_text, class_text};
 ghost use Rattle.fab_forms.specs.Numbered.{AreNumbered};
 
 use fab_base::{NoMemory, Oid, Seq};
@@ -112,7 +112,7 @@ pub(crate) fn put_name(out: &mut Seq<u8>, start: &Resolved, oid: Oid) -> Result<
 
 /// Whether a principal is the worker or store of this number.
 fn is_node(principal: &Principal, number: u16) -> bool
-    ensures { result ≡ is_number number principal.now.node }
+    ensures { result ≡ has_number number principal.now.node }
 {
     match principal.node {
         None => false,
@@ -122,7 +122,7 @@ fn is_node(principal: &Principal, number: u16) -> bool
 
 /// The worker or store of this number.
 fn node_of(nodes: &[Principal], number: u16) -> Option<&Principal>
-    ensures { option_copied result ≡ find (λ x. is_number number x.node) nodes.now }
+    ensures { option_copied result ≡ find (λ x. has_number number x.node) nodes.now }
 {
     nodes.iter().find(|x| is_node(x, number))
 }

@@ -75,7 +75,8 @@ fn put_object(
     out.push(b'\n')
 }
 
-/// A line for each object: `object`, its store, its name, its class and its values.
+/// A line for each object: `object`, its store, its name, its class and its values. Where memory
+/// runs out, the text may have lost or gained something, and isn't to be used.
 pub fn put_objects(
     alloc: Global,
     out: &mut Seq<u8>,

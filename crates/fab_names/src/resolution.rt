@@ -14,7 +14,8 @@ use fab_tree::resolved::{Principal, Resolved, Root as NumberedRoot};
 use fab_tree::{Node, Root, Start};
 use std::alloc::Global;
 
-/// The bundle with numbers for names, or `None` where it doesn't keep the rules of names.
+/// The bundle with numbers for names, or `None` where it doesn't keep the rules of names. It asks
+/// for a bundle within the limits, whose numbers fit their types.
 ///
 /// A root is found by its name in a table, and anything else by a scan, so within the limits the time
 /// grows with the length of the bundle.

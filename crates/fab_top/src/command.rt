@@ -95,6 +95,7 @@ pub fn fab<S: Source, K: Sink>(
     ensures ok { AskEvaluation words.now → result ≢ ReadFault → IfSome (S.left source.old) (λ text. Exactly result Ok (SpellsSome text)) }
     ensures ok_text { result ≡ Ok → IfSome (S.left source.old) (λ text. WritesEvaluation text (K.written sink.old) (K.written sink.new)) }
 
+    // Also of a source that doesn't tell: what was written is the evaluation of a text that was read from it.
     ensures ok_reply { result ≡ Ok → RepliesWith Ok words.now (S.left source.old) (S.left source.new) (K.written sink.old) (K.written sink.new) }
 
     // `NotBuilt` comes exactly where it spells none, and has a line of its own.

@@ -3,7 +3,7 @@
 
 mod command;
 #[cfg(test)]
-mod declared;
+mod declared_tests;
 mod evaluation;
 mod reading;
 mod status;

@@ -1,5 +1,5 @@
 -- Worked examples of the meaning of a request.
-use Rattle.std.proofs.Common.{◌≡◌, ℕ, ℤ, pos, negsuc, false, List, [], ◌∷◌, None, refl, codes, rules}
+use Rattle.std.proofs.Common.{◌≡◌, ℕ, ℤ, pos, negsuc, true, false, length, List, [], ◌∷◌, None, refl, codes, rules}
 use Rattle.std.specs.Int.{w32, int_wrap}
 use Rattle.std.specs.Prelude.{FitsSigned}
 use Rattle.std.proofs.lemmas.Int.{int_wrap_fits}
@@ -7,8 +7,8 @@ use Rattle.fab_base.specs.declared.object.Oid.{Oid}
 use Rattle.fab_base.specs.declared.object.Object.{Object}
 use Rattle.fab_base.specs.declared.object.Value.{Value}
 use Rattle.fab_base.specs.declared.object.Value.TheVariants.{Int, Null, Ref}
-use Rattle.fab_base.specs.declared.object.Stop.TheVariants.{Fuel}
-use Rattle.fab_base.specs.FlatMap.{FlatMap}
+use Rattle.fab_base.specs.declared.object.Stop.TheVariants.{Fuel, Writes}
+use Rattle.fab_base.specs.FlatMap.{FlatMap, put}
 use Rattle.fab_tree.specs.declared.program.Sign.TheVariants.{Plus, Minus}
 use Rattle.fab_tree.specs.declared.program.Comparison.TheVariants.{Less}
 use Rattle.fab_tree.specs.declared.resolved.Use.{Use}
@@ -22,7 +22,7 @@ use Rattle.fab_tree.specs.declared.resolved.Method.{Method}
 use Rattle.fab_tree.specs.declared.resolved.Resolved.{Resolved}
 use Rattle.fab_tree.specs.declared.resolved.Request.{Request}
 use Rattle.fab_tree.specs.declared.start.Name.{Name}
-use Rattle.fab_tree.specs.Meaning.{Meant, Ended, Failed, Stopped, Missing, meaning}
+use Rattle.fab_tree.specs.Meaning.{Meant, Ended, Failed, Stopped, Missing, meaning, State, goes, ends, stopped, is_among, is_full, with_written, replace, equals}
 use Rattle.fab_tree.proofs.Forms.{number_means, read_means, sum_means, compared_means, assign_means, write_means, if_means}
 
 -- ---- two roots with one field, and a method m(C a, C b) with a local t
@@ -150,3 +150,29 @@ gone_into = rw (if_means, compared_means, read_means, number_means, write_means,
 -- a method that isn't there gives nothing
 no_method : meaning (program []) [] (record { worker = 0; number = 1; method = 1; args = [] }) 0 ≡ record { ending = Ended None; map = []; written = []; touches = []; downs = [] }
 no_method = refl
+
+-- ---- limits
+
+-- where 1,023 objects were touched one more may be, where 1,024 were none, but for those themselves
+one_more : (o : Oid) (os : List Oid) → is_among o os ≡ false → length os ≡ 1023 → is_full o os ≡ false
+one_more o os other count = rw (other, count) refl
+
+no_more : (o : Oid) (os : List Oid) → is_among o os ≡ false → length os ≡ 1024 → is_full o os ≡ true
+no_more o os other count = rw (other, count) refl
+
+again : (o : Oid) (os : List Oid) → is_among o os ≡ true → is_full o os ≡ false
+again o os same = rw same refl
+
+-- the 256th object is written, and not the 257th
+last_written : (o : Oid) (x : Object) (s : State) → is_among o s.written ≡ false → length s.written ≡ 255 → replace o x s ≡ goes tt (record s { map = put o x s.map; written = with_written o s.written })
+last_written o x s other count = rw (other, count) refl
+
+one_too_many : (o : Oid) (x : Object) (s : State) → is_among o s.written ≡ false → length s.written ≡ 256 → replace o x s ≡ ends (stopped Writes) s
+one_too_many o x s other count = rw (other, count) refl
+
+-- references are the same where their names are; the last of seven parts tells these apart
+one_object : equals (Ref (root 1)) (Ref (root 1)) ≡ true
+one_object = refl
+
+two_objects : equals (Ref (root 1)) (Ref (record (root 1) { index = 1 })) ≡ false
+two_objects = refl

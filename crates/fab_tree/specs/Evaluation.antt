@@ -55,9 +55,9 @@ abbrev pub text_or : List ℕ → Option (List ℕ) → List ℕ
 text_or other None = other
 text_or other (Some text) = text
 
-abbrev pub is_number : ℕ → Option ℕ → Bool
-is_number n None = false
-is_number n (Some k) = n == k
+abbrev pub has_number : ℕ → Option ℕ → Bool
+has_number n None = false
+has_number n (Some k) = n == k
 
 -- an object's name: that of its root, else # and the 36 digits of its 18 bytes
 abbrev pub name_text : Resolved → Oid → List ℕ
@@ -70,7 +70,7 @@ value_text r (Ref o) = name_text r o
 
 -- the name of the worker or store of a number
 abbrev pub node_text : Resolved → ℕ → List ℕ
-node_text r n = text_or [] (option_map (λ x. x.name.text) (find (λ x. is_number n x.node) r.nodes))
+node_text r n = text_or [] (option_map (λ x. x.name.text) (find (λ x. has_number n x.node) r.nodes))
 
 abbrev pub class_text : Resolved → ℕ → List ℕ
 class_text r n = text_or [] (option_map (λ c. c.name.text) (slice_get r.classes n))

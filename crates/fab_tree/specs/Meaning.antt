@@ -26,7 +26,7 @@ use Rattle.fab_tree.specs.declared.resolved.Request.{Request}
 
 -- ---- states and runs
 
--- What a run has at a point: the fuel that is left, the locals, the map with the names that were written in it, the touches in order, each a site and an object, and the values of downgrades in order, each with its site.
+-- What a run has at a point: the fuel that is left, the locals, the map with the names that were written in it (of objects that were there before), the touches in order, each a site and an object, and the values of downgrades in order, each with its site.
 pub record State : Type 0 where
   pub fuel : ℕ
   pub locals : List Value
