@@ -20,10 +20,13 @@ pub(crate) struct Declared<'a> {
 
 impl<'a> Model for Declared<'a> {
     ghost use Rattle.std.specs.Prelude.{◌≡◌, map};
+    ghost use Rattle.fab_tree.specs.contracts.start.Start as bundle;
     ghost use Rattle.fab_tree.specs.declared.start.Start.{Start as Bundle};
     ghost use Rattle.fab_tree.specs.Names.{root_name};
 
     ghost Value = { Bundle };
+
+    ghost coded = { bundle.the_row.coded };
 
     ghost view = { λ d. d.start.now };
 

@@ -12,7 +12,7 @@ use Rattle.fab_forms.specs.Numbered.{AreNumbered}
 use Rattle.fab_forms.proofs.Roots.{NumberedFrom, behind_first, same_number, not_same}
 use Rattle.fab_tree.specs.declared.resolved.Resolved.{Resolved}
 use Rattle.fab_top.specs.Reply.{SpellsResolved}
-use Rattle.fab_top.specs.Objects.{rows_of}
+use Rattle.fab_tree.specs.Evaluation.{rows_of}
 
 apart : (o : Oid) (k : ℕ) (roots : List Root) → NumberedFrom k roots → o.number < k → AllByRecursion (λ p. is_same o p ≡ false) (keys_of (rows_of roots))
 apart o k [] h l = tt

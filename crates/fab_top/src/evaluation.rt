@@ -1,9 +1,8 @@
 //! The evaluation of a text.
 ghost use Rattle.std.specs.Prelude.{◌≡◌, IfOk, MatchOption};
-ghost use Rattle.fab_tree.specs.Evaluation.{map_at_start, evaluation_text};
+ghost use Rattle.fab_tree.specs.Evaluation.{rows_of, map_at_start, evaluation_text};
 ghost use Rattle.fab_forms.specs.Numbered.{AreNumbered};
 ghost use Rattle.fab_top.specs.Reply.{SpellsNone, SpellsResolved};
-ghost use Rattle.fab_top.specs.Objects.{rows_of};
 
 use fab_base::{NoMemory, Object, Oid, Seq};
 use fab_bundle::{ParseError, bundle, is_evaluated, keeps_limits};

@@ -13,6 +13,7 @@ use Rattle.fab_base.specs.Tokens.{Lexes}
 use Rattle.fab_tree.specs.declared.start.Sort.TheVariants as sorts
 use Rattle.fab_tree.specs.declared.start.Start.{Start}
 use Rattle.fab_tree.specs.declared.resolved.Resolved.{Resolved}
+use Rattle.fab_tree.specs.declared.resolved.Root.{Root}
 use Rattle.fab_tree.specs.Syntax.{IsText}
 use Rattle.fab_tree.specs.Depth.{KeepsDepth}
 use Rattle.fab_tree.specs.Limits.{is_worker, is_store, is_hostile, KeepsLimits}
@@ -42,9 +43,13 @@ pub record Spells (text : List ℕ) (s : Start) : Type 0 where
   pub names : KeepsNames s
   pub form : IsEvaluated s
 
+-- the objects of roots, in the order of the text
+abbrev pub rows_of : List Root → List (Oid × Object)
+rows_of roots = map (λ x. (x.oid, record { class = x.oid.class; fields = x.values })) roots
+
 -- the objects that there are from the start
 abbrev pub map_at_start : Resolved → FlatMap
-map_at_start r = map_of (map (λ x. (x.oid, record { class = x.oid.class; fields = x.values })) r.roots)
+map_at_start r = map_of (rows_of r.roots)
 
 -- ---- names and values as they are printed
 
