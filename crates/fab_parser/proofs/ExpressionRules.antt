@@ -196,11 +196,11 @@ negative_made : {t : Token} {a b : List Token} {v : Option Expression} → t.kin
 negative_made e (the_least g) = least (is e) g
 negative_made e (other p) = negative (is e) p
 
-no_minus_begins : {t : Token} {more : List Token} {v : Expression} {b : List Token} → t.kind ≡ k.Fixed m.Minus → IsPrimary (t ∷ more) v b → ⊥
-no_minus_begins e p = never (subst (λ x. IsTrue (begins_primary x)) e (primary_begins _ _ _ p))
+not_primary : {t : Token} {more : List Token} {v : Expression} {b : List Token} (x : Kind) → (IsTrue (begins_primary x) → ⊥) → t.kind ≡ x → IsPrimary (t ∷ more) v b → ⊥
+not_primary x none e p = none (subst (λ y. IsTrue (begins_primary y)) e (primary_begins _ _ _ p))
 
 negative_back : {t : Token} {more : List Token} {v : Expression} {b : List Token} → t.kind ≡ k.Fixed m.Minus → IsUnary (t ∷ more) v b → (x : Option Expression) × (v ≡ negative_of t.at x) × Operand more x b
-negative_back e (primary p) = absurd (no_minus_begins e p)
+negative_back e (primary p) = absurd (not_primary (k.Fixed m.Minus) never e p)
 negative_back e (negative {t = t} (is g) p) = (Some t, refl, other p)
 negative_back e (least (is g) h) = (None, refl, the_least h)
 
@@ -223,12 +223,9 @@ least_read {room = room} {t = t} cut e = leaf cut (ap (λ x. room_by x room) e) 
 least_made : {a b : List Token} → Least a tt b → Operand a None b
 least_made {b = b} d = subst (λ x. Operand x None b) (sym d.1) (the_least d.2)
 
-no_least_begins : {t : Token} {more : List Token} {v : Expression} {b : List Token} → t.kind ≡ k.Least → IsPrimary (t ∷ more) v b → ⊥
-no_least_begins e p = never (subst (λ x. IsTrue (begins_primary x)) e (primary_begins _ _ _ p))
-
 no_other : (t : Token) (ts more : List Token) {v : Expression} {b : List Token} → t.kind ≡ k.Least → SameHead (t ∷ ts) more → IsPrimary more v b → ⊥
 no_other t ts [] e same p = absurd same
-no_other t ts (u ∷ us) e same p = no_least_begins (ap (λ x. x.kind) (sym same) ∙ e) p
+no_other t ts (u ∷ us) e same p = not_primary k.Least never (ap (λ x. x.kind) (sym same) ∙ e) p
 
 least_back : (t : Token) (ts more : List Token) {v : Option Expression} {b : List Token} → t.kind ≡ k.Least → SameHead (t ∷ ts) more → Operand more v b → (x : Unit {0} × Unit {0}) × (v ≡ None) × Then Least End more x b
 least_back first rest more e same (the_least {t = t} {ts = ts} g) = ((tt, tt), refl, record { mid = ts; first = (t, refl, g); second = refl })

@@ -36,6 +36,7 @@ pub data IsSign : List Token → Sign → List Token → Type 0 where
   plus : {a b : List Token} → Is m.Plus a b → IsSign a signs.Plus b
   dash : {a b : List Token} → Is m.Minus a b → IsSign a signs.Minus b
 
+-- the place in an expression's outermost form
 abbrev pub layer_place : Expression-F Expression → ℕ
 layer_place (Expression-F.Number n at) = at
 layer_place (Expression-F.Local x at) = at
@@ -48,6 +49,7 @@ layer_place (Expression-F.Compared t c u at) = at
 abbrev pub place_of : Expression → ℕ
 place_of t = layer_place (out-Expression t)
 
+-- an expression of this form at another place
 abbrev pub layer_placed : ℕ → Expression-F Expression → Expression
 layer_placed place (Expression-F.Number n at) = e.Number n place
 layer_placed place (Expression-F.Local x at) = e.Local x place
@@ -66,7 +68,7 @@ sum_of t [] = t
 sum_of t (u ∷ us) = e.Sum t (u ∷ us) (place_of t)
 
 mutual
-  -- expression = sum [comparison sum]
+  -- expression = sum | sum comparison sum
   pub data IsExpression : List Token → Expression → List Token → Type 0 where
     alone : {a b : List Token} {t : Expression} → IsSum a t b → IsExpression a t b
     compared : {a b c d : List Token} {t u : Expression} {x : Comparison} → IsSum a t b → IsComparison b x c → IsSum c u d → IsExpression a (e.Compared t x u (place_of t)) d
@@ -84,13 +86,18 @@ mutual
   pub data IsTerm : List Token → Sign × Expression → List Token → Type 0 where
     term : {a b c : List Token} {x : Sign} {t : Expression} → IsSign a x b → IsUnary b t c → IsTerm a (x, t) c
 
-  -- unary = primary | "-" primary | "-" 2147483648
+  -- unary = primary
+  --       | "-" primary
+  --       | "-" 2147483648
   pub data IsUnary : List Token → Expression → List Token → Type 0 where
     primary : {a b : List Token} {t : Expression} → IsPrimary a t b → IsUnary a t b
     negative : {u : Token} {us b c : List Token} {t : Expression} → Is m.Minus (u ∷ us) b → IsPrimary b t c → IsUnary (u ∷ us) (e.Negative t u.at) c
     least : {u w : Token} {us ws : List Token} → Is m.Minus (u ∷ us) (w ∷ ws) → w.kind ≡ k.Least → IsUnary (u ∷ us) (e.Number (minus 2147483648) u.at) ws
 
-  -- primary = number | name | name "." name | "(" expression ")"
+  -- primary = number
+  --         | name
+  --         | name "." name
+  --         | "(" expression ")"
   pub data IsPrimary : List Token → Expression → List Token → Type 0 where
     number : {u : Token} {us b : List Token} {n : ℕ} → IsNumeral (u ∷ us) n b → IsPrimary (u ∷ us) (e.Number (pos n) u.at) b
     local : {a b : List Token} {x : Name} → IsName a x b → IsPrimary a (e.Local x x.at) b
@@ -98,7 +105,10 @@ mutual
     brackets : {u : Token} {us b c d : List Token} {t : Expression} → Is m.LeftParen (u ∷ us) b → IsExpression b t c → Is m.RightParen c d → IsPrimary (u ∷ us) (placed u.at t) d
 
 mutual
-  -- statement = sort name ":" name "=" expression ";" | name "=" expression ";" | name "." name "=" expression ";" | "if" "(" expression ")" block otherwise
+  -- statement = sort name ":" name "=" expression ";"
+  --           | name "=" expression ";"
+  --           | name "." name "=" expression ";"
+  --           | "if" "(" expression ")" block otherwise
   pub data IsStatement : List Token → Statement → List Token → Type 0 where
     declare : {o : Token} {os b c d f g h i : List Token} {x : Sort} {y z : Name} {t : Expression}
         → IsSort (o ∷ os) x b → IsName b y c → Is m.Colon c d → IsName d z f → Is m.Equal f g → IsExpression g t h → Is m.Semicolon h i
