@@ -3,6 +3,7 @@ ghost use Rattle.std.specs.Prelude.{◌≡◌, ℕ, ◌≤◌, [], ◌++◌, Lis
 ghost use Rattle.fab_base.specs.FlatMap.{FlatMap, ascends, get, map_of};
 ghost use Rattle.fab_base.specs.declared.object.Object.{Object};
 ghost use Rattle.fab_base.specs.declared.object.Oid.{Oid};
+ghost use Rattle.fab_base.specs.declared.object.Value.{Value};
 ghost use Rattle.fab_tree.specs.Meaning.{Ended, Missing, State, and_then, block, is_among, meaning};
 ghost use Rattle.fab_tree.specs.declared.resolved.Method.{Method};
 ghost use Rattle.fab_tree.specs.declared.resolved.Request.{Request};
@@ -11,7 +12,7 @@ ghost use Rattle.fab_tree.specs.declared.resolved.Statement.{Statement};
 ghost use Rattle.fab_eval.specs.Locality.{IsPart, IsSameOver, LacksToo};
 ghost use Rattle.fab_eval.specs.Outcomes.{meant_of, objects_of, outcome_of, writes_in};
 ghost use Rattle.fab_eval.specs.Runs.{state_after};
-ghost use Rattle.fab_eval.specs.Typed.{AreGiven, IsTypedMethod, size_of};
+ghost use Rattle.fab_eval.specs.Typed.{AreGiven, IsObject, IsTypedMethod, size_of};
 ghost use Rattle.fab_eval.specs.declared.job.Job.{Job};
 ghost use Rattle.fab_eval.specs.declared.job.Outcome.TheVariants as outcomes;
 
@@ -30,6 +31,13 @@ pub fn blocks_in_a_row()
 /// the fuel is no less than the statements of the method.
 pub fn typed_requests_end()
     ensures { (program : Resolved) (m : Method) (os : List Oid) (known : FlatMap) (request : Request) (fuel : ℕ) → slice_get program.methods request.method ≡ Some m → IsTypedMethod program.classes m → AreGiven program.classes m os known request.args → length os ≤ 256 → size_of m.body ≤ fuel → (meaning program known request fuel).ending ≡ Ended None }
+{}
+
+/// Behind such a request each object that was one of a class is one of that class still. So what is
+/// given as it must be is still so given afterwards, to whatever method.
+pub fn objects_stay_typed()
+    ensures objects { (program : Resolved) (m : Method) (os : List Oid) (known : FlatMap) (request : Request) (fuel : ℕ) → slice_get program.methods request.method ≡ Some m → IsTypedMethod program.classes m → AreGiven program.classes m os known request.args → length os ≤ 256 → size_of m.body ≤ fuel → (c : ℕ) (o : Oid) (x : Object) → get known o ≡ Some x → IsObject program.classes c x → (y : Object) × (get (meaning program known request fuel).map o ≡ Some y) × IsObject program.classes c y }
+    ensures given { (program : Resolved) (m : Method) (os : List Oid) (known : FlatMap) (request : Request) (fuel : ℕ) → slice_get program.methods request.method ≡ Some m → IsTypedMethod program.classes m → AreGiven program.classes m os known request.args → length os ≤ 256 → size_of m.body ≤ fuel → (next : Method) (names : List Oid) (args : List Value) → AreGiven program.classes next names known args → AreGiven program.classes next names (meaning program known request fuel).map args }
 {}
 
 /// So an evaluation of such a request over answers that have these objects ends with what was
