@@ -2,4 +2,5 @@ mod DeclarationExamples
 mod EvaluationExamples
 pub mod Forms
 mod MeaningExamples
+mod RequestExamples
 mod SyntaxExamples
