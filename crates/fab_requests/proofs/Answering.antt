@@ -1,13 +1,14 @@
 -- Answers that are objects of a map.
-use Rattle.std.proofs.Common.{◌≡◌, ℕ, ◌≤◌, Bool, true, false, ◌&&◌, ◌||◌, ◌==◌, if◌then◌else◌, List, [], ◌∷◌, ◌++◌, map, length, Some, None, refl, sym, ap, ◌∙◌, arith}
+use Rattle.std.proofs.Common.{◌≡◌, ℕ, ◌≤◌, Bool, true, false, ◌&&◌, ◌||◌, ◌==◌, if◌then◌else◌, List, [], ◌∷◌, ◌++◌, map, length, Option, Some, None, refl, sym, ap, ◌∙◌, arith}
 use Rattle.std.specs.List.{IsDistinct, AllByRecursion, list_any}
 use Rattle.std.specs.Map.{keys_of}
 use Rattle.std.proofs.lemmas.Bool.{true≢false}
-
 use Rattle.std.proofs.lemmas.List.{length-map}
 use Rattle.fab_base.specs.declared.object.Oid.{Oid}
 use Rattle.fab_base.specs.declared.object.Tid.{Tid}
 use Rattle.fab_base.specs.declared.object.Object.{Object}
+use Rattle.fab_base.specs.declared.object.Value.{Value}
+use Rattle.fab_base.specs.declared.object.Value.TheVariants.{Int, Null, Ref}
 use Rattle.fab_base.specs.FlatMap.{FlatMap, is_same, get, map_of}
 use Rattle.fab_map.proofs.Order.{one_name, same_flips}
 use Rattle.fab_map.proofs.Made.{get-map_of}
@@ -16,7 +17,7 @@ use Rattle.fab_eval.specs.Outcomes.{Answers, names_of, objects_of, is_made_in}
 use Rattle.fab_eval.specs.Locality.{IsPart}
 use Rattle.fab_eval.proofs.Few.{Apart, Within, few, among_more}
 use Rattle.fab_eval.proofs.Settling.{names_kept}
-use Rattle.fab_requests.specs.Answered.{AreAnswers, AreOld}
+use Rattle.fab_requests.specs.Answered.{AreAnswers, AreOld, with_object, with_argument, with_arguments}
 
 or_false : (a b : Bool) → (a || b) ≡ false → (a ≡ false) × (b ≡ false)
 or_false true b e = absurd (true≢false e)
@@ -110,3 +111,22 @@ one_more known o n x [] h k e = (refl, e, tt)
 one_more known o n x (a ∷ others) h k e =
     let g = or_false (is_same a.0 o) (is_among o (names_of others)) k in
     (ap (is_among a.0) (names_more others (o, n, x)) ∙ among_more a.0 o (names_of others) ∙ rw (h.0, same_flips o a.0, g.0) refl, h.1, one_more known o n x others h.2 g.1 e)
+
+-- ---- the answers of arguments
+
+with_one : (known : FlatMap) (o : Oid) (answers : Answers) (v : Option Object) → get known o ≡ v → AreAnswers known answers → is_among o (names_of answers) ≡ false → AreAnswers known (with_object o v answers)
+with_one known o answers None e h k = h
+with_one known o answers (Some x) e h k = one_more known o 1 x answers h k e
+
+with_value : (known : FlatMap) (answers : Answers) (v : Value) → AreAnswers known answers → AreAnswers known (with_argument known answers v)
+with_value known answers (Int n) h = h
+with_value known answers Null h = h
+with_value known answers (Ref o) h =
+    elim (is_among o (names_of answers)) as (λ b. is_among o (names_of answers) ≡ b → AreAnswers known (if b then answers else with_object o (get known o) answers)) [
+      | true ↦ λ e. h
+      | false ↦ λ e. with_one known o answers (get known o) refl h e
+    ] refl
+
+pub with_values : (known : FlatMap) (answers : Answers) (vs : List Value) → AreAnswers known answers → AreAnswers known (with_arguments known answers vs)
+with_values known answers [] h = h
+with_values known answers (v ∷ vs) h = with_values known (with_argument known answers v) vs (with_value known answers v h)

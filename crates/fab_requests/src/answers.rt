@@ -1,30 +1,43 @@
 //! Objects of a map as answers, each with version 1.
-ghost use Rattle.std.specs.Prelude.{◌≡◌, false, IfOk};
+ghost use Rattle.std.specs.Prelude.{◌≡◌, [], IfOk, OnOk};
 ghost use Rattle.fab_tree.specs.Meaning.{is_among};
 ghost use Rattle.fab_eval.specs.Outcomes.{names_of};
-ghost use Rattle.fab_requests.specs.Answered.{AreAnswers, IsAnswered};
+ghost use Rattle.fab_requests.specs.Answered.{IsAnswered, with_argument, with_arguments};
 
 use fab_base::{NoMemory, Object, Oid, Seq, Value};
 use fab_map::ObjectMap;
 use std::alloc::Global;
 
-/// The objects behind what a request is given, those that are there.
+/// The objects that a request's arguments name, each once, in their order, those that are there.
 pub(crate) fn first_answers(
     alloc: Global,
     objects: &ObjectMap,
     args: &[Value],
 ) -> Result<Seq<(Oid, u32, Object)>, NoMemory>
-    ensures { IfOk result (AreAnswers objects.now) }
+    ensures { IfOk result (λ a. a ≡ with_arguments objects.now [] args.now) }
 {
     let mut answers = Seq::new(alloc);
     for arg in args {
-        if let Value::Ref(oid) = *arg {
-            if !is_answered(answers.as_slice(), oid) {
-                let _ = answer(alloc, objects, oid, &mut answers)?;
-            }
-        }
+        answer_argument(alloc, objects, *arg, &mut answers)?;
     }
     Ok(answers)
+}
+
+fn answer_argument(
+    alloc: Global,
+    objects: &ObjectMap,
+    arg: Value,
+    answers: &mut Seq<(Oid, u32, Object)>,
+) -> Result<(), NoMemory>
+    ensures { OnOk result (answers.new ≡ with_argument objects.now answers.old arg) }
+{
+    let Value::Ref(oid) = arg else {
+        return Ok(());
+    };
+    if !is_answered(answers.as_slice(), oid) {
+        let _ = answer(alloc, objects, oid, answers)?;
+    }
+    Ok(())
 }
 
 fn is_answered(answers: &[(Oid, u32, Object)], oid: Oid) -> bool
@@ -38,15 +51,13 @@ fn is_answered(answers: &[(Oid, u32, Object)], oid: Oid) -> bool
     false
 }
 
-/// Answers one object more, if it is there.
+/// Answers one object more, if it is there; says whether it is.
 pub(crate) fn answer(
     alloc: Global,
     objects: &ObjectMap,
     oid: Oid,
     answers: &mut Seq<(Oid, u32, Object)>,
 ) -> Result<bool, NoMemory>
-    requires valid { AreAnswers objects.now answers.old }
-    requires another { is_among oid (names_of answers.old) ≡ false }
     ensures { IfOk result (λ found. IsAnswered objects.now oid answers.old answers.new found) }
 {
     let Some(object) = objects.get(oid) else {
