@@ -40,7 +40,7 @@ pub(crate) fn run_one(
     requires { AreOld objects.now }
     ensures { IfOk result (λ s. IsSingle program.now.value objects.now request s) }
 {
-    // that the names of its rows ascend
+    // Its rows ascend.
     let _ordered = objects.rows();
     let answers = first_answers(alloc, objects, request.args.as_slice())?;
     let mut job = Job {
