@@ -92,7 +92,7 @@ once_apart (x ∷ xs) = (gone x (each_once xs), apart_without x (each_once xs) (
 
 -- ---- one name more
 
-among_more : (o p : Oid) (xs : List Oid) → is_among o (xs ++ p ∷ []) ≡ (is_among o xs || is_same p o)
+pub among_more : (o p : Oid) (xs : List Oid) → is_among o (xs ++ p ∷ []) ≡ (is_among o xs || is_same p o)
 among_more o p [] = elim (is_same p o) as (λ b. (b || false) ≡ b) [ true ↦ refl | false ↦ refl ]
 among_more o p (x ∷ xs) = elim (is_same x o) as (λ b. (b || is_among o (xs ++ p ∷ [])) ≡ ((b || is_among o xs) || is_same p o)) [ true ↦ refl | false ↦ among_more o p xs ]
 

@@ -90,17 +90,30 @@ put_keeps classes os known o x field n g (object c) u i =
       | false ↦ λ j. (i.0, i.1, i.2, (i.3.0, get-put_other o i.0 (with_field field (Int n) x) known j ∙ i.3.1, i.3.2))
     ] refl
 
-module _ (classes : List Class) (locals : List Local) (os : List Oid) (small : length os ≤ 256) where
-  -- ---- what holds along a run: each known local has a value of its type, and what was touched and written is among the few names
+-- each object of a class that this map has is one of that class in that map, too
+abbrev pub StayObjects : List Class → FlatMap → FlatMap → Type 0
+StayObjects classes before after = (c : ℕ) (o : Oid) (x : Object) → get before o ≡ Some x → IsObject classes c x → (y : Object) × (get after o ≡ Some y) × IsObject classes c y
+
+put_stays : (classes : List Class) (start known : FlatMap) (o : Oid) (x : Object) (field : ℕ) (n : ℤ) → get known o ≡ Some x → StayObjects classes start known → StayObjects classes start (put o (with_field field (Int n) x) known)
+put_stays classes start known o x field n g h c p y e k =
+    let i = h c p y e k in
+    elim (is_same o p) as (λ b. is_same o p ≡ b → (z : Object) × (get (put o (with_field field (Int n) x) known) p ≡ Some z) × IsObject classes c z) [
+      | true ↦ λ j. let q = one_name o p j in (with_field field (Int n) x, ap (get (put o (with_field field (Int n) x) known)) (sym q) ∙ get-put_same o (with_field field (Int n) x) known, kept_object classes c field n x (subst (IsObject classes c) (some_same i.0 x (sym i.1 ∙ ap (get known) (sym q) ∙ g)) i.2))
+      | false ↦ λ j. (i.0, get-put_other o p (with_field field (Int n) x) known j ∙ i.1, i.2)
+    ] refl
+
+module _ (classes : List Class) (locals : List Local) (os : List Oid) (small : length os ≤ 256) (start : FlatMap) where
+  -- ---- what holds along a run: each known local has a value of its type, what was touched and written is among the few names, and objects stay of their classes
   record Holds (known : List ℕ) (s : State) : Type 0 where
     pub width : length s.locals ≡ length locals
     pub values : (x : ℕ) (k : Kind) → is_in x known ≡ true → local_kind locals x ≡ Some k → IsOf classes os s.map k (unwrap_or (slice_get s.locals x) Null)
     pub touched_in : Within (touched s.touches) os
     pub apart : Apart s.written
     pub written_in : Within s.written os
+    pub stay : StayObjects classes start s.map
 
   again : (known : List ℕ) (s : State) (ts : List (ℕ × Oid)) → Holds known s → Within (touched ts) os → Holds known (record s { touches = ts })
-  again known s ts h w = record { width = h.width; values = h.values; touched_in = w; apart = h.apart; written_in = h.written_in }
+  again known s ts h w = record { width = h.width; values = h.values; touched_in = w; apart = h.apart; written_in = h.written_in; stay = h.stay }
 
   -- ---- expressions
 
@@ -189,7 +202,7 @@ module _ (classes : List Class) (locals : List Local) (os : List Oid) (small : l
       apart_from_none n le = grind (arith, nat_tests)
 
   after_paying : (known : List ℕ) (s : State) → Holds known s → Holds known (paid s)
-  after_paying known s h = record { width = h.width; values = h.values; touched_in = h.touched_in; apart = h.apart; written_in = h.written_in }
+  after_paying known s h = record { width = h.width; values = h.values; touched_in = h.touched_in; apart = h.apart; written_in = h.written_in; stay = h.stay }
 
   -- the run of a statement, once it has paid and its value is there
   with_value : (a : Expression) (f : Value → M (Unit {0})) (s : State) (k : Kind) → 1 ≤ s.fuel → (r : Evaluates (value a (paid s)) (paid s) k) → (charge >> (value a >>= f)) s ≡ f r.v (record (paid s) { touches = r.ts })
@@ -209,6 +222,7 @@ module _ (classes : List Class) (locals : List Local) (os : List Oid) (small : l
     touched_in = h.touched_in;
     apart = h.apart;
     written_in = h.written_in;
+    stay = h.stay;
   }
     where
       each : (y : ℕ) (l : Kind) (b : Bool) → (y == x) ≡ b → (b || is_in y known) ≡ true → local_kind locals y ≡ Some l → IsOf classes os s.map l (unwrap_or (slice_get (slice_set s.locals x v) y) Null)
@@ -229,6 +243,7 @@ module _ (classes : List Class) (locals : List Local) (os : List Oid) (small : l
     touched_in = h.touched_in;
     apart = written_apart o s.written h.apart;
     written_in = written_within o s.written os h.written_in among;
+    stay = put_stays classes start s.map o x field n g h.stay;
   }
 
   replaced : (v : Value) (y : Object) (s : State) (o : Oid) → v ≡ Ref o → is_among o os ≡ true → Apart s.written → Within s.written os → replaces (name_in v) y s ≡ goes tt (record s { map = put o y s.map; written = with_written o s.written })
@@ -278,7 +293,7 @@ module _ (classes : List Class) (locals : List Local) (os : List Oid) (small : l
       one _ _ _ (when a b o d ds es) y h = h
 
   fewer : (known after : List ℕ) (s : State) → ((y : ℕ) → is_in y known ≡ true → is_in y after ≡ true) → Holds after s → Holds known s
-  fewer known after s g h = record { width = h.width; values = λ x k i j. h.values x k (g x i) j; touched_in = h.touched_in; apart = h.apart; written_in = h.written_in }
+  fewer known after s g h = record { width = h.width; values = λ x k i j. h.values x k (g x i) j; touched_in = h.touched_in; apart = h.apart; written_in = h.written_in; stay = h.stay }
 
   size_eq : (y : st.Statement-F Statement) → size (roll-Statement y) ≡ size_step (map-Statement Statement ℕ size y)
   size_eq y = fold-roll-Statement ℕ size_step y
@@ -331,29 +346,49 @@ module _ (classes : List Class) (locals : List Local) (os : List Oid) (small : l
 
   -- ---- a method, from its start
 
-  started : (m : Method) → m.locals ≡ locals → m.parameters ≤ length locals → (known : FlatMap) (args : List Value) (fuel : ℕ) → AreGiven classes m os known args → Holds (below m.parameters) (record (state_at_start known fuel) { locals = locals_at_start m args })
-  started m agrees fits known args fuel given = record {
+  started : (m : Method) → m.locals ≡ locals → m.parameters ≤ length locals → (args : List Value) (fuel : ℕ) → AreGiven classes m os start args → Holds (below m.parameters) (record (state_at_start start fuel) { locals = locals_at_start m args })
+  started m agrees fits args fuel given = record {
     width = length-append args (replicate (length m.locals - length args) Null) ∙ ap (λ n. length args + n) (length-replicate (length m.locals - length args) Null) ∙ filled;
     values = λ x k i j. valued x k (below_less x m.parameters i) (ap (λ ls. local_kind ls x) agrees ∙ j);
     touched_in = λ o e. absurd (true≢false (sym e));
     apart = tt;
     written_in = λ o e. absurd (true≢false (sym e));
+    stay = λ c o x e k. (x, e, k);
   }
     where
       filled : length args + (length m.locals - length args) ≡ length locals
       filled = let c = given.count in let l = ap length agrees in omega arith
 
-      valued : (x : ℕ) (k : Kind) → x < m.parameters → local_kind m.locals x ≡ Some k → IsOf classes os known k (unwrap_or (slice_get (locals_at_start m args) x) Null)
+      valued : (x : ℕ) (k : Kind) → x < m.parameters → local_kind m.locals x ≡ Some k → IsOf classes os start k (unwrap_or (slice_get (locals_at_start m args) x) Null)
       valued x k lt j =
           let c = given.count in
           let there : x < length args = omega arith in
           let got = slice_get-get_or args x Null there in
-          subst (λ v. IsOf classes os known k v) (ap (λ o. unwrap_or o Null) (sym (get_front args (replicate (length m.locals - length args) Null) x there ∙ got))) (given.each x k j (get_or args x Null) got)
+          subst (λ v. IsOf classes os start k v) (ap (λ o. unwrap_or o Null) (sym (get_front args (replicate (length m.locals - length args) Null) x there ∙ got))) (given.each x k j (get_or args x Null) got)
 
--- the meaning of a request for a method that is well typed
-pub request_ends : (program : Resolved) (m : Method) (os : List Oid) (known : FlatMap) (request : Request) (fuel : ℕ) → slice_get program.methods request.method ≡ Some m → IsTypedMethod program.classes m → AreGiven program.classes m os known request.args → length os ≤ 256 → size_of m.body ≤ fuel → (meaning program known request fuel).ending ≡ Ended None
-request_ends program m os known request fuel found typed given few le =
-    let start : State = record (state_at_start known fuel) { locals = locals_at_start m request.args } in
-    let b = block_ends program.classes m.locals os few (below m.parameters) m.body typed.after typed.body start (started program.classes m.locals os few m refl typed.parameters_fit known request.args fuel given) le in
-    ap (λ o. (meant_by (requested o request.args (state_at_start known fuel))).ending) found
-    ∙ ap (λ r. (meant_by (and_then r (λ _. gives None))).ending) b.goes_on
+module _ (program : Resolved) (m : Method) (os : List Oid) (known : FlatMap) (request : Request) (fuel : ℕ) (found : slice_get program.methods request.method ≡ Some m) (typed : IsTypedMethod program.classes m) (given : AreGiven program.classes m os known request.args) (few : length os ≤ 256) (le : size_of m.body ≤ fuel) where
+  abbrev at_start : State
+  at_start = record (state_at_start known fuel) { locals = locals_at_start m request.args }
+
+  steps : Steps program.classes m.locals os few known (block m.body at_start) at_start typed.after (size_of m.body)
+  steps = block_ends program.classes m.locals os few known (below m.parameters) m.body typed.after typed.body at_start (started program.classes m.locals os few known m refl typed.parameters_fit request.args fuel given) le
+
+  -- the meaning of a request for a method that is well typed
+  meant : meaning program known request fuel ≡ meant_by (goes None steps.next)
+  meant =
+      ap (λ o. meant_by (requested o request.args (state_at_start known fuel))) found
+      ∙ ap (λ r. meant_by (and_then r (λ _. gives None))) steps.goes_on
+
+  pub request_ends : (meaning program known request fuel).ending ≡ Ended None
+  request_ends = ap (λ w. w.ending) meant
+
+  pub request_stays : StayObjects program.classes known (meaning program known request fuel).map
+  request_stays = subst (StayObjects program.classes known) (ap (λ w. w.map) (sym meant)) steps.holds.stay
+
+-- what is given of one map is given of one in which objects stay of their classes
+pub given_after : (classes : List Class) (m : Method) (os : List Oid) (before after : FlatMap) (args : List Value) → StayObjects classes before after → AreGiven classes m os before args → AreGiven classes m os after args
+given_after classes m os before after args h g = record { count = g.count; each = λ x k i v j. kept k v (g.each x k i v j) }
+  where
+    kept : (k : Kind) (v : Value) → IsOf classes os before k v → IsOf classes os after k v
+    kept int v i = i
+    kept (object c) v i = (i.0, i.1, i.2, h c i.0 i.3.0 i.3.1 i.3.2)

@@ -1,4 +1,5 @@
 pub mod Gives
+pub mod Locality
 pub mod Outcomes
 pub mod Runs
 pub mod Settles

@@ -15,5 +15,8 @@ mod whole;
 
 pub use done::Done;
 pub use job::{EvalRefused, Job, Outcome};
-pub use laws::{blocks_in_a_row, fuel_never_rises, typed_jobs_end, typed_requests_end};
+pub use laws::{
+    blocks_in_a_row, fuel_never_rises, objects_stay_typed, only_written_change, same_until_missing,
+    typed_jobs_end, typed_requests_end,
+};
 pub use whole::evaluate;

@@ -4,4 +4,5 @@ pub mod Forms
 mod MeaningExamples
 pub mod Places
 mod ProgramExamples
+mod RequestExamples
 mod SyntaxExamples

@@ -27,13 +27,13 @@ use Rattle.fab_tree.proofs.Forms.{number_means, read_means, sum_means, compared_
 
 -- ---- two roots with one field, and a method m(C a, C b) with a local t
 
-abbrev root : ℕ → Oid
+abbrev pub root : ℕ → Oid
 root n = record { store = 0; class = 0; worker = 65535; boot = 0; number = n; site = 65535; index = 0 }
 
-abbrev holding : ℤ → Object
+abbrev pub holding : ℤ → Object
 holding n = record { class = 0; fields = Int n ∷ [] }
 
-abbrev rows : ℤ → ℤ → FlatMap
+abbrev pub rows : ℤ → ℤ → FlatMap
 rows n k = (root 1, holding n) ∷ (root 2, holding k) ∷ []
 
 abbrev named : List ℕ → Name
@@ -51,20 +51,20 @@ of_int text = record { sort = sorts.Int; name = named text; label = at_start 0 }
 abbrev method : List Statement → Method
 method body = record { name = named (codes "m"); parameters = 2; locals = of_class (codes "a") ∷ of_class (codes "b") ∷ of_int (codes "t") ∷ []; begin = at_start 0; fails = false; body = body }
 
-abbrev program : List Statement → Resolved
+abbrev pub program : List Statement → Resolved
 program body = record { nodes = []; pairs = []; labels = []; classes = []; methods = method body ∷ []; roots = [] }
 
-abbrev request : List Value → Request
+abbrev pub request : List Value → Request
 request args = record { worker = 0; number = 1; method = 0; args = args }
 
 -- what a body means, over so many fuel
 abbrev runs : ℕ → List Statement → List Value → FlatMap → Meant
 runs fuel body args known = meaning (program body) known (request args) fuel
 
-abbrev both : List Value
+abbrev pub both : List Value
 both = Ref (root 1) ∷ Ref (root 2) ∷ []
 
-abbrev number : ℤ → Expression
+abbrev pub number : ℤ → Expression
 number n = roll-Expression (Number n)
 
 abbrev a : ℕ
@@ -77,10 +77,10 @@ abbrev t : ℕ
 t = 2
 
 -- the field of a local's object, at a site
-abbrev field : ℕ → ℕ → Expression
+abbrev pub field : ℕ → ℕ → Expression
 field x site = roll-Expression (Read (at_start x) 0 site)
 
-abbrev plus : Expression → Expression → Expression
+abbrev pub plus : Expression → Expression → Expression
 plus e f = roll-Expression (Sum e ((Plus, f) ∷ []))
 
 abbrev minus : Expression → Expression → Expression
@@ -89,18 +89,18 @@ minus e f = roll-Expression (Sum e ((Minus, f) ∷ []))
 abbrev set : ℕ → Expression → Statement
 set x e = roll-Statement (Assign x e 0)
 
-abbrev set_field : ℕ → ℕ → Expression → Statement
+abbrev pub set_field : ℕ → ℕ → Expression → Statement
 set_field x site e = roll-Statement (Write (at_start x) 0 e site)
 
 abbrev when : Expression → List Statement → List Statement → Statement
 when e then others = roll-Statement (If e then others)
 
 -- a number that fits stays
-kept : (n : ℤ) → FitsSigned w32 n → int_wrap w32 n ≡ n
+pub kept : (n : ℤ) → FitsSigned w32 n → int_wrap w32 n ≡ n
 kept n h = int_wrap_fits w32 n h
 
 -- `a.v = a.v - 5; b.v = b.v + 5;`
-abbrev transfer : List Statement
+abbrev pub transfer : List Statement
 transfer = set_field a 0 (minus (field a 1) (number (pos 5))) ∷ set_field b 2 (plus (field b 3) (number (pos 5))) ∷ []
 
 transferred : runs 2 transfer both (rows (pos 7) (pos 1)) ≡ record { ending = Ended None; map = rows (pos 2) (pos 6); written = root 1 ∷ root 2 ∷ []; touches = (1, root 1) ∷ (0, root 1) ∷ (3, root 2) ∷ (2, root 2) ∷ []; downs = [] }

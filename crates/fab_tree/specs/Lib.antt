@@ -6,5 +6,6 @@ pub mod Lists
 pub mod Meaning
 pub mod Names
 pub mod Programs
+pub mod Requests
 pub mod Resolution
 pub mod Syntax

@@ -1,0 +1,8 @@
+use Rattle.fab_eval.proofs.Locality.{over_more, missing_is_absent}
+use Rattle.fab_eval.proofs.laws.same_until_missing.Goals as goal
+
+pub returns : goal.returns
+returns c = record {
+  same = λ program request fuel some all part l. over_more some all part program request fuel l;
+  missing = missing_is_absent;
+}
