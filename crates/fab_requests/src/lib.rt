@@ -5,6 +5,8 @@ mod answers;
 mod ran;
 mod sequence;
 mod single;
+#[cfg(test)]
+mod tests;
 
 pub use ran::{Ending, Ran};
 pub use sequence::run;
