@@ -141,9 +141,9 @@ module _ (some all : FlatMap) (part : IsPart some all) where
 
   put_alone : (o : Oid) (x y : Object) (w : List Oid) (m : FlatMap) → Alone w m → get m o ≡ Some x → Alone (with_written o w) (put o y m)
   put_alone o x y w m a e = record {
-    there = λ p i. there' p i (is_same o p) refl;
-    known = λ p i. known' p i (is_same o p) refl;
-    rest = λ p i. rest' p i (is_same o p) refl;
+    there = λ p i. there_at p i (is_same o p) refl;
+    known = λ p i. known_at p i (is_same o p) refl;
+    rest = λ p i. rest_at p i (is_same o p) refl;
     ordered = λ i. ascends-put o y m (a.ordered i);
   }
     where
@@ -151,34 +151,34 @@ module _ (some all : FlatMap) (part : IsPart some all) where
       known_here true i = a.known o i
       known_here false i = (x, sym (a.rest o i) ∙ e)
 
-      there' : (p : Oid) → is_among p (with_written o w) ≡ true → (b : Bool) → is_same o p ≡ b → (z : Object) × (get (put o y m) p ≡ Some z)
-      there' p i true j = (y, ap (get (put o y m)) (sym (one_name o p j)) ∙ get-put_same o y m)
-      there' p i false j = let t = a.there p (sym (among_others o p w j) ∙ i) in (t.0, get-put_other o p y m j ∙ t.1)
+      there_at : (p : Oid) → is_among p (with_written o w) ≡ true → (b : Bool) → is_same o p ≡ b → (z : Object) × (get (put o y m) p ≡ Some z)
+      there_at p i true j = (y, ap (get (put o y m)) (sym (one_name o p j)) ∙ get-put_same o y m)
+      there_at p i false j = let t = a.there p (sym (among_others o p w j) ∙ i) in (t.0, get-put_other o p y m j ∙ t.1)
 
-      known' : (p : Oid) → is_among p (with_written o w) ≡ true → (b : Bool) → is_same o p ≡ b → (z : Object) × (get some p ≡ Some z)
-      known' p i true j = let t = known_here (is_among o w) refl in (t.0, ap (get some) (sym (one_name o p j)) ∙ t.1)
-      known' p i false j = a.known p (sym (among_others o p w j) ∙ i)
+      known_at : (p : Oid) → is_among p (with_written o w) ≡ true → (b : Bool) → is_same o p ≡ b → (z : Object) × (get some p ≡ Some z)
+      known_at p i true j = let t = known_here (is_among o w) refl in (t.0, ap (get some) (sym (one_name o p j)) ∙ t.1)
+      known_at p i false j = a.known p (sym (among_others o p w j) ∙ i)
 
-      rest' : (p : Oid) → is_among p (with_written o w) ≡ false → (b : Bool) → is_same o p ≡ b → get (put o y m) p ≡ get some p
-      rest' p i true j = absurd (true≢false (sym (among_written o w) ∙ ap (λ q. is_among q (with_written o w)) (one_name o p j) ∙ i))
-      rest' p i false j = get-put_other o p y m j ∙ a.rest p (sym (among_others o p w j) ∙ i)
+      rest_at : (p : Oid) → is_among p (with_written o w) ≡ false → (b : Bool) → is_same o p ≡ b → get (put o y m) p ≡ get some p
+      rest_at p i true j = absurd (true≢false (sym (among_written o w) ∙ ap (λ q. is_among q (with_written o w)) (one_name o p j) ∙ i))
+      rest_at p i false j = get-put_other o p y m j ∙ a.rest p (sym (among_others o p w j) ∙ i)
 
   put_near : (o : Oid) (x y : Object) (w : List Oid) (m k : FlatMap) → Near w m k → get m o ≡ Some x → Near (with_written o w) (put o y m) (put o y k)
   put_near o x y w m k n e = record {
     alone = put_alone o x y w m n.alone e;
-    same = λ p i. same' p i (is_same o p) refl;
-    rest = λ p i. rest' p i (is_same o p) refl;
+    same = λ p i. same_at p i (is_same o p) refl;
+    rest = λ p i. rest_at p i (is_same o p) refl;
   }
     where
-      same' : (p : Oid) → is_among p (with_written o w) ≡ true → (b : Bool) → is_same o p ≡ b → get (put o y k) p ≡ get (put o y m) p
-      same' p i true j =
+      same_at : (p : Oid) → is_among p (with_written o w) ≡ true → (b : Bool) → is_same o p ≡ b → get (put o y k) p ≡ get (put o y m) p
+      same_at p i true j =
           let q = one_name o p j in
           ap (get (put o y k)) (sym q) ∙ get-put_same o y k ∙ sym (ap (get (put o y m)) (sym q) ∙ get-put_same o y m)
-      same' p i false j = get-put_other o p y k j ∙ n.same p (sym (among_others o p w j) ∙ i) ∙ sym (get-put_other o p y m j)
+      same_at p i false j = get-put_other o p y k j ∙ n.same p (sym (among_others o p w j) ∙ i) ∙ sym (get-put_other o p y m j)
 
-      rest' : (p : Oid) → is_among p (with_written o w) ≡ false → (b : Bool) → is_same o p ≡ b → get (put o y k) p ≡ get all p
-      rest' p i true j = absurd (true≢false (sym (among_written o w) ∙ ap (λ q. is_among q (with_written o w)) (one_name o p j) ∙ i))
-      rest' p i false j = get-put_other o p y k j ∙ n.rest p (sym (among_others o p w j) ∙ i)
+      rest_at : (p : Oid) → is_among p (with_written o w) ≡ false → (b : Bool) → is_same o p ≡ b → get (put o y k) p ≡ get all p
+      rest_at p i true j = absurd (true≢false (sym (among_written o w) ∙ ap (λ q. is_among q (with_written o w)) (one_name o p j) ∙ i))
+      rest_at p i false j = get-put_other o p y k j ∙ n.rest p (sym (among_others o p w j) ∙ i)
 
   by_replaced : (b : Bool) (o : Oid) (x y : Object) (s : State) (k : FlatMap) → Near s.written s.map k → get s.map o ≡ Some x → Beside {A = Unit {0}} (cond b (ends (stopped Writes) s) (goes tt (record s { map = put o y s.map; written = with_written o s.written }))) (cond b (ends (stopped Writes) (record s { map = k })) (goes tt (record s { map = put o y k; written = with_written o s.written })))
   by_replaced true o x y s k n e = both_stop Writes s k n
@@ -305,8 +305,8 @@ module _ (some all : FlatMap) (part : IsPart some all) where
   absent _ _ (both_go a s k n) site o h = cc
   absent _ _ (both_fail s k n) site o h = cc
   absent _ _ (both_stop stop s k n) site o h = cc
-  absent _ _ (both_miss site' o' s k e n) site o h = let q : o' ≡ o = cc in ap (get some) (sym q) ∙ e
-  absent _ _ (lacks site' o' s r x e i a) site o h = let q : o' ≡ o = cc in ap (get some) (sym q) ∙ e
+  absent _ _ (both_miss place p s k e n) site o h = let q : p ≡ o = cc in ap (get some) (sym q) ∙ e
+  absent _ _ (lacks place p s r x e i a) site o h = let q : p ≡ o = cc in ap (get some) (sym q) ∙ e
 
   pub absent_over : (program : Resolved) (request : Request) (fuel : ℕ) (site : ℕ) (o : Oid) → (meaning program some request fuel).ending ≡ Missing site o → get some o ≡ None
   absent_over program request fuel = absent _ _ (beside program request fuel)
