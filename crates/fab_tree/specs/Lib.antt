@@ -5,5 +5,6 @@ pub mod Limits
 pub mod Lists
 pub mod Meaning
 pub mod Names
+pub mod Programs
 pub mod Resolution
 pub mod Syntax

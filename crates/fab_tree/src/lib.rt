@@ -5,7 +5,9 @@ mod program;
 pub mod resolved;
 mod start;
 
-pub use program::{Comparison, Expression, Method, Parameter, Sign, Statement};
+pub use program::{
+    Comparison, Expression, Method, Parameter, RequestText, Session, Sign, Statement,
+};
 pub use resolved::Resolved;
 pub use start::{
     Aspect, Class, Delegation, Field, Given, LabelText, Literal, Name, Node, PolicyText, Role,

@@ -1,6 +1,7 @@
-//! What a program does: methods, statements and expressions, as they are written.
+//! What a program does: methods, statements and expressions, as they are written, and what a run
+//! asks of it: sessions and their requests.
 
-use crate::start::{Name, Sort};
+use crate::start::{Given, Name, Sort};
 use fab_base::{Boxed, Seq};
 
 /// The sign before a term of a sum.
@@ -99,4 +100,18 @@ pub struct Method {
     pub begin: Name,
     pub fails: bool,
     pub body: Seq<Statement>,
+}
+
+/// `m(1, null, r);`: what a session asks for, a method and what its parameters are given.
+#[derive(Debug, Drop)]
+pub struct RequestText {
+    pub method: Name,
+    pub arguments: Seq<Given>,
+}
+
+/// `session w { .. }`: what is asked of a worker, in this order.
+#[derive(Debug, Drop)]
+pub struct Session {
+    pub worker: Name,
+    pub requests: Seq<RequestText>,
 }
