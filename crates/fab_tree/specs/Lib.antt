@@ -4,7 +4,9 @@ pub mod Evaluation
 pub mod Limits
 pub mod Lists
 pub mod Meaning
+pub mod Methods
 pub mod Names
+pub mod Numbering
 pub mod Programs
 pub mod Resolution
 pub mod Syntax
