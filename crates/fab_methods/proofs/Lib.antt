@@ -1,3 +1,5 @@
 pub mod Blocks
-pub mod Locals
+pub mod DeclaredLocals
+pub mod KeptMethods
 pub mod Sorts
+pub mod Stack

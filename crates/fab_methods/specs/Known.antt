@@ -117,13 +117,13 @@ module _ (s : Start) where
   abbrev pub keeps : Statement → Keeps
   keeps = fold-Statement Keeps keeps_step
 
-  -- ---- methods
+-- ---- methods
 
-  abbrev pub given_locals : List Parameter → Locals
-  given_locals = map (λ p. (local_name p, p.sort))
+abbrev pub given_locals : List Parameter → Locals
+given_locals = map (λ p. (local_name p, p.sort))
 
-  abbrev pub knows_parameter : Parameter → Bool
-  knows_parameter p = knows_sort s.classes p.sort && is_among label_name p.label.text s.labels
+abbrev pub knows_parameter : Start → Parameter → Bool
+knows_parameter s p = knows_sort s.classes p.sort && is_among label_name p.label.text s.labels
 
-  abbrev pub knows_method : Method → Bool
-  knows_method m = is_among label_name m.begin.text s.labels && list_all knows_parameter m.parameters && is_distinct local_name (locals_of m) && keeps_block (map keeps m.body) (given_locals m.parameters)
+abbrev pub knows_method : Start → Method → Bool
+knows_method s m = is_among label_name m.begin.text s.labels && list_all (knows_parameter s) m.parameters && is_distinct local_name (locals_of m) && keeps_block (map (keeps s) m.body) (given_locals m.parameters)

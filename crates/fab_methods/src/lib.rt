@@ -3,5 +3,9 @@
 
 mod expressions;
 mod known;
+mod locals;
+mod methods;
 mod statements;
 mod types;
+
+pub use methods::keeps_method;

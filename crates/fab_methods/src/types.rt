@@ -9,6 +9,7 @@ use fab_tree::{Class, Comparison, Field, Name, Sort, Start};
 use std::marker::Model;
 
 /// What a bundle declares, beside the type of numbers. Contracts see it as the bundle.
+#[derive(Drop)]
 pub(crate) struct Types<'a> {
     pub(crate) start: &'a Start,
     pub(crate) int: &'a Sort,

@@ -1,6 +1,6 @@
 use Rattle.std.proofs.Common.{◌-◌, ap, ◌∙◌, drop, length}
-use Rattle.fab_methods.specs.Locals.{shown}
-use Rattle.fab_methods.proofs.Locals.{shown_take}
+use Rattle.fab_methods.specs.Stack.{shown}
+use Rattle.fab_methods.proofs.Stack.{shown_take}
 use Rattle.fab_methods.proofs.known.Known.truncate.Goals as goal
 
 pub returns : goal.returns
