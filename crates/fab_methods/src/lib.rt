@@ -5,7 +5,9 @@ mod expressions;
 mod known;
 mod locals;
 mod methods;
+mod sessions;
 mod statements;
 mod types;
 
 pub use methods::keeps_method;
+pub use sessions::keeps_session;
