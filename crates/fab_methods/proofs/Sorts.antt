@@ -86,6 +86,7 @@ module _ (s : Start) (names : KeepsNames s) where
       by_field : (k : Class) → Contains s.classes k × (class_name k ≡ c.text) → (f : Option Field) → field_named (Some k) y ≡ f → sort_of_field f ≡ Some t → HasField s c y t
       by_field k n None g i = absurd (cc)
       by_field k n (Some f) g i = let m = numbered field_name k.fields y.text f (sym (named_get field_name k.fields y.text) ∙ g) in record { class = k; declared = n.0; named = n.1; field = f; has = m.0; called = m.1; sort_is = cc }
+
       by : (k : Option Class) → class_named s c ≡ k → sort_of_field (field_named k y) ≡ Some t → HasField s c y t
       by None g i = absurd (cc)
       by (Some k) g i = by_field k (numbered class_name s.classes c.text k (sym (named_get class_name s.classes c.text) ∙ g)) (field_named (Some k) y) refl i

@@ -83,14 +83,19 @@ fn gather<'a>(locals: &mut Vec<Declaration<'a>>, statement: &'a Statement) -> Re
 {
     match statement {
         Statement::Declare {
-            sort, name, label, ..
+            sort,
+            name,
+            label,
+            ..
         } => {
             locals.push(Declaration { sort, name, label })?;
             Ok(())
         }
         Statement::Assign { .. } | Statement::Write { .. } => Ok(()),
         Statement::If {
-            block, otherwise, ..
+            block,
+            otherwise,
+            ..
         } => {
             gather_block(locals, block.as_slice())?;
             match otherwise {

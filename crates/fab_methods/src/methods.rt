@@ -71,11 +71,7 @@ fn declares_once(alloc: Global, method: &Method) -> Result<bool, NoMemory>
 }
 
 /// Whether the body of a method keeps the rules.
-fn keeps_body<'a>(
-    alloc: Global,
-    types: &Types<'a>,
-    method: &'a Method,
-) -> Result<bool, NoMemory>
+fn keeps_body<'a>(alloc: Global, types: &Types<'a>, method: &'a Method) -> Result<bool, NoMemory>
     ensures { IfOk result (λ b. b ≡ keeps_block (map (keeps types.now) method.now.body) (given_locals method.now.parameters)) }
 {
     let mut known = given(alloc, method.parameters.as_slice())?;

@@ -30,9 +30,7 @@ fn knows_session(declared: &Declared<'_>, methods: &[Method], session: &Session)
 fn knows_worker(nodes: &[Node], name: &Name) -> bool
     ensures { result ≡ knows_worker nodes.now name.now }
 {
-    nodes
-        .iter()
-        .any(|node| are_same(&node.name, name) && is_honest_worker(node.role))
+    nodes.iter().any(|node| are_same(&node.name, name) && is_honest_worker(node.role))
 }
 
 fn is_honest_worker(role: Role) -> bool
@@ -77,8 +75,8 @@ fn suit_all(declared: &Declared<'_>, parameters: &[Parameter], arguments: &[Give
 fn suit_each(declared: &Declared<'_>, parameters: &[Parameter], arguments: &[Given]) -> bool
     ensures { result ≡ suit_each declared.now.roots parameters.now arguments.now }
 {
-    parameters
-        .iter()
-        .zip(arguments)
-        .all(|(parameter, given)| declared.fits(&parameter.sort, &given.literal))
+    parameters.iter().zip(arguments).all(|(parameter, given)| declared.fits(
+        &parameter.sort,
+        &given.literal,
+    ))
 }

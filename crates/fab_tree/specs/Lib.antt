@@ -1,3 +1,4 @@
+pub mod Counts
 pub mod Declarations
 pub mod Depth
 pub mod Evaluation
