@@ -1,5 +1,5 @@
 -- Worked examples of the rules of methods and of their numbers.
-use Rattle.std.proofs.Common.{◌≡◌, ℕ, false, List, [], ◌∷◌, ◌++◌, refl, sym, ap, ◌∙◌, subst, codes, arith, pos}
+use Rattle.std.proofs.Common.{◌≡◌, ℕ, suc, false, List, [], ◌∷◌, ◌++◌, refl, sym, ap, ◌∙◌, subst, codes, arith, pos}
 use Rattle.fab_tree.specs.declared.start.Name.{Name}
 use Rattle.fab_tree.specs.declared.start.Sort.TheVariants as sorts
 use Rattle.fab_tree.specs.declared.start.Class.{Class}
@@ -7,6 +7,14 @@ use Rattle.fab_tree.specs.declared.start.Start.{Start}
 use Rattle.fab_tree.specs.declared.program.Sign.{Sign}
 use Rattle.fab_tree.specs.declared.program.Sign.TheVariants as signs
 use Rattle.fab_tree.specs.declared.program.Expression.TheVariants as e
+use Rattle.fab_tree.specs.declared.program.Expression.{Expression, fold-roll-Expression}
+use Rattle.fab_tree.specs.declared.program.Expression.TheOpen as o
+use Rattle.fab_tree.specs.declared.resolved.Use.{Use}
+use Rattle.fab_tree.specs.declared.resolved.Expression.{Expression as NumberedExpression}
+use Rattle.fab_tree.specs.declared.resolved.Expression.TheVariants as ne
+use Rattle.fab_tree.specs.declared.resolved.Statement.{Statement as NumberedStatement}
+use Rattle.fab_tree.specs.declared.resolved.Statement.TheVariants as ns
+use Rattle.fab_tree.specs.Numbering.{Numbered, expression_of, expression_step, statement_of, statement_step}
 use Rattle.fab_tree.specs.declared.program.Statement.{Statement, fold-roll-Statement}
 use Rattle.fab_tree.specs.declared.program.Statement.TheVariants as s
 use Rattle.fab_tree.specs.Names.{Distinct}
@@ -78,3 +86,37 @@ its_locals = ap (λ ps. of_x ∷ ps ++ []) declared_x
 
 refused : IsKnownMethod bundle doubled → ⊥
 refused k = subst (Distinct local_name) its_locals k.locals 0 1 [] (omega arith) (omega arith) refl
+
+-- ---- numbers
+
+abbrev of_account : List ℕ → Parameter
+of_account text = record { sort = sorts.Class (named (codes "A")); name = named text; label = named (codes "L") }
+
+abbrev accounts : List Parameter
+accounts = of_account (codes "f") ∷ of_account (codes "t") ∷ []
+
+abbrev used : ℕ → Use
+used number = record { number = number; at = 0 }
+
+reads_t : expression_of bundle accounts (e.Read (named (codes "t")) (named (codes "n")) 0) ≡ (λ n. (ne.Read (used 1) 0 n, suc n))
+reads_t = ap (expression_of bundle accounts) (sym (e.rolls-Read (named (codes "t")) (named (codes "n")) 0)) ∙ fold-roll-Expression (Numbered NumberedExpression) (expression_step bundle accounts) (o.Read (named (codes "t")) (named (codes "n")) 0)
+
+five : expression_of bundle accounts (e.Number (pos 5) 0) ≡ (λ n. (ne.Number (pos 5), n))
+five = ap (expression_of bundle accounts) (sym (e.rolls-Number (pos 5) 0)) ∙ fold-roll-Expression (Numbered NumberedExpression) (expression_step bundle accounts) (o.Number (pos 5) 0)
+
+abbrev given_to_t : Expression
+given_to_t = e.Sum (e.Read (named (codes "t")) (named (codes "n")) 0) ((signs.Plus, e.Number (pos 5) 0) ∷ []) 0
+
+sum_of_t : expression_of bundle accounts given_to_t ≡ (λ n. (ne.Sum (ne.Read (used 1) 0 n) ((signs.Plus, ne.Number (pos 5)) ∷ []), suc n))
+sum_of_t =
+    ap (expression_of bundle accounts) (sym (e.rolls-Sum (e.Read (named (codes "t")) (named (codes "n")) 0) ((signs.Plus, e.Number (pos 5) 0) ∷ []) 0))
+    ∙ fold-roll-Expression (Numbered NumberedExpression) (expression_step bundle accounts) (o.Sum (e.Read (named (codes "t")) (named (codes "n")) 0) ((signs.Plus, e.Number (pos 5) 0) ∷ []) 0)
+    ∙ ap (λ r. expression_step bundle accounts (o.Sum r ((signs.Plus, expression_of bundle accounts (e.Number (pos 5) 0)) ∷ []) 0)) reads_t
+    ∙ ap (λ f. expression_step bundle accounts (o.Sum (λ n. (ne.Read (used 1) 0 n, suc n)) ((signs.Plus, f) ∷ []) 0)) five
+
+-- the site of a write is before that of what it reads
+write_first : statement_of bundle accounts (taken signs.Plus (codes "t")) 2 ≡ (ns.Write (used 1) 0 (ne.Sum (ne.Read (used 1) 0 3) ((signs.Plus, ne.Number (pos 5)) ∷ [])) 2, 4)
+write_first =
+    ap (λ w. statement_of bundle accounts w 2) (sym (s.rolls-Write (named (codes "t")) (named (codes "n")) given_to_t))
+    ∙ ap (λ f. f 2) (fold-roll-Statement (Numbered NumberedStatement) (statement_step bundle accounts) (layer.Write (named (codes "t")) (named (codes "n")) given_to_t))
+    ∙ ap (λ f. (ns.Write (used 1) 0 (f 3).0 2, (f 3).1)) sum_of_t
