@@ -25,10 +25,10 @@ use Rattle.fab_tree.specs.Resolution.{number_of}
 use Rattle.fab_names.specs.Known.{is_among, is_distinct, knows, knows_policy, knows_label, knows_sort, knows_class, is_root_of, is_of, fits, fit_each, fit_all, knows_store, are_of_class, knows_root, declares_once, knows_all}
 use Rattle.fab_names.proofs.Names.{both_true, first_true, second_true, all_to, all_from, any_to, any_from, is_among-to, is_among-from, distinct_to, distinct_from, numbered, its_number}
 
-same_text : (a b : List ℕ) → bytes_eq a b ≡ true → a ≡ b
+pub same_text : (a b : List ℕ) → bytes_eq a b ≡ true → a ≡ b
 same_text a b = (bytes_eq-Decides a b).0
 
-text_same : (a b : List ℕ) → a ≡ b → bytes_eq a b ≡ true
+pub text_same : (a b : List ℕ) → a ≡ b → bytes_eq a b ≡ true
 text_same a b = (bytes_eq-Decides a b).1
 
 -- ---- delegations and policies
@@ -61,11 +61,11 @@ module _ (nodes : List Node) where
 -- ---- classes
 
 module _ (s : Start) where
-  sort_to : (x : Sort) → knows_sort s.classes x ≡ true → IsKnownSort s.classes x
+  pub sort_to : (x : Sort) → knows_sort s.classes x ≡ true → IsKnownSort s.classes x
   sort_to sorts.Int h = rules.int
   sort_to (sorts.Class x) h = rules.class (is_among-to class_name s.classes x.text h)
 
-  sort_from : (x : Sort) → IsKnownSort s.classes x → knows_sort s.classes x ≡ true
+  pub sort_from : (x : Sort) → IsKnownSort s.classes x → knows_sort s.classes x ≡ true
   sort_from sorts.Int k = refl
   sort_from (sorts.Class x) (rules.class d) = is_among-from class_name s.classes x.text d
 
@@ -109,7 +109,7 @@ module _ (s : Start) (once : is_distinct root_name s.roots ≡ true) where
       let at : slice_get s.roots (number_of root_name s.roots y.text) ≡ Some r = ap (λ t. slice_get s.roots (number_of root_name s.roots t)) (sym n) ∙ its_number root_name s.roots r once c in
       ap (is_root_of x.text) at ∙ text_same r.class.text x.text e
 
-  fits_to : (x : Sort) (l : Literal) → fits s.roots x l ≡ true → Fits s x l
+  pub fits_to : (x : Sort) (l : Literal) → fits s.roots x l ≡ true → Fits s x l
   fits_to sorts.Int (literals.Int n) h = rules.int
   fits_to sorts.Int literals.Null h = absurd (cc)
   fits_to sorts.Int (literals.Root y) h = absurd (cc)
@@ -117,7 +117,7 @@ module _ (s : Start) (once : is_distinct root_name s.roots ≡ true) where
   fits_to (sorts.Class x) literals.Null h = rules.null
   fits_to (sorts.Class x) (literals.Root y) h = root_to x y h
 
-  fits_from : (x : Sort) (l : Literal) → Fits s x l → fits s.roots x l ≡ true
+  pub fits_from : (x : Sort) (l : Literal) → Fits s x l → fits s.roots x l ≡ true
   fits_from sorts.Int (literals.Int n) k = refl
   fits_from sorts.Int literals.Null k = elim k [ ]
   fits_from sorts.Int (literals.Root y) k = elim k [ ]

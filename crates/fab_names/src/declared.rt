@@ -13,7 +13,7 @@ use std::marker::Model;
 /// What a bundle declares. There may be many roots, so their names stand in a table, in which each
 /// has its root's number. Contracts see it as the bundle.
 #[derive(Drop)]
-pub(crate) struct Declared<'a> {
+pub struct Declared<'a> {
     start: &'a Start,
     roots: IndexSet<&'a str>,
 }
@@ -35,7 +35,7 @@ impl<'a> Model for Declared<'a> {
 
 impl<'a> Declared<'a> {
     /// The table of a bundle, unless two of its roots have one name.
-    pub(crate) fn make(alloc: Global, start: &'a Start) -> Result<Option<Declared<'a>>, NoMemory>
+    pub fn make(alloc: Global, start: &'a Start) -> Result<Option<Declared<'a>>, NoMemory>
         ensures { IfOk result (λ o. MatchOption o (is_distinct root_name start.now.roots ≡ false) (λ d. (d ≡ start.now) × (is_distinct root_name start.now.roots ≡ true))) }
     {
         let mut roots = IndexSet::new(alloc);
@@ -48,14 +48,14 @@ impl<'a> Declared<'a> {
     }
 
     /// The bundle.
-    pub(crate) fn start(&self) -> &'a Start
+    pub fn start(&self) -> &'a Start
         ensures { result.now ≡ self.now }
     {
         self.start
     }
 
     /// The number of the root of this name, or how many roots there are where none has it.
-    pub(crate) fn root_number(&self, name: &Name) -> usize
+    pub fn root_number(&self, name: &Name) -> usize
         ensures number { result ≡ number_of root_name self.now.roots name.now.text }
         ensures within { result ≤ length self.now.roots }
     {
@@ -65,7 +65,7 @@ impl<'a> Declared<'a> {
     }
 
     /// The root of this name.
-    pub(crate) fn root(&self, name: &Name) -> Option<&'a Root>
+    pub fn root(&self, name: &Name) -> Option<&'a Root>
         ensures { option_copied result ≡ slice_get self.now.roots (number_of root_name self.now.roots name.now.text) }
     {
         self.start.roots.as_slice().get(self.root_number(name))

@@ -1,20 +1,21 @@
 //! What is declared with a name, of whatever kind.
-ghost use Rattle.std.specs.Prelude.{◌≡◌, ◌↔◌, ◌≤◌, ◌<◌, ◌∷◌, [], true, length, IfOk, MatchOption};
+ghost use Rattle.std.specs.Prelude.{◌≡◌, ◌↔◌, ◌≤◌, ◌<◌, ◌∷◌, [], true, length, find, option_copied, IfOk, MatchOption};
 ghost use Rattle.std.specs.List.{position};
 ghost use Rattle.std.specs.Str.{bytes_eq};
 ghost use Rattle.fab_tree.specs.Resolution.{number_of};
 ghost use Rattle.fab_names.specs.Known.{is_among, is_distinct};
 
 use fab_base::NoMemory;
-use fab_tree::{Class, Field, LabelText, Name, Node};
+use fab_tree::{Class, Field, LabelText, Method, Name, Node, Parameter};
 use std::alloc::Global;
 
 /// What is declared with a name.
-pub(crate) trait Named {
+pub trait Named {
     ghost use Rattle.std.specs.Prelude.{◌≡◌, List, ℕ};
 
     ghost text: { Self → List ℕ };
 
+    /// Its name.
     fn text(&self) -> &str
         ensures { result.now ≡ text self.now };
 }
@@ -59,6 +60,26 @@ impl Named for Field {
     }
 }
 
+impl Named for Parameter {
+    ghost use Rattle.fab_tree.specs.Methods.{local_name};
+
+    ghost text = { local_name };
+
+    fn text(&self) -> &str {
+        self.name.text.as_str()
+    }
+}
+
+impl Named for Method {
+    ghost use Rattle.fab_tree.specs.Methods.{method_name};
+
+    ghost text = { method_name };
+
+    fn text(&self) -> &str {
+        self.name.text.as_str()
+    }
+}
+
 /// The first item and those behind it.
 fn next<T>(items: &[T]) -> Option<(&T, &[T])>
     ensures { MatchOption result (items.now ≡ []) (λ x. items.now ≡ x.0.now ∷ x.1.now) }
@@ -67,7 +88,7 @@ fn next<T>(items: &[T]) -> Option<(&T, &[T])>
 }
 
 /// Whether no two of these have one name. Each is compared with each.
-pub(crate) fn are_distinct<T: Named>(items: &[T]) -> bool
+pub fn are_distinct<T: Named>(items: &[T]) -> bool
     ensures { result ≡ is_distinct T.text items.now }
 {
     let mut left = items;
@@ -81,19 +102,26 @@ pub(crate) fn are_distinct<T: Named>(items: &[T]) -> bool
 }
 
 /// Whether one of these has this name.
-pub(crate) fn is_named<T: Named>(items: &[T], name: &str) -> bool
+pub fn is_named<T: Named>(items: &[T], name: &str) -> bool
     ensures { result ≡ is_among T.text name.now items.now }
 {
     items.iter().any(|item| item.text() == name)
 }
 
 /// How many stand before the first of this name, or how many there are where none has it.
-pub(crate) fn number_of<T: Named>(items: &[T], name: &str) -> usize
+pub fn number_of<T: Named>(items: &[T], name: &str) -> usize
     ensures number { result ≡ number_of T.text items.now name.now }
     ensures within { result ≤ length items.now }
     ensures declared { (result < length items.now) ↔ (is_among T.text name.now items.now ≡ true) }
 {
     place_of(items, name).unwrap_or(items.len())
+}
+
+/// The first of this name.
+pub fn first_named<'a, T: Named>(items: &'a [T], name: &str) -> Option<&'a T>
+    ensures { option_copied result ≡ find (λ x. bytes_eq (T.text x) name.now) items.now }
+{
+    items.iter().find(|item| item.text() == name)
 }
 
 /// Where the first of this name stands.
@@ -104,7 +132,7 @@ fn place_of<T: Named>(items: &[T], name: &str) -> Option<usize>
 }
 
 /// The same name again, at the same place.
-pub(crate) fn copied(alloc: Global, name: &Name) -> Result<Name, NoMemory>
+pub fn copied(alloc: Global, name: &Name) -> Result<Name, NoMemory>
     ensures { IfOk result (λ n. n ≡ name.now) }
 {
     Ok(Name {

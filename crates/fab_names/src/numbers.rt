@@ -24,7 +24,7 @@ impl Declared<'_> {
     }
 
     /// The number of a worker or a store, among them.
-    fn node_number(&self, name: &Name) -> u16
+    pub fn node_number(&self, name: &Name) -> u16
         requires { KeepsLimits self.now }
         ensures { result ≡ node_number self.now name.now }
     {
@@ -32,7 +32,7 @@ impl Declared<'_> {
     }
 
     /// The use of a label.
-    pub(crate) fn label_use(&self, name: &Name) -> Use
+    pub fn label_use(&self, name: &Name) -> Use
         requires { KeepsLimits self.now }
         ensures { result ≡ use_of label_name self.now.labels name.now }
     {
@@ -40,7 +40,7 @@ impl Declared<'_> {
     }
 
     /// The type of a field.
-    pub(crate) fn sort(&self, sort: &Sort) -> NumberedSort
+    pub fn sort(&self, sort: &Sort) -> NumberedSort
         requires { KeepsLimits self.now }
         ensures { result ≡ sort_of self.now sort.now }
     {
@@ -129,7 +129,7 @@ impl Declared<'_> {
     }
 
     /// What the fields of a root begin with.
-    pub(crate) fn values(&self, alloc: Global, values: &[Given]) -> Result<Vec<Value>, NoMemory>
+    pub fn values(&self, alloc: Global, values: &[Given]) -> Result<Vec<Value>, NoMemory>
         requires { KeepsLimits self.now }
         ensures { IfOk result (λ v. v.items ≡ map (λ g. value_of self.now g.literal) values.now) }
     {
@@ -163,8 +163,8 @@ impl Declared<'_> {
 }
 
 /// The use of one of these.
-fn use_of<T: Named>(items: &[T], name: &Name) -> Use
-    requires { length items.now ≤ 64 }
+pub fn use_of<T: Named>(items: &[T], name: &Name) -> Use
+    requires { length items.now ≤ 256 }
     ensures { result ≡ use_of T.text items.now name.now }
 {
     Use {

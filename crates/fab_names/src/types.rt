@@ -32,7 +32,10 @@ impl Declared<'_> {
     fn are_known_sorts(&self, fields: &[Field]) -> bool
         ensures { result ≡ list_all (λ f. knows_sort self.now.classes f.sort) fields.now }
     {
-        fields.iter().all(|field| self.is_known_sort(&field.sort))
+        let classes = self.start().classes.as_slice();
+        fields
+            .iter()
+            .all(|field| is_known_sort(classes, &field.sort))
     }
 
     /// Whether this is the name of a label.
@@ -40,15 +43,6 @@ impl Declared<'_> {
         ensures { result ≡ is_among label_name name.now.text self.now.labels }
     {
         is_named(self.start().labels.as_slice(), name.text.as_str())
-    }
-
-    fn is_known_sort(&self, sort: &Sort) -> bool
-        ensures { result ≡ knows_sort self.now.classes sort.now }
-    {
-        match sort {
-            Sort::Int => true,
-            Sort::Class(name) => is_named(self.start().classes.as_slice(), name.text.as_str()),
-        }
     }
 
     /// Whether each root is of a declared class, at a store, with the values of its class's fields.
@@ -102,7 +96,7 @@ impl Declared<'_> {
     }
 
     /// Whether a literal is of a type: a number of int, null of every class, a root of its class.
-    fn fits(&self, sort: &Sort, literal: &Literal) -> bool
+    pub fn fits(&self, sort: &Sort, literal: &Literal) -> bool
         ensures { result ≡ fits self.now.roots sort.now literal.now }
     {
         match (sort, literal) {
@@ -125,8 +119,18 @@ impl Declared<'_> {
     }
 }
 
+/// Whether a type is int or one of these classes.
+pub fn is_known_sort(classes: &[Class], sort: &Sort) -> bool
+    ensures { result ≡ knows_sort classes.now sort.now }
+{
+    match sort {
+        Sort::Int => true,
+        Sort::Class(name) => is_named(classes, name.text.as_str()),
+    }
+}
+
 /// Whether two names are the same, wherever they stand.
-fn are_same(left: &Name, right: &Name) -> bool
+pub fn are_same(left: &Name, right: &Name) -> bool
     ensures { result ≡ bytes_eq left.now.text right.now.text }
 {
     left.text.as_str() == right.text.as_str()
