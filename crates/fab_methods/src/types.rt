@@ -17,10 +17,13 @@ pub(crate) struct Types<'a> {
 
 impl<'a> Model for Types<'a> {
     ghost use Rattle.std.specs.Prelude.{◌≡◌};
+    ghost use Rattle.fab_tree.specs.contracts.start.Start as bundle;
     ghost use Rattle.fab_tree.specs.declared.start.Start.{Start as Bundle};
     ghost use Rattle.fab_tree.specs.declared.start.Sort.TheVariants as sorts;
 
     ghost Value = { Bundle };
+
+    ghost coded = { bundle.the_row.coded };
 
     ghost view = { λ t. t.start.now };
 

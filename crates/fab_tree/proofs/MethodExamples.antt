@@ -33,7 +33,7 @@ account = record { name = named (codes "A"); label = named (codes "L"); access =
 
 -- A bundle with one label `L` and one class `A`, which has a number `n`.
 abbrev bundle : Start
-bundle = record { nodes = []; delegations = []; labels = record { name = named (codes "L"); policies = [] } ∷ []; classes = account ∷ []; roots = [] }
+bundle = record { nodes = []; delegations = []; labels = record { name = named (codes "L"); policies = [] } ∷ []; classes = account ∷ []; methods = []; roots = []; sessions = [] }
 
 -- ---- types
 
