@@ -63,6 +63,7 @@ fn program(alloc: Global) -> Result<Resolved, NoMemory> {
         classes: Seq::new(alloc),
         methods,
         roots: Seq::new(alloc),
+        sessions: Seq::new(alloc),
     })
 }
 

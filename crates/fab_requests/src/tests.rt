@@ -65,6 +65,7 @@ fn program(alloc: Global) -> Result<Arc<Resolved>, NoMemory> {
         classes: Seq::new(alloc),
         methods,
         roots: Seq::new(alloc),
+        sessions: Seq::new(alloc),
     };
     Ok(Arc::new(alloc, resolved)?)
 }

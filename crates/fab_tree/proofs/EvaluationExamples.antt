@@ -1,5 +1,5 @@
 -- Worked examples of resolution and of the text of an evaluation.
-use Rattle.std.proofs.Common.{◌≡◌, ℕ, true, false, List, [], ◌∷◌, refl, codes, pos, negsuc, map, arith}
+use Rattle.std.proofs.Common.{◌≡◌, ℕ, true, false, List, [], ◌∷◌, Some, refl, codes, pos, negsuc, map, arith}
 use Rattle.std.proofs.lemmas.Fmt.{decimal_digit}
 use Rattle.fab_tree.specs.declared.start.Name.{Name}
 use Rattle.fab_tree.specs.declared.start.Role.{Role}
@@ -14,8 +14,13 @@ use Rattle.fab_tree.specs.declared.start.Literal.TheVariants as literals
 use Rattle.fab_tree.specs.declared.start.Given.{Given}
 use Rattle.fab_tree.specs.declared.start.Root.{Root}
 use Rattle.fab_tree.specs.declared.start.Start.{Start}
-use Rattle.fab_tree.specs.Resolution.{resolved}
-use Rattle.fab_tree.specs.Evaluation.{evaluation_text}
+use Rattle.fab_tree.specs.declared.program.Method.{Method}
+use Rattle.fab_tree.specs.declared.resolved.Request.{Request}
+use Rattle.fab_base.specs.declared.object.Stop.TheVariants.{Reads}
+use Rattle.fab_base.specs.declared.object.Value.TheVariants.{Null}
+use Rattle.fab_tree.specs.Meaning.{Ended, Failed, Stopped}
+use Rattle.fab_tree.specs.Numbering.{resolved}
+use Rattle.fab_tree.specs.Evaluation.{evaluation_text, outcomes_text}
 
 abbrev named : List ℕ → Name
 named text = record { text = text; at = 0 }
@@ -52,3 +57,24 @@ by_bytes_of_names = rw (decimal_digit 7 (omega arith), decimal_digit 3 (omega ar
 
 no_object : evaluation_text (resolved (record bundle { roots = [] })) ≡ codes "end\n"
 no_object = refl
+
+-- A request of the worker `w`, which is node 0: its line comes before those of objects. `m` does nothing.
+abbrev idle : Method
+idle = record { name = named (codes "m"); parameters = record { sort = sorts.Int; name = named (codes "n"); label = named (codes "L") } ∷ []; begin = named (codes "L"); fails = false; body = [] }
+
+abbrev asked : Start
+asked = record bundle {
+  roots = root (codes "z") (codes "D") (codes "b") [] ∷ [];
+  methods = idle ∷ [];
+  sessions = record { worker = named (codes "w"); requests = record { method = named (codes "m"); arguments = given (literals.Int (pos 1)) ∷ [] } ∷ record { method = named (codes "m"); arguments = given (literals.Int (pos 2)) ∷ [] } ∷ [] } ∷ [];
+}
+
+requests_first : evaluation_text (resolved asked) ≡ codes "outcome w 1 ended none\noutcome w 2 ended none\nobject b z D\nend\n"
+requests_first = rw (decimal_digit 1 (omega arith), decimal_digit 2 (omega arith)) refl
+
+-- the other endings
+abbrev asks : ℕ → Request
+asks n = record { worker = 0; number = n; method = 0; args = [] }
+
+other_endings : outcomes_text (resolved asked) (asks 7 ∷ asks 8 ∷ asks 9 ∷ []) (Failed ∷ Stopped Reads ∷ Ended (Some Null) ∷ []) ≡ codes "outcome w 7 failed\noutcome w 8 stopped reads\noutcome w 9 ended null\n"
+other_endings = rw (decimal_digit 7 (omega arith), decimal_digit 8 (omega arith), decimal_digit 9 (omega arith)) refl

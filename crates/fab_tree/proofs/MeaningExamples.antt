@@ -52,7 +52,7 @@ abbrev method : List Statement → Method
 method body = record { name = named (codes "m"); parameters = 2; locals = of_class (codes "a") ∷ of_class (codes "b") ∷ of_int (codes "t") ∷ []; begin = at_start 0; fails = false; body = body }
 
 abbrev pub program : List Statement → Resolved
-program body = record { nodes = []; pairs = []; labels = []; classes = []; methods = method body ∷ []; roots = [] }
+program body = record { nodes = []; pairs = []; labels = []; classes = []; methods = method body ∷ []; roots = []; sessions = [] }
 
 abbrev pub request : List Value → Request
 request args = record { worker = 0; number = 1; method = 0; args = args }

@@ -7,6 +7,7 @@ use Rattle.fab_tree.specs.declared.program.Statement.{Statement, fold-Statement}
 use Rattle.fab_tree.specs.declared.program.Statement.TheOpen as s
 use Rattle.fab_tree.specs.declared.program.Method.{Method}
 use Rattle.fab_tree.specs.declared.program.Session.{Session}
+use Rattle.fab_tree.specs.declared.start.Start.{Start}
 use Rattle.fab_tree.specs.Methods.{locals_of}
 
 abbrev pub total : List ℕ → ℕ
@@ -50,12 +51,14 @@ sites_of_block xs = total (map sites_of xs)
 abbrev pub sites_of_methods : List Method → ℕ
 sites_of_methods ms = total (map (λ m. sites_of_block m.body) ms)
 
--- each count of methods is at most its number
-pub record KeepsCounts (ms : List Method) : Type 0 where
-  pub methods : length ms ≤ 256
-  pub locals : All (λ m. length (locals_of m) ≤ 256) ms
-  pub sites : sites_of_methods ms ≤ 65000
+-- the requests of all sessions
+abbrev pub requests_in : List Session → ℕ
+requests_in xs = total (map (λ x. length x.requests) xs)
 
--- so is that of the requests of a session
-pub record KeepsRequestCount (x : Session) : Type 0 where
-  pub requests : length x.requests ≤ 100000
+-- each of these counts is at most its number; the parameters of a method are among its locals
+pub record KeepsCounts (s : Start) : Type 0 where
+  pub methods : length s.methods ≤ 256
+  pub parameters : All (λ m. length m.parameters ≤ 16) s.methods
+  pub locals : All (λ m. length (locals_of m) ≤ 256) s.methods
+  pub sites : sites_of_methods s.methods ≤ 65000
+  pub requests : requests_in s.sessions ≤ 100000

@@ -1,38 +1,50 @@
 -- What is evaluated, and the text of an evaluation.
-use Rattle.std.specs.Prelude.{◌≡◌, ℕ, ◌≤◌, ◌/◌, ◌%◌, ◌==◌, Bool, false, option_map, slice_get, List, [], ◌∷◌, ◌++◌, map, length, count_by, codes, All, Option, Some, None, find}
+use Rattle.std.specs.Prelude.{◌≡◌, ◌≢◌, ℕ, ◌≤◌, ◌/◌, ◌%◌, ◌==◌, Bool, false, option_map, slice_get, List, [], ◌∷◌, ◌++◌, map, length, count_by, codes, All, Option, Some, None, find}
 use Rattle.std.specs.List.{flat_map}
-use Rattle.std.specs.Fmt.{signed_decimal, digit_glyph}
+use Rattle.std.specs.Fmt.{decimal, signed_decimal, digit_glyph}
 use Rattle.fab_base.specs.declared.token.Token.{Token}
 use Rattle.fab_base.specs.declared.object.Oid.{Oid}
 use Rattle.fab_base.specs.declared.object.Object.{Object}
 use Rattle.fab_base.specs.declared.object.Value.{Value}
 use Rattle.fab_base.specs.declared.object.Value.TheVariants.{Int, Null, Ref}
+use Rattle.fab_base.specs.declared.object.Stop.{Stop}
+use Rattle.fab_base.specs.declared.object.Stop.TheVariants.{Fuel, Depth, Reads, Writes}
 use Rattle.fab_base.specs.FieldSpelling.{oid_bytes}
 use Rattle.fab_base.specs.FlatMap.{FlatMap, map_of, is_same}
 use Rattle.fab_base.specs.Tokens.{Lexes}
+use Rattle.fab_tree.specs.declared.start.Literal.TheVariants as literals
 use Rattle.fab_tree.specs.declared.start.Sort.TheVariants as sorts
 use Rattle.fab_tree.specs.declared.start.Start.{Start}
+use Rattle.fab_tree.specs.declared.program.Session.{Session}
+use Rattle.fab_tree.specs.declared.resolved.Request.{Request}
 use Rattle.fab_tree.specs.declared.resolved.Resolved.{Resolved}
 use Rattle.fab_tree.specs.declared.resolved.Root.{Root}
 use Rattle.fab_tree.specs.Syntax.{IsText}
 use Rattle.fab_tree.specs.Depth.{KeepsDepth}
 use Rattle.fab_tree.specs.Limits.{is_worker, is_store, is_hostile, KeepsLimits}
-use Rattle.fab_tree.specs.Names.{KeepsNames}
+use Rattle.fab_tree.specs.Counts.{KeepsCounts}
+use Rattle.fab_tree.specs.Methods.{KeepsRules}
+use Rattle.fab_tree.specs.Meaning.{Ending, Ended, Failed, Stopped, Missing}
+use Rattle.fab_tree.specs.Requests.{Course, in_turn}
 
 -- a line of a text
 abbrev pub line : List ℕ → List ℕ
 line letters = letters ++ 10 ∷ []
 
--- The form that is evaluated so far: one worker and one store, of which neither is hostile, fields that are numbers, no methods and no sessions.
+-- no argument of a session's requests is null
+abbrev pub HasNoNull : Session → Type 0
+HasNoNull x = All (λ r. All (λ g. g.literal ≢ literals.Null) r.arguments) x.requests
+
+-- The form that is evaluated so far: one worker and one store, of which neither is hostile, fields that are numbers, and at most one session, whose requests give no null.
 pub record IsEvaluated (s : Start) : Type 0 where
   pub one_worker : count_by (λ x. is_worker x.role) s.nodes ≡ 1
   pub one_store : count_by (λ x. is_store x.role) s.nodes ≡ 1
   pub none_hostile : count_by (λ x. is_hostile x.role) s.nodes ≡ 0
   pub numbers : All (λ c. All (λ f. f.sort ≡ sorts.Int) c.fields) s.classes
-  pub no_methods : s.methods ≡ []
-  pub no_sessions : s.sessions ≡ []
+  pub few_sessions : length s.sessions ≤ 1
+  pub no_null : All HasNoNull s.sessions
 
--- The text spells this bundle: it has at most 1,000,000 bytes, its tokens stand for the bundle, and the bundle is of the form, within the limits and true to the rules of names.
+-- The text spells this bundle: it has at most 1,000,000 bytes, its tokens stand for the bundle, and the bundle is of the form, within the limits and true to the rules of names and types.
 pub record Spells (text : List ℕ) (s : Start) : Type 0 where
   pub short : length text ≤ 1000000
   pub tokens : List Token
@@ -40,7 +52,8 @@ pub record Spells (text : List ℕ) (s : Start) : Type 0 where
   pub parsed : IsText tokens s
   pub depth : KeepsDepth tokens
   pub limits : KeepsLimits s
-  pub names : KeepsNames s
+  pub counts : KeepsCounts s
+  pub rules : KeepsRules s
   pub form : IsEvaluated s
 
 -- the objects of roots, in the order of the text
@@ -50,6 +63,14 @@ rows_of roots = map (λ x. (x.oid, record { class = x.oid.class; fields = x.valu
 -- the objects that there are from the start
 abbrev pub map_at_start : Resolved → FlatMap
 map_at_start r = map_of (rows_of r.roots)
+
+-- the requests of all sessions, in the order of the text
+abbrev pub requests_of : Resolved → List Request
+requests_of r = flat_map (λ x. x.requests) r.sessions
+
+-- what these requests do one after the other, over the objects that there are from the start
+abbrev pub course_of : Resolved → Course
+course_of r = in_turn r (map_at_start r) (requests_of r)
 
 -- ---- names and values as they are printed
 
@@ -91,6 +112,35 @@ object_line r row = line (codes "object" ++ spaced (node_text r row.0.store ∷ 
 abbrev pub objects_text : Resolved → FlatMap → List ℕ
 objects_text r m = flat_map (object_line r) m
 
--- the text of an evaluation: the objects in the order of their names, and that it ended
+-- ---- how requests ended
+
+abbrev pub stop_text : Stop → List ℕ
+stop_text Fuel = codes "fuel"
+stop_text Depth = codes "depth"
+stop_text Reads = codes "reads"
+stop_text Writes = codes "writes"
+
+abbrev pub result_text : Resolved → Option Value → List ℕ
+result_text r None = codes "none"
+result_text r (Some v) = value_text r v
+
+-- `ended` and the result, `failed`, `stopped` and the limit, or `missing` and the object that isn't there
+abbrev pub ending_words : Resolved → Ending → List (List ℕ)
+ending_words r (Ended v) = codes "ended" ∷ result_text r v ∷ []
+ending_words r Failed = codes "failed" ∷ []
+ending_words r (Stopped stop) = codes "stopped" ∷ stop_text stop ∷ []
+ending_words r (Missing site o) = codes "missing" ∷ name_text r o ∷ []
+
+-- `outcome`, the worker, the request's number, and how it ended
+abbrev pub outcome_line : Resolved → Request → Ending → List ℕ
+outcome_line r request ending = line (codes "outcome" ++ spaced (node_text r request.worker ∷ decimal request.number ∷ ending_words r ending))
+
+-- a line for each of these requests, with its ending
+abbrev pub outcomes_text : Resolved → List Request → List Ending → List ℕ
+outcomes_text r [] endings = []
+outcomes_text r (request ∷ requests) [] = []
+outcomes_text r (request ∷ requests) (ending ∷ endings) = outcome_line r request ending ++ outcomes_text r requests endings
+
+-- the text of an evaluation: how each request ended, the objects behind the last in the order of their names, and that it ended
 abbrev pub evaluation_text : Resolved → List ℕ
-evaluation_text r = objects_text r (map_at_start r) ++ line (codes "end")
+evaluation_text r = let c = course_of r in outcomes_text r (requests_of r) c.endings ++ objects_text r c.map ++ line (codes "end")

@@ -25,7 +25,7 @@ use Rattle.fab_tree.specs.declared.program.Parameter.{Parameter}
 use Rattle.fab_tree.specs.declared.program.Method.{Method}
 use Rattle.fab_tree.specs.declared.program.RequestText.{RequestText}
 use Rattle.fab_tree.specs.declared.program.Session.{Session}
-use Rattle.fab_tree.specs.Names.{Declares, IsKnownSort, Distinct, Fits, label_name, class_name, field_name, node_name}
+use Rattle.fab_tree.specs.Names.{Declares, IsKnownSort, Distinct, Fits, KeepsNames, label_name, class_name, field_name, node_name}
 
 -- ---- types
 
@@ -148,3 +148,16 @@ pub record IsKnownRequest (s : Start) (methods : List Method) (r : RequestText) 
 pub record IsKnownSession (s : Start) (methods : List Method) (x : Session) : Type 0 where
   pub worker : (n : Node) × Contains s.nodes n × (node_name n ≡ x.worker.text) × (n.role ≡ roles.Worker false)
   pub requests : All (λ r. IsKnownRequest s methods r) x.requests
+
+abbrev pub session_name : Session → List ℕ
+session_name x = x.worker.text
+
+-- ---- the whole
+
+-- The bundle keeps the rules of names and types: in what it declares, in its methods and in its sessions. No two methods have one name, and no worker has two sessions.
+pub record KeepsRules (s : Start) : Type 0 where
+  pub declared : KeepsNames s
+  pub methods : Distinct method_name s.methods
+  pub in_methods : All (λ m. IsKnownMethod s m) s.methods
+  pub sessions : Distinct session_name s.sessions
+  pub in_sessions : All (λ x. IsKnownSession s s.methods x) s.sessions

@@ -1,4 +1,4 @@
--- Methods with numbers for names. Heap reads and field writes are sites, numbered from 0 in the order of the text over the whole program.
+-- Methods and sessions with numbers for names, and with them the whole bundle. Heap reads and field writes are sites, numbered from 0 in the order of the text over the whole program.
 use Rattle.std.specs.Prelude.{ℕ, suc, List, [], ◌∷◌, map, length, find, Option, Some, None}
 use Rattle.std.specs.Str.{bytes_eq}
 use Rattle.fab_tree.specs.declared.start.Name.{Name}
@@ -18,13 +18,15 @@ use Rattle.fab_tree.specs.declared.program.Session.{Session}
 use Rattle.fab_tree.specs.declared.resolved.Local.{Local as NumberedLocal}
 use Rattle.fab_tree.specs.declared.resolved.Method.{Method as NumberedMethod}
 use Rattle.fab_tree.specs.declared.resolved.Request.{Request}
+use Rattle.fab_tree.specs.declared.resolved.Session.{Session as NumberedSession}
+use Rattle.fab_tree.specs.declared.resolved.Resolved.{Resolved}
 use Rattle.fab_tree.specs.declared.resolved.Expression.{Expression as NumberedExpression}
 use Rattle.fab_tree.specs.declared.resolved.Expression.TheVariants as ne
 use Rattle.fab_tree.specs.declared.resolved.Statement.{Statement as NumberedStatement}
 use Rattle.fab_tree.specs.declared.resolved.Statement.TheVariants as ns
 use Rattle.fab_tree.specs.Names.{label_name, class_name, field_name}
 use Rattle.fab_tree.specs.Methods.{local_name, locals_of, method_name}
-use Rattle.fab_tree.specs.Resolution.{number_of, use_of, node_number, sort_of, value_of}
+use Rattle.fab_tree.specs.Resolution.{number_of, use_of, node_number, sort_of, value_of, declarations}
 
 -- ---- fields
 
@@ -109,5 +111,11 @@ abbrev pub requests_from : Start → List Method → ℕ → ℕ → List Reques
 requests_from start methods worker n [] = []
 requests_from start methods worker n (r ∷ rs) = record { worker = worker; number = n; method = number_of method_name methods r.method.text; args = map (λ g. value_of start g.literal) r.arguments } ∷ requests_from start methods worker (suc n) rs
 
-abbrev pub requests_of : Start → List Method → Session → List Request
-requests_of start methods x = requests_from start methods (node_number start x.worker) 1 x.requests
+abbrev pub session_of : Start → Session → NumberedSession
+session_of start x = let n = node_number start x.worker in record { worker = record { number = n; at = x.worker.at }; requests = requests_from start start.methods n 1 x.requests }
+
+-- ---- the whole
+
+-- the bundle with numbers for names
+abbrev pub resolved : Start → Resolved
+resolved start = record (declarations start) { methods = methods_of start start.methods; sessions = map (session_of start) start.sessions }

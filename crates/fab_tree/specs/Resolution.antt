@@ -1,4 +1,4 @@
--- Which number each name has, and the bundle with these numbers.
+-- Which number each name has, and what a bundle declares with these numbers.
 use Rattle.std.specs.Prelude.{ℕ, suc, Bool, true, false, not, List, [], ◌∷◌, map, filter, Option, Some, None, if◌then◌else◌, slice_get}
 use Rattle.std.specs.Str.{bytes_eq}
 use Rattle.fab_base.specs.declared.object.Oid.{Oid}
@@ -90,13 +90,14 @@ abbrev pub roots_from : Start → ℕ → List Root → List NumberedRoot
 roots_from s n [] = []
 roots_from s n (x ∷ xs) = record { name = x.name; oid = oid_of s n x; values = map (λ g. value_of s g.literal) x.values } ∷ roots_from s (suc n) xs
 
--- the bundle with numbers for names
-abbrev pub resolved : Start → Resolved
-resolved s = record {
+-- what the bundle declares, with numbers for names, before its methods and sessions
+abbrev pub declarations : Start → Resolved
+declarations s = record {
   nodes = principals_from 0 s.nodes;
   pairs = map (pair_of s) s.delegations;
   labels = map (label_of s) s.labels;
   classes = map (class_of s) s.classes;
   methods = [];
   roots = roots_from s 0 s.roots;
+  sessions = [];
 }

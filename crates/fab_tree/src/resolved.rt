@@ -131,6 +131,23 @@ pub struct Method {
     pub body: Seq<Statement>,
 }
 
+/// A request: its worker's number among the nodes, its own number in the worker's session, from 1,
+/// and the method with what it is given.
+#[derive(Debug, Drop)]
+pub struct Request {
+    pub worker: u16,
+    pub number: u32,
+    pub method: u16,
+    pub args: Seq<Value>,
+}
+
+/// What is asked of a worker, in this order. Its number is that among the nodes.
+#[derive(Debug, Drop)]
+pub struct Session {
+    pub worker: Use,
+    pub requests: Seq<Request>,
+}
+
 /// A bundle.
 #[derive(Debug, Drop)]
 pub struct Resolved {
@@ -140,14 +157,5 @@ pub struct Resolved {
     pub classes: Seq<Class>,
     pub methods: Seq<Method>,
     pub roots: Seq<Root>,
-}
-
-/// A request: its worker's number among the nodes, its own number in the worker's session, from 1,
-/// and the method with what it is given.
-#[derive(Debug, Drop)]
-pub struct Request {
-    pub worker: u16,
-    pub number: u32,
-    pub method: u16,
-    pub args: Seq<Value>,
+    pub sessions: Seq<Session>,
 }
