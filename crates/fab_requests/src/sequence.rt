@@ -20,21 +20,35 @@ use std::sync::Arc;
 /// is 1.
 pub fn run(
     alloc: Global,
-    program: Arc<Resolved>,
+    program: &Arc<Resolved>,
     objects: ObjectMap,
-    requests: Seq<Request>,
+    requests: &[Request],
 ) -> Result<Ran, NoMemory>
     requires old { AreOld objects }
-    ensures in_turn { IfOk result (λ r. course_of r ≡ in_turn program.value objects requests) }
+    ensures in_turn { IfOk result (λ r. course_of r ≡ in_turn program.now.value objects requests.now) }
+    ensures stay_old { IfOk result (λ r. AreOld r.map) }
 {
     let mut map = objects;
     let mut endings = Seq::new(alloc);
-    'requests: for request in requests.into_vec() {
-        let Single { ending, writes } = run_one(alloc, &program, &map, request)?;
+    'requests: for request in requests {
+        let request = copy_of(alloc, request)?;
+        let Single { ending, writes } = run_one(alloc, program, &map, request)?;
         put_writes(&mut map, writes)?;
         endings.push(ending)?;
     }
     Ok(Ran { endings, map })
+}
+
+/// The same request again.
+fn copy_of(alloc: Global, request: &Request) -> Result<Request, NoMemory>
+    ensures { IfOk result (λ r. r ≡ request.now) }
+{
+    Ok(Request {
+        worker: request.worker,
+        number: request.number,
+        method: request.method,
+        args: Seq::from_slice(alloc, request.args.as_slice())?,
+    })
 }
 
 /// Puts what a request wrote into the map.

@@ -105,7 +105,12 @@ fn the_second_sees_the_first(rt: HostRuntime) -> Result<(), Fail> {
     let mut requests = Seq::new(alloc);
     requests.push(request(alloc, 1, Value::Ref(ACCOUNT))?)?;
     requests.push(request(alloc, 2, Value::Ref(ACCOUNT))?)?;
-    let ran = run(alloc, program(alloc)?, account(alloc, 37)?, requests)?;
+    let ran = run(
+        alloc,
+        &program(alloc)?,
+        account(alloc, 37)?,
+        requests.as_slice(),
+    )?;
     assert_eq!(rt; ran.endings.len(), 2);
     assert!(rt; holds(&ran.map, 47));
     Ok(())
@@ -122,7 +127,12 @@ fn the_others_go_on(rt: HostRuntime) -> Result<(), Fail> {
     requests.push(request(alloc, 1, Value::Null)?)?;
     requests.push(request(alloc, 2, Value::Ref(other))?)?;
     requests.push(request(alloc, 3, Value::Ref(ACCOUNT))?)?;
-    let ran = run(alloc, program(alloc)?, account(alloc, 37)?, requests)?;
+    let ran = run(
+        alloc,
+        &program(alloc)?,
+        account(alloc, 37)?,
+        requests.as_slice(),
+    )?;
     let expected = [
         Ending::Failed,
         Ending::Missing {
