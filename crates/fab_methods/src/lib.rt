@@ -1,4 +1,4 @@
-//! The rules of names and types in methods and sessions, and the numbers of their names.
+//! The rules of names and types in methods and sessions.
 #![tactic(auto)]
 
 mod expressions;
@@ -9,5 +9,6 @@ mod sessions;
 mod statements;
 mod types;
 
+pub use locals::{Declaration, locals_of};
 pub use methods::keeps_method;
 pub use sessions::keeps_session;

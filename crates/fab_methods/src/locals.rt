@@ -10,10 +10,10 @@ use std::marker::Model;
 
 /// A local as it is declared, as a parameter or by a statement. Contracts see it as a parameter.
 #[derive(Drop)]
-pub(crate) struct Declaration<'a> {
-    pub(crate) sort: &'a Sort,
-    pub(crate) name: &'a Name,
-    pub(crate) label: &'a Name,
+pub struct Declaration<'a> {
+    pub sort: &'a Sort,
+    pub name: &'a Name,
+    pub label: &'a Name,
 }
 
 impl<'a> Model for Declaration<'a> {
@@ -48,7 +48,7 @@ impl<'a> Declaration<'a> {
 }
 
 /// The locals of a method: its parameters, and those that its body declares.
-pub(crate) fn locals_of<'a>(
+pub fn locals_of<'a>(
     alloc: Global,
     method: &'a Method,
 ) -> Result<Vec<Declaration<'a>>, NoMemory>

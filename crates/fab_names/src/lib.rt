@@ -12,6 +12,4 @@ mod types;
 pub use declared::Declared;
 pub use named::{Named, are_distinct, copied, first_named, is_named, number_of};
 pub use numbers::use_of;
-pub use resolution::resolve;
-pub use rules::keeps_names;
 pub use types::{are_same, is_known_sort};

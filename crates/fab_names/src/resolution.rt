@@ -1,8 +1,7 @@
-//! A bundle with numbers for names.
-ghost use Rattle.std.specs.Prelude.{◌≡◌, ◌≤◌, length, count_by, IfOk, MatchOption};
+//! What a bundle declares, with numbers for names.
+ghost use Rattle.std.specs.Prelude.{◌≡◌, ◌≤◌, length, count_by, IfOk};
 ghost use Rattle.fab_tree.specs.Limits.{KeepsLimits, is_node};
-ghost use Rattle.fab_tree.specs.Names.{KeepsNames};
-ghost use Rattle.fab_tree.specs.Resolution.{principals_from, roots_from, resolved};
+ghost use Rattle.fab_tree.specs.Resolution.{principals_from, roots_from, declarations};
 ghost use Rattle.fab_names.specs.Numbered.{principal_of, root_of};
 
 use crate::declared::Declared;
@@ -11,29 +10,18 @@ use crate::numbered::each_numbered;
 use crate::numbers::is_node;
 use fab_base::{NoMemory, Seq};
 use fab_tree::resolved::{Principal, Resolved, Root as NumberedRoot};
-use fab_tree::{Node, Root, Start};
+use fab_tree::{Node, Root};
 use std::alloc::Global;
 
-/// The bundle with numbers for names, or `None` where it doesn't keep the rules of names. It asks
-/// for a bundle within the limits, whose numbers fit their types.
-///
-/// A root is found by its name in a table, and anything else by a scan, so within the limits the time
-/// grows with the length of the bundle.
-pub fn resolve(alloc: Global, start: &Start) -> Result<Option<Resolved>, NoMemory>
-    requires { KeepsLimits start.now }
-    ensures { IfOk result (λ o. MatchOption o (¬ KeepsNames start.now) (λ r. KeepsNames start.now × (r ≡ resolved start.now))) }
-{
-    match Declared::kept(alloc, start)? {
-        Some(declared) => Ok(Some(declared.resolved(alloc)?)),
-        None => Ok(None),
-    }
-}
-
 impl Declared<'_> {
-    /// The bundle with numbers for names.
-    fn resolved(&self, alloc: Global) -> Result<Resolved, NoMemory>
+    /// What the bundle declares, with numbers for names, and no methods or sessions yet. It asks for a
+    /// bundle within the limits, whose numbers fit their types.
+    ///
+    /// A root is found by its name in a table, and anything else by a scan, so within the limits the
+    /// time grows with the length of the bundle.
+    pub fn declarations(&self, alloc: Global) -> Result<Resolved, NoMemory>
         requires { KeepsLimits self.now }
-        ensures { IfOk result (λ r. r ≡ resolved self.now) }
+        ensures { IfOk result (λ r. r ≡ declarations self.now) }
     {
         let start = self.start();
         Ok(Resolved {
@@ -43,6 +31,7 @@ impl Declared<'_> {
             classes: each_numbered(alloc, self, start.classes.as_slice())?,
             methods: Seq::new(alloc),
             roots: self.roots(alloc, start.roots.as_slice())?,
+            sessions: Seq::new(alloc),
         })
     }
 

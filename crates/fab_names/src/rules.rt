@@ -1,5 +1,5 @@
 //! The rules of names.
-ghost use Rattle.std.specs.Prelude.{◌≡◌, ◌↔◌, ◌&&◌, IfOk, IsTrue, MatchOption};
+ghost use Rattle.std.specs.Prelude.{◌≡◌, ◌&&◌, IfOk, MatchOption};
 ghost use Rattle.std.specs.List.{list_all};
 ghost use Rattle.fab_tree.specs.Names.{KeepsNames, node_name};
 ghost use Rattle.fab_names.specs.Known.{is_among, knows, knows_policy, knows_label, declares_once, knows_all};
@@ -10,19 +10,12 @@ use fab_base::NoMemory;
 use fab_tree::{Delegation, LabelText, Name, PolicyText, Start};
 use std::alloc::Global;
 
-/// Whether the bundle keeps the rules of names.
-///
-/// The names of roots stand in a table. Those of principals, labels, classes and a class's fields
-/// are compared each with each, so a caller tests first that they are as few as the limits allow.
-pub fn keeps_names(alloc: Global, start: &Start) -> Result<bool, NoMemory>
-    ensures { IfOk result (λ b. IsTrue b ↔ KeepsNames start.now) }
-{
-    Ok(Declared::kept(alloc, start)?.is_some())
-}
-
 impl<'a> Declared<'a> {
     /// What a bundle declares, if it keeps the rules of names.
-    pub(crate) fn kept(alloc: Global, start: &'a Start) -> Result<Option<Declared<'a>>, NoMemory>
+    ///
+    /// The names of roots stand in a table. Those of principals, labels, classes and a class's fields
+    /// are compared each with each, so a caller tests first that they are as few as the limits allow.
+    pub fn kept(alloc: Global, start: &'a Start) -> Result<Option<Declared<'a>>, NoMemory>
         ensures { IfOk result (λ o. MatchOption o (¬ KeepsNames start.now) (λ d. KeepsNames start.now × (d ≡ start.now))) }
     {
         let Some(declared) = Declared::make(alloc, start)? else {
