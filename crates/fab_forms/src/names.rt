@@ -96,7 +96,7 @@ fn root_of(roots: &[Root], oid: Oid) -> Option<&Root>
 }
 
 /// An object's name: its root's, else `#` and the digits of its own.
-pub(crate) fn put_name(out: &mut Seq<u8>, start: &Resolved, oid: Oid) -> Result<(), NoMemory>
+pub fn put_name(out: &mut Seq<u8>, start: &Resolved, oid: Oid) -> Result<(), NoMemory>
     requires { AreNumbered start.now.roots }
     ensures { OnOk result (out.new ≡ out.old ++ name_text start.now oid) }
 {
@@ -127,8 +127,8 @@ fn node_of(nodes: &[Principal], number: u16) -> Option<&Principal>
     nodes.iter().find(|x| is_node(x, number))
 }
 
-/// The name of the worker or store of this number.
-pub(crate) fn node_name(start: &Resolved, number: u16) -> &str
+/// The name of the worker or store of this number, or nothing where there is none.
+pub fn node_name(start: &Resolved, number: u16) -> &str
     ensures { result.now ≡ node_text start.now number }
 {
     match node_of(start.nodes.as_slice(), number) {

@@ -10,7 +10,7 @@ use fab_tree::resolved::Resolved;
 use std::alloc::Global;
 
 /// A number, `null`, or the name of an object.
-fn put_value(
+pub fn put_value(
     alloc: Global,
     out: &mut Seq<u8>,
     start: &Resolved,
@@ -30,7 +30,7 @@ fn put_value(
 }
 
 /// A word behind a space.
-fn put_word(out: &mut Seq<u8>, word: &str) -> Result<(), NoMemory>
+pub fn put_word(out: &mut Seq<u8>, word: &str) -> Result<(), NoMemory>
     ensures { OnOk result (out.new ≡ out.old ++ 32 ∷ word.now) }
 {
     out.push(b' ')?;
@@ -75,8 +75,7 @@ fn put_object(
     out.push(b'\n')
 }
 
-/// A line for each object: `object`, its store, its name, its class and its values. Where memory
-/// runs out, the text may have lost or gained something, and isn't to be used.
+/// A line for each object: `object`, its store, its name, its class and its values.
 pub fn put_objects(
     alloc: Global,
     out: &mut Seq<u8>,

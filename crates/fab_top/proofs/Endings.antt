@@ -3,7 +3,7 @@ use Rattle.std.proofs.Common.{◌≡◌, ◌≢◌, ◌⊎◌, inl, inr, ℕ, �
 use Rattle.std.specs.Io.KnownBytes.{Appends, IsAtEnd, Consumes}
 use Rattle.std.specs.declared.alloc.Global.{Global}
 use Rattle.fab_tree.specs.declared.start.Start.{Start}
-use Rattle.fab_tree.specs.Resolution.{resolved}
+use Rattle.fab_tree.specs.Numbering.{resolved}
 use Rattle.fab_tree.specs.Evaluation.{Spells, evaluation_text, line}
 use Rattle.fab_top.specs.Reply.{AskEvaluation, SpellsSome, SpellsNone, Replies, usage, evaluated, not_built, RepliesWith, Ends, Exactly, WritesEvaluation}
 use Rattle.fab_top.specs.declared.status.Status.{Status}

@@ -4,7 +4,7 @@ use Rattle.std.specs.Io.KnownBytes.{Appends, Keeps}
 use Rattle.std.specs.declared.alloc.Global.{Global}
 use Rattle.fab_tree.specs.declared.start.Start.{Start}
 use Rattle.fab_tree.specs.declared.resolved.Resolved.{Resolved}
-use Rattle.fab_tree.specs.Resolution.{resolved}
+use Rattle.fab_tree.specs.Numbering.{resolved}
 use Rattle.fab_tree.specs.Evaluation.{Spells, evaluation_text, line}
 use Rattle.fab_top.specs.Reading.{ReadsText, WritesFront}
 use Rattle.fab_top.specs.declared.status.Status.{Status}

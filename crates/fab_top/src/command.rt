@@ -8,11 +8,12 @@ ghost use Rattle.fab_top.specs.Reading.{TakesAtMost};
 ghost use Rattle.fab_top.specs.declared.reading.ReadError.TheVariants.{Fault};
 ghost use Rattle.fab_top.specs.declared.status.Status.TheVariants.{Ok, Usage, ReadFault, WriteFault, Memory, NotBuilt};
 
-use crate::evaluation::{spelled, text_of};
 use crate::reading::{ReadError, read_all};
+use crate::spelling::spelled;
 use crate::status::Status;
 use crate::writing::write_all;
 use fab_base::{Seq, Sink, SinkError, Source};
+use fab_evaluation::evaluation;
 use std::alloc::Global;
 
 /// Whether the words are the one word `eval`.
@@ -43,7 +44,7 @@ fn reply<S: Source>(
     }
     let text = read_all(alloc, source)?;
     match spelled(alloc, &text)? {
-        Some(start) => Ok((Status::Ok, text_of(alloc, &start)?)),
+        Some(start) => Ok((Status::Ok, evaluation(alloc, start)?)),
         None => Ok((Status::NotBuilt, Seq::from_slice(alloc, b"not built\n")?)),
     }
 }

@@ -4,8 +4,8 @@
 mod command;
 #[cfg(test)]
 mod declared_tests;
-mod evaluation;
 mod reading;
+mod spelling;
 mod status;
 #[cfg(test)]
 mod tests;

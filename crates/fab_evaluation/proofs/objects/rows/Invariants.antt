@@ -1,6 +1,6 @@
 use Rattle.std.proofs.Common.{◌≡◌, ◌++◌, length}
 use Rattle.fab_tree.specs.Evaluation.{rows_of}
-use Rattle.fab_top.proofs.evaluation.rows.Given as goal
+use Rattle.fab_evaluation.proofs.objects.rows.Given as goal
 
 abbrev pub invariant-roots : goal.invariant-roots
 invariant-roots l = l.rows.items ++ rows_of l.rest ≡ rows_of l.roots

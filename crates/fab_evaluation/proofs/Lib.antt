@@ -1,0 +1,2 @@
+mod InARow
+pub mod RootObjects

@@ -1,0 +1,9 @@
+//! What a bundle comes to: its requests one after the other, over the objects that are there from the
+//! start.
+#![tactic(auto)]
+
+mod objects;
+mod outcomes;
+mod text;
+
+pub use text::evaluation;
