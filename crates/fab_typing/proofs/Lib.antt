@@ -1,0 +1,2 @@
+pub mod KnownLocals
+pub mod KnownBlocks
