@@ -1,0 +1,4 @@
+pub mod KnownLocals
+pub mod KnownBlocks
+pub mod StartObjects
+pub mod KnownRequests
