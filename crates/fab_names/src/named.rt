@@ -6,7 +6,7 @@ ghost use Rattle.fab_tree.specs.Resolution.{number_of};
 ghost use Rattle.fab_names.specs.Known.{is_among, is_distinct};
 
 use fab_base::NoMemory;
-use fab_tree::{Class, Field, LabelText, Method, Name, Node, Parameter};
+use fab_tree::{Class, Field, LabelText, Method, Name, Node, Parameter, Session};
 use std::alloc::Global;
 
 /// What is declared with a name.
@@ -77,6 +77,16 @@ impl Named for Method {
 
     fn text(&self) -> &str {
         self.name.text.as_str()
+    }
+}
+
+impl Named for Session {
+    ghost use Rattle.fab_tree.specs.Methods.{session_name};
+
+    ghost text = { session_name };
+
+    fn text(&self) -> &str {
+        self.worker.text.as_str()
     }
 }
 
