@@ -1,3 +1,4 @@
+pub mod CountRules
 pub mod RootRules
 pub mod SessionRules
 pub mod TextRules

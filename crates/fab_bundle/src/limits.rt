@@ -1,10 +1,11 @@
 //! The counts of a bundle, and the form that is evaluated.
-ghost use Rattle.std.specs.Prelude.{◌≡◌, ◌≤◌, ◌↔◌, IsTrue, All, count_by, length};
+ghost use Rattle.std.specs.Prelude.{◌≡◌, ◌≢◌, ◌≤◌, ◌↔◌, IsTrue, All, count_by, length};
 ghost use Rattle.fab_tree.specs.Limits.{KeepsLimits, is_node, is_worker, is_store, is_hostile};
-ghost use Rattle.fab_tree.specs.Evaluation.{IsEvaluated};
+ghost use Rattle.fab_tree.specs.Evaluation.{IsEvaluated, HasNoNull};
+ghost use Rattle.fab_tree.specs.declared.start.Literal.TheVariants as literals;
 ghost use Rattle.fab_tree.specs.declared.start.Sort.TheVariants as sorts;
 
-use fab_tree::{Class, Field, Node, Role, Sort, Start};
+use fab_tree::{Class, Field, Given, Literal, Node, RequestText, Role, Session, Sort, Start};
 
 /// The most principals, workers and stores included.
 const PRINCIPALS: usize = 64;
@@ -23,6 +24,9 @@ const FIELDS: usize = 16;
 
 /// The most roots.
 const ROOTS: usize = 100_000;
+
+/// The most sessions of a bundle that is evaluated.
+const SESSIONS: usize = 1;
 
 /// Whether each count of the bundle is at most its limit.
 pub fn keeps_limits(start: &Start) -> bool
@@ -62,8 +66,8 @@ pub fn is_evaluated(start: &Start) -> bool
         && stores(nodes) == 1
         && hostile_ones(nodes) == 0
         && have_numbers(start.classes.as_slice())
-        && start.methods.is_empty()
-        && start.sessions.is_empty()
+        && start.sessions.len() <= SESSIONS
+        && give_no_null(start.sessions.as_slice())
 }
 
 /// Whether the fields of each class are numbers.
@@ -85,6 +89,35 @@ fn is_number(sort: &Sort) -> bool
     ensures { IsTrue result ↔ (sort.now ≡ sorts.Int) }
 {
     matches!(sort, Sort::Int)
+}
+
+/// Whether no argument of the sessions' requests is null.
+fn give_no_null(sessions: &[Session]) -> bool
+    ensures { IsTrue result ↔ All HasNoNull sessions.now }
+{
+    sessions
+        .iter()
+        .all(|session| ask_without_null(session.requests.as_slice()))
+}
+
+fn ask_without_null(requests: &[RequestText]) -> bool
+    ensures { IsTrue result ↔ All (λ r. All (λ g. g.literal ≢ literals.Null) r.arguments) requests.now }
+{
+    requests
+        .iter()
+        .all(|request| have_no_null(request.arguments.as_slice()))
+}
+
+fn have_no_null(arguments: &[Given]) -> bool
+    ensures { IsTrue result ↔ All (λ g. g.literal ≢ literals.Null) arguments.now }
+{
+    arguments.iter().all(|given| is_not_null(&given.literal))
+}
+
+fn is_not_null(literal: &Literal) -> bool
+    ensures { IsTrue result ↔ (literal.now ≢ literals.Null) }
+{
+    !matches!(literal, Literal::Null)
 }
 
 fn workers(nodes: &[Node]) -> usize
