@@ -1,4 +1,5 @@
-pub mod KnownLocals
 pub mod KnownBlocks
-pub mod StartObjects
+pub mod KnownLocals
 pub mod KnownRequests
+pub mod ShortTexts
+pub mod StartObjects

@@ -1,7 +1,7 @@
 //! Laws of bundles that keep the rules of names and types.
-ghost use Rattle.std.specs.Prelude.{◌≡◌, ℕ, All, None, length, map, replicate};
+ghost use Rattle.std.specs.Prelude.{◌≡◌, ℕ, All, List, None, length, map, replicate};
 ghost use Rattle.fab_tree.specs.Counts.{KeepsCounts};
-ghost use Rattle.fab_tree.specs.Evaluation.{IsEvaluated, course_of, map_at_start, requests_of};
+ghost use Rattle.fab_tree.specs.Evaluation.{IsEvaluated, Spells, course_of, map_at_start, requests_of};
 ghost use Rattle.fab_tree.specs.Limits.{KeepsLimits};
 ghost use Rattle.fab_tree.specs.Meaning.{Ended};
 ghost use Rattle.fab_tree.specs.Methods.{IsKnownMethod, KeepsRules};
@@ -30,4 +30,15 @@ pub fn known_requests_are_typed()
 /// So each of them ends: none fails, comes to a limit or misses an object.
 pub fn known_requests_all_end()
     ensures { (s : Start) → KeepsLimits s → KeepsCounts s → KeepsRules s → IsEvaluated s → AreShort s → (course_of (resolved s)).endings ≡ replicate (length (requests_of (resolved s))) (Ended None) }
+{}
+
+/// No body of a bundle that a text spells is too long: a statement has more than one byte of the
+/// text, which has at most 1,000,000.
+pub fn spelled_bodies_are_short()
+    ensures { (text : List ℕ) (s : Start) → Spells text s → AreShort s }
+{}
+
+/// So each request of a bundle that a text spells ends.
+pub fn spelled_requests_all_end()
+    ensures { (text : List ℕ) (s : Start) → Spells text s → (course_of (resolved s)).endings ≡ replicate (length (requests_of (resolved s))) (Ended None) }
 {}

@@ -4,4 +4,7 @@
 
 mod laws;
 
-pub use laws::{known_methods_are_typed, known_requests_all_end, known_requests_are_typed};
+pub use laws::{
+    known_methods_are_typed, known_requests_all_end, known_requests_are_typed,
+    spelled_bodies_are_short, spelled_requests_all_end,
+};
