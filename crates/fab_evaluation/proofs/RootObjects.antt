@@ -1,5 +1,5 @@
 -- The objects of roots have names of their own, and no request made them.
-use Rattle.std.proofs.Common.{◌≡◌, ◌+◌, ◌<◌, ℕ, zero, suc, Bool, true, false, if◌then◌else◌, List, [], ◌∷◌, Option, Some, None, slice_get, refl, sym, ap, ◌∙◌, arith}
+use Rattle.std.proofs.Common.{◌≡◌, ◌+◌, ◌<◌, ℕ, zero, suc, Bool, true, false, if◌then◌else◌, List, [], ◌∷◌, Option, Some, None, slice_get, subst, refl, sym, ap, ◌∙◌, arith}
 use Rattle.std.specs.List.{IsDistinct, AllByRecursion}
 use Rattle.std.specs.Map.{keys_of}
 use Rattle.fab_base.specs.declared.object.Oid.{Oid}
@@ -16,7 +16,8 @@ use Rattle.fab_base.specs.declared.object.Object.{Object}
 use Rattle.fab_base.specs.FlatMap.{get, map_of, parts_of}
 use Rattle.fab_map.proofs.Made.{get-map_of}
 use Rattle.fab_requests.specs.Answered.{AreOld}
-use Rattle.fab_evaluation.specs.Roots.{AreUnmade}
+use Rattle.fab_tree.specs.declared.resolved.Resolved.{Resolved}
+use Rattle.fab_evaluation.specs.Roots.{IsResolved, AreUnmade}
 use Rattle.std.proofs.lemmas.Slice.Eq.{bytes_eq-Decides}
 
 apart : (o : Oid) (k : ℕ) (roots : List Root) → NumberedFrom k roots → o.number < k → AllByRecursion (λ p. is_same o p ≡ false) (keys_of (rows_of roots))
@@ -48,7 +49,7 @@ numbered_from s k (y ∷ ys) zero x e = let a = first_is s k y ys x e in omega (
 numbered_from s k (y ∷ ys) (suc n) x e = let a = numbered_from s (suc k) ys n x e in omega (arith, a)
 
 -- the roots of a bundle stand at their numbers
-pub numbered : (s : Start) → AreNumbered (resolved s).roots
+numbered : (s : Start) → AreNumbered (resolved s).roots
 numbered s n x e = let a = numbered_from s 0 s.roots n x e in omega (arith, a)
 
 -- ---- boots
@@ -59,7 +60,7 @@ unmade_from s k (y ∷ ys) zero d w = refl
 unmade_from s k (y ∷ ys) (suc n) d w = unmade_from s (suc k) ys n d (omega (arith, w))
 
 -- the names of a bundle's roots have boot 0
-pub unmade : (s : Start) → AreUnmade (resolved s).roots
+unmade : (s : Start) → AreUnmade (resolved s).roots
 unmade s = unmade_from s 0 s.roots
 
 same_boots : (a b : Oid) → parts_of a ≡ parts_of b → a.boot ≡ b.boot
@@ -81,3 +82,11 @@ old_rows (r ∷ rs) h o x e = by (is_same r.oid o) refl (old_rows rs (behind_unm
 
 pub old_at_start : (roots : List Root) → AreNumbered roots → AreUnmade roots → AreOld (map_of (rows_of roots))
 old_at_start roots n h o x e = old_rows roots h o x (sym (get-map_of (rows_of roots) o (distinct roots n)) ∙ e)
+
+-- ---- the roots of a bundle with numbers for names
+
+pub are_numbered : (q r : Resolved) → q ≡ r → IsResolved r → AreNumbered q.roots
+are_numbered q r e h = subst (λ z. AreNumbered z.roots) (sym (e ∙ h.1)) (numbered h.0)
+
+pub are_unmade : (q r : Resolved) → q ≡ r → IsResolved r → AreUnmade q.roots
+are_unmade q r e h = subst (λ z. AreUnmade z.roots) (sym (e ∙ h.1)) (unmade h.0)

@@ -4,7 +4,7 @@ ghost use Rattle.fab_tree.specs.Evaluation.{evaluation_text, outcomes_text, requ
 ghost use Rattle.fab_tree.specs.Requests.{in_turn};
 ghost use Rattle.fab_forms.specs.Numbered.{AreNumbered};
 ghost use Rattle.fab_requests.specs.Answered.{AreOld};
-ghost use Rattle.fab_evaluation.specs.Roots.{AreUnmade};
+ghost use Rattle.fab_evaluation.specs.Roots.{IsResolved};
 
 use crate::objects::at_start;
 use crate::outcomes::put_outcomes;
@@ -19,8 +19,7 @@ use std::sync::Arc;
 /// The text of the evaluation of a bundle: a line for each request, in the order of the text, one for
 /// each object behind the last of them, in the order of their names, and `end`.
 pub fn evaluation(alloc: Global, start: Resolved) -> Result<Seq<u8>, NoMemory>
-    requires numbered { AreNumbered start.roots }
-    requires unmade { AreUnmade start.roots }
+    requires { IsResolved start }
     ensures { IfOk result (λ text. text ≡ evaluation_text start) }
 {
     let start = Arc::new(alloc, start)?;

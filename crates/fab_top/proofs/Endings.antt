@@ -5,7 +5,9 @@ use Rattle.std.specs.declared.alloc.Global.{Global}
 use Rattle.fab_tree.specs.declared.start.Start.{Start}
 use Rattle.fab_tree.specs.Numbering.{resolved}
 use Rattle.fab_tree.specs.Evaluation.{Spells, evaluation_text, line}
-use Rattle.fab_top.specs.Reply.{AskEvaluation, SpellsSome, SpellsNone, Replies, usage, evaluated, not_built, RepliesWith, Ends, Exactly, WritesEvaluation}
+use Rattle.fab_typing.proofs.KnownRequests.{requests_end}
+use Rattle.fab_typing.proofs.ShortTexts.{short_text}
+use Rattle.fab_top.specs.Reply.{AllEnd, AskEvaluation, SpellsSome, SpellsNone, Replies, usage, evaluated, not_built, RepliesWith, Ends, Exactly, WritesEvaluation}
 use Rattle.fab_top.specs.declared.status.Status.{Status}
 use Rattle.fab_top.specs.declared.status.Status.TheVariants.{Ok, Usage, ReadFault, WriteFault, Memory, NotBuilt}
 
@@ -94,6 +96,9 @@ module _ (words : List (String Global)) (l l' w w' : Option (List ℕ)) where
   not_built_exactly Memory asks f e = all_some l (λ text. record { only = λ h. absurd (cc); comes = λ p. inr (inl refl) })
   not_built_exactly NotBuilt asks f e = some_more l (λ text r. record { only = λ h. none_of r; comes = λ n. inl refl }) (told asks e)
 
+requests_end_of : (text : List ℕ) (s : Start) → Spells text s → AllEnd (resolved s)
+requests_end_of text s h = requests_end s h.limits h.counts h.rules h.form (short_text text s h)
+
 -- the line or text that is written
 pub usage_written : {words : List (String Global)} {l l' w w' : Option (List ℕ)} → RepliesWith Usage words l l' w w' → Appends w w' (line (codes "usage"))
 usage_written {w = w} {w' = w'} e = subst (Appends w w') (line_of_usage e.replies) e.all
@@ -102,7 +107,7 @@ pub not_built_written : {words : List (String Global)} {l l' w w' : Option (List
 not_built_written {w = w} {w' = w'} e = subst (Appends w w') (line_of_not_built e.replies) e.all
 
 pub ok_written : {words : List (String Global)} {l l' w w' : Option (List ℕ)} → RepliesWith Ok words l l' w w' → IfSome l (λ text. WritesEvaluation text w w')
-ok_written {l = l} {w = w} {w' = w'} e = some_more l (λ text r. let s = spells_of r in (s.0, s.1, subst (Appends w w') s.2 e.all)) (told (asks_ok e.replies) e)
+ok_written {l = l} {w = w} {w' = w'} e = some_more l (λ text r. let s = spells_of r in (s.0, s.1, requests_end_of text s.0 s.1, subst (Appends w w') s.2 e.all)) (told (asks_ok e.replies) e)
 
 read_whole : (l l' : Option (List ℕ)) (text : List ℕ) → Consumes l l' text → IsAtEnd l' ⊎ (length text ≡ 1000001) → IfSome l (λ xs. length xs ≤ 1000000 → IsAtEnd l')
 read_whole None l' text c w = tt

@@ -1,4 +1,3 @@
 pub mod Bytes
 pub mod Endings
-pub mod Objects
 pub mod Words

@@ -1,11 +1,12 @@
 -- What the program replies.
-use Rattle.std.specs.Prelude.{◌≡◌, ◌⊎◌, ℕ, List, [], ◌∷◌, map, Option, codes, String, string_bytes}
+use Rattle.std.specs.Prelude.{◌≡◌, ◌⊎◌, ℕ, List, [], ◌∷◌, map, length, replicate, Option, None, codes, String, string_bytes}
 use Rattle.std.specs.Io.KnownBytes.{Appends, Keeps}
 use Rattle.std.specs.declared.alloc.Global.{Global}
 use Rattle.fab_tree.specs.declared.start.Start.{Start}
 use Rattle.fab_tree.specs.declared.resolved.Resolved.{Resolved}
 use Rattle.fab_tree.specs.Numbering.{resolved}
-use Rattle.fab_tree.specs.Evaluation.{Spells, evaluation_text, line}
+use Rattle.fab_tree.specs.Meaning.{Ended}
+use Rattle.fab_tree.specs.Evaluation.{Spells, course_of, evaluation_text, line, requests_of}
 use Rattle.fab_top.specs.Reading.{ReadsText, WritesFront}
 use Rattle.fab_top.specs.declared.status.Status.{Status}
 use Rattle.fab_top.specs.declared.status.Status.TheVariants.{Ok, Usage, ReadFault, WriteFault, Memory, NotBuilt}
@@ -21,6 +22,10 @@ SpellsSome text = (s : Start) × Spells text s
 -- this is the bundle that the text spells, with numbers for names
 abbrev pub SpellsResolved : List ℕ → Resolved → Type 0
 SpellsResolved text r = (s : Start) × Spells text s × (r ≡ resolved s)
+
+-- each request of the bundle ends, with no value
+abbrev pub AllEnd : Resolved → Type 0
+AllEnd r = (course_of r).endings ≡ replicate (length (requests_of r)) (Ended None)
 
 -- the text spells no bundle of the form that is evaluated
 abbrev pub SpellsNone : List ℕ → Type 0
@@ -68,6 +73,6 @@ pub record Exactly (status S : Status) (P : Type 0) : Type 0 where
   pub only : status ≡ S → P
   pub comes : P → (status ≡ S) ⊎ ((status ≡ Memory) ⊎ (status ≡ WriteFault))
 
--- the evaluation of the bundle that the text spells is written
+-- each request of the bundle that the text spells ends, and the bundle's evaluation is written
 abbrev pub WritesEvaluation : List ℕ → Option (List ℕ) → Option (List ℕ) → Type 0
-WritesEvaluation text written written' = (s : Start) × Spells text s × Appends written written' (evaluation_text (resolved s))
+WritesEvaluation text written written' = (s : Start) × Spells text s × AllEnd (resolved s) × Appends written written' (evaluation_text (resolved s))

@@ -92,7 +92,8 @@ pub fn fab<S: Source, K: Sink>(
     ensures taken { TakesAtMost 1000001 (S.left source.old) (S.left source.new) }
     ensures whole { (result ≡ Ok) ⊎ (result ≡ NotBuilt) → IfSome (S.left source.old) (λ text. length text ≤ 1000000 → IsAtEnd (S.left source.new)) }
 
-    // `Ok` comes exactly where the text spells a bundle of the form, and its evaluation is written.
+    // `Ok` comes exactly where the text spells a bundle of the form; each of its requests ends, and its
+    // evaluation is written.
     ensures ok { AskEvaluation words.now → result ≢ ReadFault → IfSome (S.left source.old) (λ text. Exactly result Ok (SpellsSome text)) }
     ensures ok_text { result ≡ Ok → IfSome (S.left source.old) (λ text. WritesEvaluation text (K.written sink.old) (K.written sink.new)) }
 
