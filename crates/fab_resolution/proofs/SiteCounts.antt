@@ -52,9 +52,8 @@ module _ {X Y : Type 0} (f : X → Numbered Y) (xs : List X) (i : ℕ) (x : X) (
   goes_on made new y n m whole h push p q =
       let rest = in_turn (map f (drop (i + 1) xs)) m in
       let step : in_turn (map f (drop i xs)) n ≡ (y ∷ rest.0, rest.1) =
-          ap (λ l. in_turn (map f l) n) front
-          ∙ ap (λ (a : Y × ℕ). let b = in_turn (map f (drop (i + 1) xs)) a.1 in (a.0 ∷ b.0, b.1)) h in
-      (
+      ap (λ l. in_turn (map f l) n) front
+      ∙ ap (λ (a : Y × ℕ). let b = in_turn (map f (drop (i + 1) xs)) a.1 in (a.0 ∷ b.0, b.1)) h in (
         ap (λ l. l ++ rest.0) push ∙ append_assoc made (y ∷ []) rest.0 ∙ ap (λ (w : List Y × ℕ). made ++ w.0) (sym step) ∙ p,
         ap (λ (w : List Y × ℕ). w.1) (sym step) ∙ q,
       )
@@ -105,9 +104,9 @@ module _ (start : Start) (locals : List Parameter) where
   expression_counts = ind-Expression Counts (λ x y is.
       let R : Expression-F Expression → Type 0 = λ z. Counts (roll-Expression z) in
       subst R is (λ n.
-          ap (λ f. (f n).1) (fold-roll-Expression (Numbered NumberedExpression) (expression_step start locals) (operands y))
-          ∙ by_layer y n
-          ∙ ap (λ m. n + m) (sym (fold-roll-Expression ℕ sites_step (operands y)))))
+      ap (λ f. (f n).1) (fold-roll-Expression (Numbered NumberedExpression) (expression_step start locals) (operands y))
+      ∙ by_layer y n
+      ∙ ap (λ m. n + m) (sym (fold-roll-Expression ℕ sites_step (operands y)))))
 
   pub expression_grows : (x : Expression) (n : ℕ) → n ≤ (expression_of start locals x n).1
   expression_grows x n = let e = expression_counts x n in omega (arith, e)
@@ -186,9 +185,8 @@ module _ (start : Start) (locals : List Parameter) where
     sum_goes_on made new y n m whole h push p q =
         let rest = terms_in_turn (map numbered_term (drop (i + 1) xs)) m in
         let step : terms_in_turn (map numbered_term (drop i xs)) n ≡ ((x.0, y) ∷ rest.0, rest.1) =
-            ap (λ l. terms_in_turn (map numbered_term l) n) front_term
-            ∙ ap (λ (a : NumberedExpression × ℕ). let b = terms_in_turn (map numbered_term (drop (i + 1) xs)) a.1 in ((x.0, a.0) ∷ b.0, b.1)) h in
-        (
+        ap (λ l. terms_in_turn (map numbered_term l) n) front_term
+        ∙ ap (λ (a : NumberedExpression × ℕ). let b = terms_in_turn (map numbered_term (drop (i + 1) xs)) a.1 in ((x.0, a.0) ∷ b.0, b.1)) h in (
           ap (λ l. l ++ rest.0) push ∙ append_assoc made ((x.0, y) ∷ []) rest.0 ∙ ap (λ (w : List (Sign × NumberedExpression) × ℕ). made ++ w.0) (sym step) ∙ p,
           ap (λ (w : List (Sign × NumberedExpression) × ℕ). w.1) (sym step) ∙ q,
         )
@@ -232,9 +230,9 @@ module _ (start : Start) (locals : List Parameter) where
   statement_counts = ind-Statement CountsToo (λ x y is.
       let R : Statement-F Statement → Type 0 = λ z. CountsToo (roll-Statement z) in
       subst R is (λ n.
-          ap (λ f. (f n).1) (fold-roll-Statement (Numbered NumberedStatement) (statement_step start locals) (parts y))
-          ∙ layer y n
-          ∙ ap (λ m. n + m) (sym (fold-roll-Statement ℕ sites_of_step (parts y)))))
+      ap (λ f. (f n).1) (fold-roll-Statement (Numbered NumberedStatement) (statement_step start locals) (parts y))
+      ∙ layer y n
+      ∙ ap (λ m. n + m) (sym (fold-roll-Statement ℕ sites_of_step (parts y)))))
 
   pub block_counts : (xs : List Statement) (n : ℕ) → (in_turn (map (statement_of start locals) xs) n).1 ≡ n + sites_of_block xs
   block_counts [] n = omega arith
@@ -280,8 +278,8 @@ module _ (start : Start) (locals : List Parameter) where
       let g = other_grows otherwise (in_turn (map (statement_of start locals) block) (expression_of start locals a n).1).1 in
       let e = ap (λ (w : NumberedStatement × ℕ). w.1) (ap (λ w. statement_of start locals w n) h ∙ of_if a block otherwise n) in
       let j =
-          ap (λ xs. (in_turn (map (statement_of start locals) xs) m).1) i
-          ∙ ap (λ (w : NumberedExpression × ℕ). (in_turn (map (statement_of start locals) block) w.1).1) (sym k) in
+      ap (λ xs. (in_turn (map (statement_of start locals) xs) m).1) i
+      ∙ ap (λ (w : NumberedExpression × ℕ). (in_turn (map (statement_of start locals) block) w.1).1) (sym k) in
       omega (arith, g, e, j)
 
   pub condition_within : (s : Statement) (a : Expression) (block : List Statement) (otherwise : Option (List Statement)) (n : ℕ) → s ≡ f.If a block otherwise → (expression_of start locals a n).1 ≤ (statement_of start locals s n).1

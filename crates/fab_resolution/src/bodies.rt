@@ -40,7 +40,12 @@ fn numbered_statement(
     ensures { Gives result sites.new (statement_of scope.now.start.now scope.now.locals.now statement.now sites.old) }
 {
     match statement {
-        Statement::Declare { name, value, at, .. } => {
+        Statement::Declare {
+            name,
+            value,
+            at,
+            ..
+        } => {
             let value = numbered(alloc, scope, sites, value)?;
             Ok(Numbered::Assign {
                 local: scope.local_number(name),

@@ -19,11 +19,7 @@ pub(crate) fn keeps_others(alloc: Global, declared: &Declared<'_>) -> Result<boo
     if !keep_methods(alloc, start, methods)? {
         return Ok(false);
     }
-    Ok(keep_sessions(
-        declared,
-        methods,
-        start.sessions.as_slice(),
-    ))
+    Ok(keep_sessions(declared, methods, start.sessions.as_slice()))
 }
 
 /// Whether no two of these methods have one name, and each keeps the rules.

@@ -38,10 +38,11 @@ fn numbered(alloc: Global, declared: &Declared<'_>) -> Result<Resolved, NoMemory
     ensures { IfOk result (λ r. r ≡ resolved declared.now) }
 {
     let start = declared.start();
+    let sessions = start.sessions.as_slice();
     let declarations = declared.declarations(alloc)?;
     Ok(Resolved {
         methods: numbered_methods(alloc, declared, start.methods.as_slice())?,
-        sessions: numbered_sessions(alloc, declared, start.sessions.as_slice())?,
+        sessions: numbered_sessions(alloc, declared, sessions)?,
         ..declarations
     })
 }
