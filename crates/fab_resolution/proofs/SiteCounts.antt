@@ -9,8 +9,8 @@ use Rattle.fab_tree.specs.declared.program.Expression.TheVariants as e
 use Rattle.fab_tree.specs.declared.program.Expression.TheOpen as o
 use Rattle.fab_tree.specs.declared.program.Expression.TheOpen.{Expression-F}
 use Rattle.fab_tree.specs.declared.program.Statement.{Statement, ind-Statement, roll-Statement, fold-roll-Statement, map-Statement}
-use Rattle.fab_tree.specs.declared.program.Statement.TheVariants as f
-use Rattle.fab_tree.specs.declared.program.Statement.TheOpen as p
+use Rattle.fab_tree.specs.declared.program.Statement.TheVariants as forms
+use Rattle.fab_tree.specs.declared.program.Statement.TheOpen as layers
 use Rattle.fab_tree.specs.declared.program.Statement.TheOpen.{Statement-F}
 use Rattle.fab_tree.specs.declared.program.Comparison.{Comparison}
 use Rattle.fab_tree.specs.declared.program.Parameter.{Parameter}
@@ -18,11 +18,11 @@ use Rattle.fab_tree.specs.declared.program.Method.{Method}
 use Rattle.fab_tree.specs.declared.resolved.Expression.{Expression as NumberedExpression}
 use Rattle.fab_tree.specs.declared.resolved.Expression.TheVariants as ne
 use Rattle.fab_tree.specs.declared.resolved.Statement.{Statement as NumberedStatement}
-use Rattle.fab_tree.specs.Counts.{total, total_of_terms, total_of_other, sites_step, sites, sites_of_step, sites_of, sites_of_block, sites_of_methods}
+use Rattle.fab_tree.specs.Counts.{total, total_of_terms, sites_step, sites, sites_of_step, sites_of, sites_of_block, sites_of_methods}
 use Rattle.fab_tree.specs.Methods.{locals_of}
 use Rattle.fab_tree.specs.Numbering.{Numbered, in_turn, terms_in_turn, other_in_turn, expression_step, expression_of, statement_step, statement_of, method_of}
-use Rattle.fab_resolution.specs.declared.taking.Refusal.{Refusal}
-use Rattle.fab_resolution.specs.declared.taking.Refusal.TheVariants.{Memory, Sites}
+use Rattle.fab_resolution.specs.declared.sites.Refusal.{Refusal}
+use Rattle.fab_resolution.specs.declared.sites.Refusal.TheVariants.{Memory, Sites}
 use Rattle.fab_resolution.specs.Gives.{Gives}
 
 -- ---- what is refused in a part is refused in the whole
@@ -213,14 +213,14 @@ module _ (start : Start) (locals : List Parameter) where
       omega (arith, here, rest)
 
   layer : (y : Statement-F CountedToo) (n : ℕ) → (statement_step start locals (map-Statement Statement (Numbered NumberedStatement) (statement_of start locals) (parts y)) n).1 ≡ n + sites_of_step (map-Statement Statement ℕ sites_of (parts y))
-  layer (p.Declare t x l a at) n = expression_counts a n
-  layer (p.Assign x a) n = expression_counts a n
-  layer (p.Write x y a) n = let e = expression_counts a (suc n) in omega (arith, e)
-  layer (p.If a block None) n =
+  layer (layers.Declare t x l a at) n = expression_counts a n
+  layer (layers.Assign x a) n = expression_counts a n
+  layer (layers.Write x y a) n = let e = expression_counts a (suc n) in omega (arith, e)
+  layer (layers.If a block None) n =
       let c = expression_counts a n in
       let b = block_layer block (expression_of start locals a n).1 in
       omega (arith, c, b)
-  layer (p.If a block (Some other)) n =
+  layer (layers.If a block (Some other)) n =
       let c = expression_counts a n in
       let b = block_layer block (expression_of start locals a n).1 in
       let d = block_layer other (in_turn (map (statement_of start locals) (map (λ (k : CountedToo). k.0) block)) (expression_of start locals a n).1).1 in
@@ -246,34 +246,34 @@ module _ (start : Start) (locals : List Parameter) where
 
   -- ---- the parts of a statement end no later than the whole
 
-  of_write : (x y : Name) (a : Expression) (n : ℕ) → statement_of start locals (f.Write x y a) n ≡ statement_step start locals (p.Write x y a) n
+  of_write : (x y : Name) (a : Expression) (n : ℕ) → statement_of start locals (forms.Write x y a) n ≡ statement_step start locals (layers.Write x y a) n
   of_write x y a n =
-      ap (λ w. statement_of start locals w n) (sym (f.rolls-Write x y a))
-      ∙ ap (λ w. w n) (fold-roll-Statement (Numbered NumberedStatement) (statement_step start locals) (p.Write x y a))
+      ap (λ w. statement_of start locals w n) (sym (forms.rolls-Write x y a))
+      ∙ ap (λ w. w n) (fold-roll-Statement (Numbered NumberedStatement) (statement_step start locals) (layers.Write x y a))
 
   abbrev other : Option (List Statement) → Option (List (Numbered NumberedStatement))
   other None = None
   other (Some xs) = Some (map (statement_of start locals) xs)
 
-  of_if : (a : Expression) (block : List Statement) (otherwise : Option (List Statement)) (n : ℕ) → statement_of start locals (f.If a block otherwise) n ≡ statement_step start locals (p.If a (map (statement_of start locals) block) (other otherwise)) n
+  of_if : (a : Expression) (block : List Statement) (otherwise : Option (List Statement)) (n : ℕ) → statement_of start locals (forms.If a block otherwise) n ≡ statement_step start locals (layers.If a (map (statement_of start locals) block) (other otherwise)) n
   of_if a block None n =
-      ap (λ w. statement_of start locals w n) (sym (f.rolls-If a block None))
-      ∙ ap (λ w. w n) (fold-roll-Statement (Numbered NumberedStatement) (statement_step start locals) (p.If a block None))
+      ap (λ w. statement_of start locals w n) (sym (forms.rolls-If a block None))
+      ∙ ap (λ w. w n) (fold-roll-Statement (Numbered NumberedStatement) (statement_step start locals) (layers.If a block None))
   of_if a block (Some xs) n =
-      ap (λ w. statement_of start locals w n) (sym (f.rolls-If a block (Some xs)))
-      ∙ ap (λ w. w n) (fold-roll-Statement (Numbered NumberedStatement) (statement_step start locals) (p.If a block (Some xs)))
+      ap (λ w. statement_of start locals w n) (sym (forms.rolls-If a block (Some xs)))
+      ∙ ap (λ w. w n) (fold-roll-Statement (Numbered NumberedStatement) (statement_step start locals) (layers.If a block (Some xs)))
 
   other_grows : (otherwise : Option (List Statement)) (n : ℕ) → n ≤ (other_in_turn start locals (other otherwise) n).1
   other_grows None n = omega arith
   other_grows (Some xs) n = block_grows xs n
 
-  pub site_within : (s : Statement) (x y : Name) (a : Expression) (n : ℕ) → s ≡ f.Write x y a → suc n ≤ (statement_of start locals s n).1
+  pub site_within : (s : Statement) (x y : Name) (a : Expression) (n : ℕ) → s ≡ forms.Write x y a → suc n ≤ (statement_of start locals s n).1
   site_within s x y a n h =
       let g = expression_grows a (suc n) in
       let e = ap (λ (w : NumberedStatement × ℕ). w.1) (ap (λ w. statement_of start locals w n) h ∙ of_write x y a n) in
       omega (arith, g, e)
 
-  pub block_within : (s : Statement) (a : Expression) (block seen : List Statement) (otherwise : Option (List Statement)) (n m : ℕ) (made : NumberedExpression) → s ≡ f.If a block otherwise → seen ≡ block → expression_of start locals a n ≡ (made, m) → (in_turn (map (statement_of start locals) seen) m).1 ≤ (statement_of start locals s n).1
+  pub block_within : (s : Statement) (a : Expression) (block seen : List Statement) (otherwise : Option (List Statement)) (n m : ℕ) (made : NumberedExpression) → s ≡ forms.If a block otherwise → seen ≡ block → expression_of start locals a n ≡ (made, m) → (in_turn (map (statement_of start locals) seen) m).1 ≤ (statement_of start locals s n).1
   block_within s a block seen otherwise n m made h i k =
       let g = other_grows otherwise (in_turn (map (statement_of start locals) block) (expression_of start locals a n).1).1 in
       let e = ap (λ (w : NumberedStatement × ℕ). w.1) (ap (λ w. statement_of start locals w n) h ∙ of_if a block otherwise n) in
@@ -282,7 +282,7 @@ module _ (start : Start) (locals : List Parameter) where
       ∙ ap (λ (w : NumberedExpression × ℕ). (in_turn (map (statement_of start locals) block) w.1).1) (sym k) in
       omega (arith, g, e, j)
 
-  pub condition_within : (s : Statement) (a : Expression) (block : List Statement) (otherwise : Option (List Statement)) (n : ℕ) → s ≡ f.If a block otherwise → (expression_of start locals a n).1 ≤ (statement_of start locals s n).1
+  pub condition_within : (s : Statement) (a : Expression) (block : List Statement) (otherwise : Option (List Statement)) (n : ℕ) → s ≡ forms.If a block otherwise → (expression_of start locals a n).1 ≤ (statement_of start locals s n).1
   condition_within s a block otherwise n h =
       let g = block_grows block (expression_of start locals a n).1 in
       let b = block_within s a block block otherwise n (expression_of start locals a n).1 (expression_of start locals a n).0 h refl refl in

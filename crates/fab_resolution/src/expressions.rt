@@ -3,7 +3,7 @@ ghost use Rattle.fab_tree.specs.Numbering.{expression_of};
 ghost use Rattle.fab_resolution.specs.Gives.{Gives};
 
 use crate::scope::Scope;
-use crate::taking::{Refusal, next_site};
+use crate::sites::{Refusal, next_site};
 use fab_base::{Boxed, Seq};
 use fab_tree::Expression;
 use fab_tree::resolved::Expression as Numbered;

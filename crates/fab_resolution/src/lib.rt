@@ -1,13 +1,13 @@
-//! The whole bundle with numbers for names, if it keeps the rules of names and types.
+//! The whole bundle with numbers for names, where it keeps the rules of names and types.
 #![tactic(auto)]
 
-mod bodies;
 mod expressions;
-mod programs;
-mod requests;
+mod methods;
 mod rules;
 mod scope;
-mod taking;
+mod sessions;
+mod sites;
+mod statements;
 mod whole;
 
 pub use whole::resolve;

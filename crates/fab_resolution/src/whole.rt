@@ -5,9 +5,9 @@ ghost use Rattle.fab_tree.specs.Limits.{KeepsLimits};
 ghost use Rattle.fab_tree.specs.Methods.{KeepsRules};
 ghost use Rattle.fab_tree.specs.Numbering.{resolved};
 
-use crate::programs::numbered_methods;
-use crate::requests::numbered_sessions;
+use crate::methods::numbered_methods;
 use crate::rules::keeps_others;
+use crate::sessions::numbered_sessions;
 use fab_base::NoMemory;
 use fab_names::Declared;
 use fab_tree::{Resolved, Start};

@@ -1,6 +1,6 @@
 //! The numbers of sites, taken one after the other.
 ghost use Rattle.std.specs.Prelude.{◌≡◌, suc};
-ghost use Rattle.fab_resolution.specs.declared.taking.Refusal.TheVariants.{Memory};
+ghost use Rattle.fab_resolution.specs.declared.sites.Refusal.TheVariants.{Memory};
 ghost use Rattle.fab_resolution.specs.Gives.{Gives};
 
 use std::alloc::AllocError;

@@ -1,7 +1,7 @@
 use Rattle.std.proofs.Common.{map}
 use Rattle.fab_tree.specs.Numbering.{method_of, in_turn}
 use Rattle.fab_resolution.proofs.SiteCounts.{refused, ends_within, goes_on, methods_grow}
-use Rattle.fab_resolution.proofs.programs.methods_in_turn.Goals as goal
+use Rattle.fab_resolution.proofs.methods.methods_in_turn.Goals as goal
 
 pub returns-in_err-one : goal.returns-in_err-one
 returns-in_err-one c = refused c.from_residual.result c.in_err-one.field-0.0 c.numbered_method.new.sites c.numbered_method.new.sites

@@ -1,7 +1,7 @@
 use Rattle.std.proofs.Common.{suc, map}
 use Rattle.fab_tree.specs.Numbering.{expression_of, statement_of, in_turn}
 use Rattle.fab_resolution.proofs.SiteCounts.{refused, ends_within, goes_on, block_grows, site_within, block_within, condition_within}
-use Rattle.fab_resolution.proofs.bodies.+block.Goals as goal
+use Rattle.fab_resolution.proofs.statements.+block.Goals as goal
 
 pub numbered_block-returns-in_err-one : goal.numbered_block-returns-in_err-one
 numbered_block-returns-in_err-one t c = refused c.from_residual.result c.in_err-one.field-0.0 c.numbered_statement.new.sites c.numbered_statement.new.sites

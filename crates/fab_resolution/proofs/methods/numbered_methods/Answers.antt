@@ -1,6 +1,6 @@
 use Rattle.std.proofs.Common.{arith}
 use Rattle.fab_resolution.proofs.SiteCounts.{methods_count}
-use Rattle.fab_resolution.proofs.programs.numbered_methods.Goals as goal
+use Rattle.fab_resolution.proofs.methods.numbered_methods.Goals as goal
 
 pub unreachable-requires : goal.unreachable-requires
 unreachable-requires c =

@@ -6,9 +6,9 @@ ghost use Rattle.fab_tree.specs.Methods.{locals_of};
 ghost use Rattle.fab_tree.specs.Numbering.{in_turn, method_of, methods_of, numbered_local};
 ghost use Rattle.fab_resolution.specs.Gives.{Gives};
 
-use crate::bodies::numbered_block;
 use crate::scope::Scope;
-use crate::taking::Refusal;
+use crate::sites::Refusal;
+use crate::statements::numbered_block;
 use fab_base::{NoMemory, Seq};
 use fab_methods::{Declaration, locals_of};
 use fab_names::{Declared, copied};

@@ -5,7 +5,7 @@ ghost use Rattle.fab_resolution.specs.Gives.{Gives};
 
 use crate::expressions::numbered;
 use crate::scope::Scope;
-use crate::taking::{Refusal, next_site};
+use crate::sites::{Refusal, next_site};
 use fab_base::Seq;
 use fab_tree::Statement;
 use fab_tree::resolved::Statement as Numbered;
