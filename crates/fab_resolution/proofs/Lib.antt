@@ -1,0 +1,3 @@
+pub mod AllRules
+pub mod Found
+pub mod SiteCounts

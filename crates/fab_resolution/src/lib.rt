@@ -1,0 +1,13 @@
+//! The whole bundle with numbers for names, where it keeps the rules of names and types.
+#![tactic(auto)]
+
+mod expressions;
+mod methods;
+mod rules;
+mod scope;
+mod sessions;
+mod sites;
+mod statements;
+mod whole;
+
+pub use whole::resolve;
