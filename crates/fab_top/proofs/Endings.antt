@@ -97,7 +97,7 @@ module _ (words : List (String Global)) (l l' w w' : Option (List ℕ)) where
   not_built_exactly NotBuilt asks f e = some_more l (λ text r. record { only = λ h. none_of r; comes = λ n. inl refl }) (told asks e)
 
 requests_end_of : (text : List ℕ) (s : Start) → Spells text s → AllEnd (resolved s)
-requests_end_of text s h = requests_end s h.limits h.counts h.rules h.form (short_text text s h)
+requests_end_of text s h = requests_end s h.counts h.rules h.form (short_text text s h)
 
 -- the line or text that is written
 pub usage_written : {words : List (String Global)} {l l' w w' : Option (List ℕ)} → RepliesWith Usage words l l' w w' → Appends w w' (line (codes "usage"))

@@ -4,7 +4,11 @@
 mod command;
 #[cfg(test)]
 mod declared_tests;
+#[cfg(test)]
+mod limit_tests;
 mod reading;
+#[cfg(test)]
+mod requests_tests;
 mod spelling;
 mod status;
 #[cfg(test)]

@@ -23,7 +23,6 @@ use Rattle.fab_tree.specs.declared.resolved.Request.{Request}
 use Rattle.fab_tree.specs.declared.resolved.Resolved.{Resolved}
 use Rattle.fab_tree.specs.Counts.{KeepsCounts}
 use Rattle.fab_tree.specs.Evaluation.{HasNoNull, IsEvaluated, map_at_start, requests_of, course_of}
-use Rattle.fab_tree.specs.Limits.{KeepsLimits}
 use Rattle.fab_tree.specs.Meaning.{is_among, Ended}
 use Rattle.fab_tree.specs.Names as names
 use Rattle.fab_tree.specs.Names.{class_name, root_name, Fits}
@@ -150,9 +149,9 @@ module _ (s : Start) (kept : KeepsRules s) (ints : AreNumberFields s) where
         (typed_sessions xs (λ j d w. h (suc j) d (omega (arith, w))) (λ j d w. i (suc j) d (omega (arith, w))))
 
 -- the requests of a bundle of the evaluated form are well typed
-pub typed_requests : (s : Start) → KeepsLimits s → KeepsCounts s → KeepsRules s → IsEvaluated s → AreShort s → AreTypedRequests (resolved s) (map_at_start (resolved s)) (requests_of (resolved s))
-typed_requests s limits counts kept form short = typed_sessions s kept form.numbers counts short s.sessions kept.in_sessions form.no_null
+pub typed_requests : (s : Start) → KeepsCounts s → KeepsRules s → IsEvaluated s → AreShort s → AreTypedRequests (resolved s) (map_at_start (resolved s)) (requests_of (resolved s))
+typed_requests s counts kept form short = typed_sessions s kept form.numbers counts short s.sessions kept.in_sessions form.no_null
 
 -- so each ends, with no result
-pub requests_end : (s : Start) → KeepsLimits s → KeepsCounts s → KeepsRules s → IsEvaluated s → AreShort s → (course_of (resolved s)).endings ≡ replicate (length (requests_of (resolved s))) (Ended None)
-requests_end s limits counts kept form short = all_end (resolved s) (map_at_start (resolved s)) (requests_of (resolved s)) (typed_requests s limits counts kept form short)
+pub requests_end : (s : Start) → KeepsCounts s → KeepsRules s → IsEvaluated s → AreShort s → (course_of (resolved s)).endings ≡ replicate (length (requests_of (resolved s))) (Ended None)
+requests_end s counts kept form short = all_end (resolved s) (map_at_start (resolved s)) (requests_of (resolved s)) (typed_requests s counts kept form short)

@@ -2,7 +2,6 @@
 ghost use Rattle.std.specs.Prelude.{◌≡◌, ℕ, All, List, None, length, map, replicate};
 ghost use Rattle.fab_tree.specs.Counts.{KeepsCounts};
 ghost use Rattle.fab_tree.specs.Evaluation.{IsEvaluated, Spells, course_of, map_at_start, requests_of};
-ghost use Rattle.fab_tree.specs.Limits.{KeepsLimits};
 ghost use Rattle.fab_tree.specs.Meaning.{Ended};
 ghost use Rattle.fab_tree.specs.Methods.{IsKnownMethod, KeepsRules};
 ghost use Rattle.fab_tree.specs.Names.{KeepsNames};
@@ -24,12 +23,12 @@ pub fn known_methods_are_typed()
 /// The requests of a bundle of the evaluated form are well typed over the objects that there are
 /// from the start, if no body is too long for the fuel.
 pub fn known_requests_are_typed()
-    ensures { (s : Start) → KeepsLimits s → KeepsCounts s → KeepsRules s → IsEvaluated s → AreShort s → AreTypedRequests (resolved s) (map_at_start (resolved s)) (requests_of (resolved s)) }
+    ensures { (s : Start) → KeepsCounts s → KeepsRules s → IsEvaluated s → AreShort s → AreTypedRequests (resolved s) (map_at_start (resolved s)) (requests_of (resolved s)) }
 {}
 
 /// So each of them ends: none fails, comes to a limit or misses an object.
 pub fn known_requests_all_end()
-    ensures { (s : Start) → KeepsLimits s → KeepsCounts s → KeepsRules s → IsEvaluated s → AreShort s → (course_of (resolved s)).endings ≡ replicate (length (requests_of (resolved s))) (Ended None) }
+    ensures { (s : Start) → KeepsCounts s → KeepsRules s → IsEvaluated s → AreShort s → (course_of (resolved s)).endings ≡ replicate (length (requests_of (resolved s))) (Ended None) }
 {}
 
 /// No body of a bundle that a text spells is too long: a statement has more than one byte of the
