@@ -277,5 +277,9 @@ fn wrong_sessions(rt: HostRuntime) -> Result<(), Fail> {
     ] {
         refuses(&rt, alloc, methods.as_str(), run)?;
     }
+    let run = "root x:A@s1(1,2);root y:B@s1(3);session w1{m(x,x,1);}";
+    let text = bundle(alloc, methods.as_str(), run)?;
+    let lines = "outcome w1 1 ended none\nobject s1 x A 1 2\nobject s1 y B 3\nend\n";
+    expect(&rt, alloc, text.as_bytes(), Status::Ok, lines)?;
     Ok(())
 }
