@@ -67,11 +67,11 @@ fn numbered_statement(
             value,
         } => {
             let site = next_site(sites)?;
-            let value = numbered(alloc, scope, sites, value)?;
+            let written = numbered(alloc, scope, sites, value)?;
             Ok(Numbered::Write {
                 object: scope.local_use(object),
                 field: scope.field_number(object, field),
-                value,
+                value: written,
                 site,
             })
         }

@@ -1,6 +1,7 @@
 use Rattle.std.proofs.Common.{map}
 use Rattle.fab_tree.specs.Numbering.{method_of, in_turn}
-use Rattle.fab_resolution.proofs.SiteCounts.{refused, ends_within, goes_on, methods_grow}
+use Rattle.fab_resolution.proofs.InTurn.{refused, ends_within, goes_on}
+use Rattle.fab_resolution.proofs.SiteCounts.{methods_grow}
 use Rattle.fab_resolution.proofs.methods.methods_in_turn.Goals as goal
 
 pub returns-in_err-one : goal.returns-in_err-one

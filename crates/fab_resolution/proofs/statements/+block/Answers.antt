@@ -1,6 +1,8 @@
 use Rattle.std.proofs.Common.{suc, map}
 use Rattle.fab_tree.specs.Numbering.{expression_of, statement_of, in_turn}
-use Rattle.fab_resolution.proofs.SiteCounts.{refused, ends_within, goes_on, block_grows, site_within, block_within, condition_within}
+use Rattle.fab_resolution.proofs.InTurn.{refused, ends_within, goes_on}
+use Rattle.fab_resolution.proofs.Parts.{site_within, block_within, condition_within}
+use Rattle.fab_resolution.proofs.SiteCounts.{block_grows}
 use Rattle.fab_resolution.proofs.statements.+block.Goals as goal
 
 pub numbered_block-returns-in_err-one : goal.numbered_block-returns-in_err-one
