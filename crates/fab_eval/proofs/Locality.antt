@@ -3,6 +3,7 @@ use Rattle.std.proofs.Common.{◌≡◌, ℕ, ◌-◌, List, [], ◌∷◌, ◌+
 use Rattle.std.specs.Prelude.{nat_le, slice_get, slice_set}
 use Rattle.std.proofs.lemmas.Bool.{true≢false}
 use Rattle.fab_base.specs.declared.object.Oid.{Oid}
+use Rattle.fab_base.specs.declared.object.Tid.{Tid}
 use Rattle.fab_base.specs.declared.object.Object.{Object}
 use Rattle.fab_base.specs.declared.object.Value.{Value}
 use Rattle.fab_base.specs.declared.object.Value.TheVariants.{Int, Null, Ref}
@@ -288,8 +289,8 @@ module _ (some all : FlatMap) (part : IsPart some all) where
     rest = λ o e. refl;
   }
 
-  pub beside : (program : Resolved) (request : Request) (fuel : ℕ) → Beside (requested (slice_get program.methods request.method) request.args (state_at_start some fuel)) (requested (slice_get program.methods request.method) request.args (state_at_start all fuel))
-  beside program request fuel = (requests (slice_get program.methods request.method) request.args).by (state_at_start some fuel) all at_start
+  pub beside : (program : Resolved) (request : Request) (tid : Tid) (fuel : ℕ) → Beside (requested (slice_get program.methods request.method) request.args (state_at_start some tid fuel)) (requested (slice_get program.methods request.method) request.args (state_at_start all tid fuel))
+  beside program request tid fuel = (requests (slice_get program.methods request.method) request.args).by (state_at_start some tid fuel) all at_start
 
   same_over : (r q : Run (Option Value)) → Beside r q → LacksToo all (meant_by r) → IsSameOver all (meant_by r) (meant_by q)
   same_over _ _ (both_go a s k n) l = record { ending = refl; written = refl; touches = refl; downs = refl; at_written = n.same; at_others = n.rest }
@@ -298,8 +299,8 @@ module _ (some all : FlatMap) (part : IsPart some all) where
   same_over _ _ (both_miss site o s k e n) l = record { ending = refl; written = refl; touches = refl; downs = refl; at_written = n.same; at_others = n.rest }
   same_over _ _ (lacks site o s r x e i a) l = absurd (let no : None ≡ Some x = sym (l site o refl) ∙ i in cc)
 
-  pub over_more : (program : Resolved) (request : Request) (fuel : ℕ) → LacksToo all (meaning program some request fuel) → IsSameOver all (meaning program some request fuel) (meaning program all request fuel)
-  over_more program request fuel l = same_over _ _ (beside program request fuel) l
+  pub over_more : (program : Resolved) (request : Request) (tid : Tid) (fuel : ℕ) → LacksToo all (meaning program some request tid fuel) → IsSameOver all (meaning program some request tid fuel) (meaning program all request tid fuel)
+  over_more program request tid fuel l = same_over _ _ (beside program request tid fuel) l
 
   absent : (r q : Run (Option Value)) → Beside r q → (site : ℕ) (o : Oid) → (meant_by r).ending ≡ Missing site o → get some o ≡ None
   absent _ _ (both_go a s k n) site o h = cc
@@ -308,8 +309,8 @@ module _ (some all : FlatMap) (part : IsPart some all) where
   absent _ _ (both_miss place p s k e n) site o h = let q : p ≡ o = cc in ap (get some) (sym q) ∙ e
   absent _ _ (lacks place p s r x e i a) site o h = let q : p ≡ o = cc in ap (get some) (sym q) ∙ e
 
-  pub absent_over : (program : Resolved) (request : Request) (fuel : ℕ) (site : ℕ) (o : Oid) → (meaning program some request fuel).ending ≡ Missing site o → get some o ≡ None
-  absent_over program request fuel = absent _ _ (beside program request fuel)
+  pub absent_over : (program : Resolved) (request : Request) (tid : Tid) (fuel : ℕ) (site : ℕ) (o : Oid) → (meaning program some request tid fuel).ending ≡ Missing site o → get some o ≡ None
+  absent_over program request tid fuel = absent _ _ (beside program request tid fuel)
 
   alone_in : (r q : Run (Option Value)) → Beside r q → Alone (meant_by r).written (meant_by r).map
   alone_in _ _ (both_go a s k n) = n.alone
@@ -318,12 +319,12 @@ module _ (some all : FlatMap) (part : IsPart some all) where
   alone_in _ _ (both_miss site o s k e n) = n.alone
   alone_in _ _ (lacks site o s r x e i a) = a
 
-  pub alone_over : (program : Resolved) (request : Request) (fuel : ℕ) → Alone (meaning program some request fuel).written (meaning program some request fuel).map
-  alone_over program request fuel = alone_in _ _ (beside program request fuel)
+  pub alone_over : (program : Resolved) (request : Request) (tid : Tid) (fuel : ℕ) → Alone (meaning program some request tid fuel).written (meaning program some request tid fuel).map
+  alone_over program request tid fuel = alone_in _ _ (beside program request tid fuel)
 
 -- what a request leaves of a map
-pub leaves : (known : FlatMap) (program : Resolved) (request : Request) (fuel : ℕ) → Alone known known (λ o x e. e) (meaning program known request fuel).written (meaning program known request fuel).map
-leaves known program request fuel = alone_over known known (λ o x e. e) program request fuel
+pub leaves : (known : FlatMap) (program : Resolved) (request : Request) (tid : Tid) (fuel : ℕ) → Alone known known (λ o x e. e) (meaning program known request tid fuel).written (meaning program known request tid fuel).map
+leaves known program request tid fuel = alone_over known known (λ o x e. e) program request tid fuel
 
-pub missing_is_absent : (program : Resolved) (known : FlatMap) (request : Request) (fuel site : ℕ) (o : Oid) → (meaning program known request fuel).ending ≡ Missing site o → get known o ≡ None
-missing_is_absent program known request fuel = absent_over known known (λ o x e. e) program request fuel
+pub missing_is_absent : (program : Resolved) (known : FlatMap) (request : Request) (tid : Tid) (fuel site : ℕ) (o : Oid) → (meaning program known request tid fuel).ending ≡ Missing site o → get known o ≡ None
+missing_is_absent program known request tid fuel = absent_over known known (λ o x e. e) program request tid fuel

@@ -7,6 +7,7 @@ use Rattle.std.proofs.lemmas.List.{length-replicate}
 use Rattle.std.proofs.lemmas.List.Sums.{sum_by-cons}
 use Rattle.std.proofs.lemmas.Option.{slice_get_within, slice_get-get_or}
 use Rattle.fab_base.specs.declared.object.Oid.{Oid}
+use Rattle.fab_base.specs.declared.object.Tid.{Tid}
 use Rattle.fab_base.specs.declared.object.Object.{Object}
 use Rattle.fab_base.specs.declared.object.Value.{Value}
 use Rattle.fab_base.specs.declared.object.Value.TheVariants.{Int, Null, Ref}
@@ -346,8 +347,8 @@ module _ (classes : List Class) (locals : List Local) (os : List Oid) (small : l
 
   -- ---- a method, from its start
 
-  started : (m : Method) → m.locals ≡ locals → m.parameters ≤ length locals → (args : List Value) (fuel : ℕ) → AreGiven classes m os start args → Holds (below m.parameters) (record (state_at_start start fuel) { locals = locals_at_start m args })
-  started m agrees fits args fuel given = record {
+  started : (m : Method) → m.locals ≡ locals → m.parameters ≤ length locals → (args : List Value) (tid : Tid) (fuel : ℕ) → AreGiven classes m os start args → Holds (below m.parameters) (record (state_at_start start tid fuel) { locals = locals_at_start m args })
+  started m agrees fits args tid fuel given = record {
     width = length-append args (replicate (length m.locals - length args) Null) ∙ ap (λ n. length args + n) (length-replicate (length m.locals - length args) Null) ∙ filled;
     values = λ x k i j. valued x k (below_less x m.parameters i) (ap (λ ls. local_kind ls x) agrees ∙ j);
     touched_in = λ o e. absurd (true≢false (sym e));
@@ -366,23 +367,23 @@ module _ (classes : List Class) (locals : List Local) (os : List Oid) (small : l
           let got = slice_get-get_or args x Null there in
           subst (λ v. IsOf classes os start k v) (ap (λ o. unwrap_or o Null) (sym (get_front args (replicate (length m.locals - length args) Null) x there ∙ got))) (given.each x k j (get_or args x Null) got)
 
-module _ (program : Resolved) (m : Method) (os : List Oid) (known : FlatMap) (request : Request) (fuel : ℕ) (found : slice_get program.methods request.method ≡ Some m) (typed : IsTypedMethod program.classes m) (given : AreGiven program.classes m os known request.args) (few : length os ≤ 256) (le : size_of m.body ≤ fuel) where
+module _ (program : Resolved) (m : Method) (os : List Oid) (known : FlatMap) (request : Request) (tid : Tid) (fuel : ℕ) (found : slice_get program.methods request.method ≡ Some m) (typed : IsTypedMethod program.classes m) (given : AreGiven program.classes m os known request.args) (few : length os ≤ 256) (le : size_of m.body ≤ fuel) where
   abbrev at_start : State
-  at_start = record (state_at_start known fuel) { locals = locals_at_start m request.args }
+  at_start = record (state_at_start known tid fuel) { locals = locals_at_start m request.args }
 
   steps : Steps program.classes m.locals os few known (block m.body at_start) at_start typed.after (size_of m.body)
-  steps = block_ends program.classes m.locals os few known (below m.parameters) m.body typed.after typed.body at_start (started program.classes m.locals os few known m refl typed.parameters_fit request.args fuel given) le
+  steps = block_ends program.classes m.locals os few known (below m.parameters) m.body typed.after typed.body at_start (started program.classes m.locals os few known m refl typed.parameters_fit request.args tid fuel given) le
 
   -- the meaning of a request for a method that is well typed
-  meant : meaning program known request fuel ≡ meant_by (goes None steps.next)
+  meant : meaning program known request tid fuel ≡ meant_by (goes None steps.next)
   meant =
-      ap (λ o. meant_by (requested o request.args (state_at_start known fuel))) found
+      ap (λ o. meant_by (requested o request.args (state_at_start known tid fuel))) found
       ∙ ap (λ r. meant_by (and_then r (λ _. gives None))) steps.goes_on
 
-  pub request_ends : (meaning program known request fuel).ending ≡ Ended None
+  pub request_ends : (meaning program known request tid fuel).ending ≡ Ended None
   request_ends = ap (λ w. w.ending) meant
 
-  pub request_stays : StayObjects program.classes known (meaning program known request fuel).map
+  pub request_stays : StayObjects program.classes known (meaning program known request tid fuel).map
   request_stays = subst (StayObjects program.classes known) (ap (λ w. w.map) (sym meant)) steps.holds.stay
 
 -- what is given of one map is given of one in which objects stay of their classes

@@ -11,7 +11,7 @@ use Rattle.fab_eval.specs.declared.state.Halt.TheVariants.{Memory, Ended}
 
 -- the evaluator's state as the meaning has it
 abbrev pub shown : State → m.State
-shown s = record { fuel = s.fuel; locals = s.locals.items; map = s.map; written = s.written.items; touches = s.touches; downs = s.downs.items }
+shown s = record { tid = s.tid; fuel = s.fuel; locals = s.locals.items; map = s.map; written = s.written.items; touches = s.touches; downs = s.downs.items }
 
 abbrev pub end_of : End → m.End
 end_of Failed = m.failed

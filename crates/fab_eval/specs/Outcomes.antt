@@ -42,9 +42,9 @@ outcome_at answers (m.Missing site o) rows written = Need site o
 abbrev pub outcome_by : Answers → Meant → Outcome
 outcome_by answers meant = outcome_at answers meant.ending meant.map meant.written
 
--- the meaning of a job's request over its answers, with 1,000,000 of fuel
+-- the meaning of a job's request over its answers, in its attempt and with 1,000,000 of fuel
 abbrev pub meant_of : Job → Meant
-meant_of job = meaning job.program.value (map_of (objects_of job.answers)) job.request 1000000
+meant_of job = meaning job.program.value (map_of (objects_of job.answers)) job.request job.tid 1000000
 
 abbrev pub outcome_of : Job → Outcome
 outcome_of job = outcome_by job.answers (meant_of job)

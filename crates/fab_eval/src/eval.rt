@@ -1,16 +1,18 @@
 //! Expressions and statements.
-ghost use Rattle.std.specs.Prelude.{◌≡◌, ◌≤◌};
-ghost use Rattle.fab_tree.specs.Meaning.{block, statement, value};
+ghost use Rattle.std.specs.Prelude.{◌≡◌, ◌≤◌, map};
+ghost use Rattle.fab_tree.specs.Meaning.{block, statement, summed, value};
 ghost use Rattle.fab_eval.specs.Gives.{Gives, shown};
 
 use crate::access::{assign, charge, local, read, write};
 use crate::state::{Halt, State};
 use crate::values::{added, compares, holds, int_of};
 use fab_base::{Value, java_sub};
+use fab_tree::Sign;
 use fab_tree::resolved::{Expression, Statement};
 use std::alloc::Global;
 
 /// The value of an expression.
+#[cycle(value)]
 pub(crate) fn value(state: &mut State, expression: &Expression) -> Result<Value, Halt>
     ensures gives { Gives result state.new (value expression.now (shown state.old)) }
     ensures fuel { state.new.fuel ≡ state.old.fuel }
@@ -31,12 +33,8 @@ pub(crate) fn value(state: &mut State, expression: &Expression) -> Result<Value,
             Ok(Value::Int(java_sub(0, int_of(v))))
         }
         Expression::Sum { first, others } => {
-            let mut sum = value(state, first.get())?;
-            for term in others.as_slice() {
-                let v = value(state, &term.1)?;
-                sum = added(term.0, sum, v);
-            }
-            Ok(sum)
+            let head = value(state, first.get())?;
+            summed(state, head, others.as_slice())
         }
         Expression::Compared {
             left,
@@ -49,6 +47,20 @@ pub(crate) fn value(state: &mut State, expression: &Expression) -> Result<Value,
             Ok(Value::Int(answer))
         }
     }
+}
+
+/// The sum of a value and these terms, from the left.
+#[cycle(value)]
+fn summed(state: &mut State, first: Value, others: &[(Sign, Expression)]) -> Result<Value, Halt>
+    ensures gives { Gives result state.new (summed (map (λ t. (t.0, value t.1)) others.now) first (shown state.old)) }
+    ensures fuel { state.new.fuel ≡ state.old.fuel }
+{
+    let mut sum = first;
+    for term in others {
+        let v = value(state, &term.1)?;
+        sum = added(term.0, sum, v);
+    }
+    Ok(sum)
 }
 
 /// The statements of a block, in order.

@@ -4,7 +4,7 @@ ghost use Rattle.std.specs.Prelude.{◌≡◌};
 ghost use Rattle.fab_eval.specs.declared.state.Halt.TheVariants.{Memory};
 
 use crate::touches::Touches;
-use fab_base::{Oid, Stop, Value};
+use fab_base::{Oid, Stop, Tid, Value};
 use fab_map::ObjectMap;
 use std::alloc::{AllocError, AllocFailed};
 
@@ -42,6 +42,7 @@ impl<T: Drop> From<AllocFailed<T>> for Halt {
 /// What an evaluation has at a point.
 #[derive(Drop)]
 pub(crate) struct State {
+    pub(crate) tid: Tid,
     pub(crate) fuel: u32,
     pub(crate) locals: Vec<Value>,
     pub(crate) map: ObjectMap,

@@ -12,7 +12,7 @@ use crate::eval::block;
 use crate::job::{EvalRefused, Job, Outcome};
 use crate::state::{End, Halt, State};
 use crate::touches::{Touches, is_among};
-use fab_base::{NoMemory, Object, Oid, Seq, Value};
+use fab_base::{NoMemory, Object, Oid, Seq, Tid, Value};
 use fab_map::ObjectMap;
 use fab_tree::Resolved;
 use fab_tree::resolved::{Method, Request};
@@ -58,18 +58,23 @@ fn over_a_copy(alloc: Global, job: &Job) -> Result<Found, NoMemory>
     ensures { IfOk result (λ f. Comes job.now.answers (meant_of job.now) f.outcome f.touches f.downs) }
 {
     let answers = job.answers.as_slice();
-    let mut state = state_at_start(alloc, answers)?;
+    let mut state = state_at_start(alloc, job.tid, answers)?;
     let ended = requested(alloc, &job.program, &job.request, &mut state);
     settled(alloc, answers, ended, state)
 }
 
 /// The state in which a request begins, with the objects that were answered.
-fn state_at_start(alloc: Global, answers: &[(Oid, u32, Object)]) -> Result<State, NoMemory>
+fn state_at_start(
+    alloc: Global,
+    tid: Tid,
+    answers: &[(Oid, u32, Object)],
+) -> Result<State, NoMemory>
     requires { IsDistinct is_same (names_of answers.now) }
-    ensures { IfOk result (λ s. shown s ≡ state_at_start (map_of (objects_of answers.now)) 1000000) }
+    ensures { IfOk result (λ s. shown s ≡ state_at_start (map_of (objects_of answers.now)) tid 1000000) }
 {
     let rows = copies(alloc, answers)?;
     Ok(State {
+        tid,
         fuel: FUEL,
         locals: Vec::new(alloc),
         map: ObjectMap::from_rows(rows),

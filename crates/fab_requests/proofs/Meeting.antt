@@ -1,5 +1,5 @@
 -- What an evaluation over answers says of the request over the whole map.
-use Rattle.std.proofs.Common.{◌≡◌, ℕ, Bool, true, false, if◌then◌else◌, List, [], ◌∷◌, ◌++◌, map, filter, Option, Some, None, refl, sym, ap, ◌∙◌}
+use Rattle.std.proofs.Common.{◌≡◌, ℕ, Bool, true, false, if◌then◌else◌, List, [], ◌∷◌, ◌++◌, map, filter, Option, Some, None, refl, sym, ap, ◌∙◌, subst}
 use Rattle.std.proofs.lemmas.Bool.{true≢false}
 use Rattle.std.proofs.lemmas.List.{map-append}
 use Rattle.fab_base.specs.declared.object.Oid.{Oid}
@@ -14,7 +14,7 @@ use Rattle.fab_tree.specs.declared.resolved.Resolved.{Resolved}
 use Rattle.fab_tree.specs.declared.resolved.Request.{Request}
 use Rattle.fab_tree.specs.Meaning as m
 use Rattle.fab_tree.specs.Meaning.{Meant, is_among, meaning}
-use Rattle.fab_tree.specs.Requests.{Course, meant, if_ended, map_behind, in_turn, preceded}
+use Rattle.fab_tree.specs.Requests.{Course, meant, if_ended, map_behind, in_turn, preceded, tid_of}
 use Rattle.fab_eval.specs.Outcomes.{Answers, names_of, objects_of, version_of, writes_in, outcome_at, outcome_of}
 use Rattle.fab_eval.specs.Locality.{LacksToo, IsSameOver}
 use Rattle.fab_eval.specs.declared.job.Job.{Job}
@@ -137,8 +137,8 @@ stays_old program known request old = by_ending (meant program known request).en
     left : AreOld (meant program known request).map
     left o x e =
         elim (is_among o (meant program known request).written) as (λ b. is_among o (meant program known request).written ≡ b → o.boot ≡ 0) [
-          | true ↦ λ i. let t = (leaves known program request 1000000).known o i in old o t.0 t.1
-          | false ↦ λ i. old o x (sym ((leaves known program request 1000000).rest o i) ∙ e)
+          | true ↦ λ i. let t = (leaves known program request (tid_of request) 1000000).known o i in old o t.0 t.1
+          | false ↦ λ i. old o x (sym ((leaves known program request (tid_of request) 1000000).rest o i) ∙ e)
         ] refl
 
     by_ending : (e : m.Ending) → AreOld (if_ended e (meant program known request).map known)
@@ -161,16 +161,16 @@ module _ (known : FlatMap) (job : Job) (ready : IsReady known job) where
   few = map_of (objects_of job.answers)
 
   abbrev over_few : Meant
-  over_few = meaning program few job.request 1000000
+  over_few = meaning program few job.request job.tid 1000000
 
   -- a request that needs an object lacks its answer
   pub needed : (site : ℕ) (o : Oid) → Need site o ≡ outcome_of job → is_among o (names_of job.answers) ≡ false
   needed site o h =
       let e = was_needed job.answers over_few.ending over_few.map over_few.written site o h in
-      unanswered job.answers o (sym (get_answered known job.answers ready.answers o) ∙ missing_is_absent program few job.request 1000000 site o e)
+      unanswered job.answers o (sym (get_answered known job.answers ready.answers o) ∙ missing_is_absent program few job.request job.tid 1000000 site o e)
 
   same : LacksToo known over_few → IsSameOver known over_few (meant program known job.request)
-  same l = over_more few known (part_of known job.answers ready.answers) program job.request 1000000 l
+  same l = subst (λ t. IsSameOver known over_few (meaning program known job.request t 1000000)) ready.tid (over_more few known (part_of known job.answers ready.answers) program job.request job.tid 1000000 l)
 
   -- an ending that isn't for want of an object
   whole : (e : m.Ending) → over_few.ending ≡ e → ((site : ℕ) (o : Oid) → e ≡ m.Missing site o → ⊥) → IsSameOver known over_few (meant program known job.request)
@@ -209,14 +209,14 @@ module _ (known : FlatMap) (job : Job) (ready : IsReady known job) where
     rows = among_rows over_few.written over_few.map
 
     ordered : ascends over_few.map ≡ true
-    ordered = (leaves few program job.request 1000000).ordered (ascends-put_all (objects_of job.answers) [] refl)
+    ordered = (leaves few program job.request job.tid 1000000).ordered (ascends-put_all (objects_of job.answers) [] refl)
 
     row_at : (o : Oid) → get (put_all rows known) o ≡ get (meant program known job.request).map o
     row_at o = get-put_all rows known o (distinct_from_ascends rows (ascends_among over_few.written over_few.map ordered)) ∙ by_name (is_among o over_few.written) refl
       where
         by_name : (b : Bool) → is_among o over_few.written ≡ b → first_of (get rows o) (get known o) ≡ get (meant program known job.request).map o
         by_name true i =
-            let t = (leaves few program job.request 1000000).there o i in
+            let t = (leaves few program job.request job.tid 1000000).there o i in
             ap (λ x. first_of x (get known o)) (get_written over_few.written over_few.map o i ∙ t.1) ∙ sym (over_all.at_written o i ∙ t.1)
         by_name false i = ap (λ x. first_of x (get known o)) (get_unwritten over_few.written over_few.map o i) ∙ sym (over_all.at_others o i)
 
@@ -224,7 +224,7 @@ module _ (known : FlatMap) (job : Job) (ready : IsReady known job) where
     put_behind =
         ap (λ w. put_all (objects_of w) known) at_end.1
         ∙ ap (λ r. put_all r known) (unversioned job.answers rows)
-        ∙ same_from_get (put_all rows known) (meant program known job.request).map (ascends-put_all rows known ready.ordered) ((leaves known program job.request 1000000).ordered ready.ordered) row_at
+        ∙ same_from_get (put_all rows known) (meant program known job.request).map (ascends-put_all rows known ready.ordered) ((leaves known program job.request (tid_of job.request) 1000000).ordered ready.ordered) row_at
 
     pub map_put : put_all (objects_of writes) known ≡ map_behind program known job.request
     map_put = put_behind ∙ ap (λ x. if_ended x (meant program known job.request).map known) ended

@@ -6,6 +6,7 @@ use Rattle.fab_base.specs.declared.object.Value.{Value}
 use Rattle.fab_base.specs.declared.object.Value.TheVariants.{Int, Null, Ref}
 use Rattle.fab_base.specs.FlatMap.{FlatMap, get, ascends}
 use Rattle.fab_tree.specs.Meaning.{is_among}
+use Rattle.fab_tree.specs.Requests.{tid_of}
 use Rattle.fab_eval.specs.Outcomes.{Answers, names_of}
 use Rattle.fab_eval.specs.declared.job.Job.{Job}
 
@@ -38,9 +39,9 @@ with_arguments known answers (v ∷ vs) = with_arguments known (with_argument kn
 abbrev pub AreOld : FlatMap → Type 0
 AreOld known = (o : Oid) (x : Object) → get known o ≡ Some x → o.boot ≡ 0
 
--- a job over objects of this map
+-- a job over objects of this map, in the attempt of its request
 pub record IsReady (known : FlatMap) (job : Job) : Type 0 where
-  pub boot : job.tid.boot ≡ 1
+  pub tid : job.tid ≡ tid_of job.request
   pub answers : AreAnswers known job.answers
   pub old : AreOld known
   pub ordered : ascends known ≡ true

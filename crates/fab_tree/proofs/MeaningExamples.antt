@@ -22,6 +22,7 @@ use Rattle.fab_tree.specs.declared.resolved.Method.{Method}
 use Rattle.fab_tree.specs.declared.resolved.Resolved.{Resolved}
 use Rattle.fab_tree.specs.declared.resolved.Request.{Request}
 use Rattle.fab_tree.specs.declared.start.Name.{Name}
+use Rattle.fab_tree.specs.Requests.{tid_of}
 use Rattle.fab_tree.specs.Meaning.{Meant, Ended, Failed, Stopped, Missing, meaning, State, goes, ends, stopped, is_among, is_full, with_written, replace, equals}
 use Rattle.fab_tree.proofs.Forms.{number_means, read_means, sum_means, compared_means, assign_means, write_means, if_means}
 
@@ -59,7 +60,7 @@ request args = record { worker = 0; number = 1; method = 0; args = args }
 
 -- what a body means, over so many fuel
 abbrev runs : ℕ → List Statement → List Value → FlatMap → Meant
-runs fuel body args known = meaning (program body) known (request args) fuel
+runs fuel body args known = meaning (program body) known (request args) (tid_of (request args)) fuel
 
 abbrev pub both : List Value
 both = Ref (root 1) ∷ Ref (root 2) ∷ []
@@ -148,7 +149,7 @@ gone_into : (runs 3 guarded both (rows (pos 4) (pos 0))).map ≡ rows (negsuc 0)
 gone_into = rw (if_means, compared_means, read_means, number_means, write_means, number_means, write_means, number_means) refl
 
 -- a method that isn't there gives nothing
-no_method : meaning (program []) [] (record { worker = 0; number = 1; method = 1; args = [] }) 0 ≡ record { ending = Ended None; map = []; written = []; touches = []; downs = [] }
+no_method : meaning (program []) [] (record { worker = 0; number = 1; method = 1; args = [] }) (tid_of (request [])) 0 ≡ record { ending = Ended None; map = []; written = []; touches = []; downs = [] }
 no_method = refl
 
 -- ---- limits

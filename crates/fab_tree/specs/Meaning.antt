@@ -7,6 +7,7 @@ use Rattle.std.specs.Int.{w32, int_wrap}
 use Rattle.std.specs.Ordering.{int_eq}
 use Rattle.fab_base.specs.declared.object.Oid.{Oid}
 use Rattle.fab_base.specs.declared.object.Object.{Object}
+use Rattle.fab_base.specs.declared.object.Tid.{Tid}
 use Rattle.fab_base.specs.declared.object.Value.{Value}
 use Rattle.fab_base.specs.declared.object.Value.TheVariants.{Int, Null, Ref}
 use Rattle.fab_base.specs.declared.object.Stop.{Stop}
@@ -26,8 +27,9 @@ use Rattle.fab_tree.specs.declared.resolved.Request.{Request}
 
 -- ---- states and runs
 
--- What a run has at a point: the fuel that is left, the locals, the map with the names that were written in it (of objects that were there before), the touches in order, each a site and an object, and the values of downgrades in order, each with its site.
+-- What a run has at a point: the attempt that it is, which names the objects that it makes, the fuel that is left, the locals, the map with the names that were written in it (of objects that were there before), the touches in order, each a site and an object, and the values of downgrades in order, each with its site.
 pub record State : Type 0 where
+  pub tid : Tid
   pub fuel : ℕ
   pub locals : List Value
   pub map : FlatMap
@@ -54,9 +56,6 @@ and_then (ends e s) f = ends e s
 
 abbrev pub gives : {A : Type 0} → A → M A
 gives a s = goes a s
-
-abbrev pub stops : {A : Type 0} → End → M A
-stops e s = ends e s
 
 infixl 10 ◌>>=◌
 abbrev pub ◌>>=◌ : {A B : Type 0} → M A → (A → M B) → M B
@@ -279,9 +278,9 @@ abbrev pub meant_by : Run (Option Value) → Meant
 meant_by (goes result s) = meant_at (Ended result) s
 meant_by (ends e s) = meant_at (ending_at e) s
 
-abbrev pub state_at_start : FlatMap → ℕ → State
-state_at_start known fuel = record { fuel = fuel; locals = []; map = known; written = []; touches = []; downs = [] }
+abbrev pub state_at_start : FlatMap → Tid → ℕ → State
+state_at_start known tid fuel = record { tid = tid; fuel = fuel; locals = []; map = known; written = []; touches = []; downs = [] }
 
--- the meaning of a request in a program, over a map and with so much fuel
-abbrev pub meaning : Resolved → FlatMap → Request → ℕ → Meant
-meaning program known request fuel = meant_by (requested (slice_get program.methods request.method) request.args (state_at_start known fuel))
+-- the meaning of a request in a program, over a map, in an attempt and with so much fuel
+abbrev pub meaning : Resolved → FlatMap → Request → Tid → ℕ → Meant
+meaning program known request tid fuel = meant_by (requested (slice_get program.methods request.method) request.args (state_at_start known tid fuel))

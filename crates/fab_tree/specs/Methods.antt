@@ -34,7 +34,7 @@ pub data SameSort : Sort → Sort → Type 0 where
   int : SameSort sorts.Int sorts.Int
   class : {x y : Name} → x.text ≡ y.text → SameSort (sorts.Class x) (sorts.Class y)
 
--- the locals that are known at a place, the last declared first
+-- the locals that are known at a place: those that the body declared, the last first, and then the parameters
 abbrev pub Locals : Type 0
 Locals = List (List ℕ × Sort)
 
@@ -137,14 +137,14 @@ pub data AreGivenTo (s : Start) : List Parameter → List Given → Type 0 where
   none : AreGivenTo s [] []
   one_more : {p : Parameter} {ps : List Parameter} {g : Given} {gs : List Given} → Fits s p.sort g.literal → AreGivenTo s ps gs → AreGivenTo s (p ∷ ps) (g ∷ gs)
 
--- a request is for a declared method
+-- a request is for a declared method, with an argument for each parameter, of the parameter's type
 pub record IsKnownRequest (s : Start) (methods : List Method) (r : RequestText) : Type 0 where
   pub method : Method
   pub declared : Contains methods method
   pub named : method_name method ≡ r.method.text
   pub arguments : AreGivenTo s method.parameters r.arguments
 
--- a session is an honest worker's
+-- a session is an honest worker's, and each of its requests keeps the rules
 pub record IsKnownSession (s : Start) (methods : List Method) (x : Session) : Type 0 where
   pub worker : (n : Node) × Contains s.nodes n × (node_name n ≡ x.worker.text) × (n.role ≡ roles.Worker false)
   pub requests : All (λ r. IsKnownRequest s methods r) x.requests

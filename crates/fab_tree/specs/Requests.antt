@@ -1,13 +1,18 @@
 -- What requests do one after the other over a flat map.
 use Rattle.std.specs.Prelude.{List, [], ◌∷◌}
+use Rattle.fab_base.specs.declared.object.Tid.{Tid}
 use Rattle.fab_base.specs.FlatMap.{FlatMap}
 use Rattle.fab_tree.specs.declared.resolved.Resolved.{Resolved}
 use Rattle.fab_tree.specs.declared.resolved.Request.{Request}
 use Rattle.fab_tree.specs.Meaning.{Ending, Ended, Failed, Stopped, Missing, Meant, meaning}
 
+-- the attempt of a request: its worker's, in boot 1, with the request's number
+abbrev pub tid_of : Request → Tid
+tid_of request = record { worker = request.worker; boot = 1; number = request.number }
+
 -- a request has 1,000,000 of fuel
 abbrev pub meant : Resolved → FlatMap → Request → Meant
-meant program known request = meaning program known request 1000000
+meant program known request = meaning program known request (tid_of request) 1000000
 
 -- the first of these maps behind a request that ended, the other behind any other ending
 abbrev pub if_ended : Ending → FlatMap → FlatMap → FlatMap

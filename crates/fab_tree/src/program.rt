@@ -91,8 +91,8 @@ pub struct Parameter {
     pub label: Name,
 }
 
-/// `method m(..) begin B fails { .. }`: `begin` is the label that a caller must be under, and
-/// `fails` says that the method may fail.
+/// `method m(..) begin B fails { .. }`: `begin` is the label that the method begins under, to which
+/// must flow what a call of it depends on, and `fails` says that the method may fail.
 #[derive(Debug, Drop)]
 pub struct Method {
     pub name: Name,

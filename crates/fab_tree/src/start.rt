@@ -54,7 +54,7 @@ pub struct LabelText {
     pub policies: Seq<PolicyText>,
 }
 
-/// The type of a field.
+/// The type of a field, a parameter or a local.
 #[derive(Debug, Drop)]
 pub enum Sort {
     Int,
@@ -78,7 +78,7 @@ pub struct Class {
     pub fields: Seq<Field>,
 }
 
-/// What a root's field begins with: a number, null, or a root.
+/// A value as it is written, for a root's field or a request's argument: a number, null, or a root.
 #[derive(Debug, Drop)]
 pub enum Literal {
     Int(i32),

@@ -12,7 +12,7 @@ returns-then-branch c =
     let a = rw c.if-branch.true at c.in_ok-answer.ensures in
     record {
       ready = record {
-        boot = ready.boot;
+        tid = ready.tid;
         answers = subst (AreAnswers c.args.objects.now) (sym a.2) (one_more c.args.objects.now c.args.oid 1 a.0 c.args.job.answers ready.answers (needed c.args.objects.now c.args.job ready c.args.site c.args.oid c.requires.needed) a.1);
         old = ready.old;
         ordered = ready.ordered;

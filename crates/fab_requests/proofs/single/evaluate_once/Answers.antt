@@ -9,7 +9,7 @@ pub evaluate-requires-clause-distinct : goal.evaluate-requires-clause-distinct
 evaluate-requires-clause-distinct c = distinct_answers c.args.objects.now c.args.job.answers c.requires.answers
 
 pub evaluate-requires-clause-made_before : goal.evaluate-requires-clause-made_before
-evaluate-requires-clause-made_before c = made_before c.args.objects.now c.args.job.tid c.args.job.answers c.requires.boot c.requires.old c.requires.answers
+evaluate-requires-clause-made_before c = made_before c.args.objects.now c.args.job.tid c.args.job.answers (ap (λ t. t.boot) c.requires.tid) c.requires.old c.requires.answers
 
 pub returns-in-Ended : goal.returns-in-Ended
 returns-in-Ended c =

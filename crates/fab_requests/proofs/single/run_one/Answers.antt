@@ -5,7 +5,7 @@ use Rattle.fab_requests.proofs.single.run_one.Goals as goal
 
 pub turns-init : goal.turns-init
 turns-init c = record {
-  ready = record { boot = refl; answers = subst (AreAnswers c.args.objects.now) (sym (c.in_ok-answers.ensures ∙ ap (with_arguments c.args.objects.now []) c.as_slice.ensures)) (with_values c.args.objects.now [] c.args.request.args tt); old = c.requires; ordered = c.rows-ordered.ensures.ascending };
+  ready = record { tid = refl; answers = subst (AreAnswers c.args.objects.now) (sym (c.in_ok-answers.ensures ∙ ap (with_arguments c.args.objects.now []) c.as_slice.ensures)) (with_values c.args.objects.now [] c.args.request.args tt); old = c.requires; ordered = c.rows-ordered.ensures.ascending };
   program = c.in_ok-clone.ensures.cases;
   request = refl;
 }
