@@ -1,4 +1,4 @@
-use Rattle.std.proofs.Common.{◌≡◌, ◌≤◌, suc, Bool, true, false, cond, List, [], ◌∷◌, length, Option, Some, arith, sym, ap, subst}
+use Rattle.std.proofs.Common.{◌≡◌, ◌≤◌, suc, Bool, true, false, cond, List, [], ◌∷◌, length, Some, arith, sym, ap, subst}
 use Rattle.std.specs.Prelude.{All, find}
 use Rattle.std.specs.Str.{bytes_eq}
 use Rattle.fab_tree.specs.declared.start.Class.{Class}
