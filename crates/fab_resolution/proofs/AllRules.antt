@@ -1,10 +1,9 @@
 -- All rules together.
-use Rattle.std.proofs.Common.{◌≡◌, ℕ, zero, suc, ◌≤◌, Bool, List, [], ◌∷◌, length, sym, ◌∙◌, subst, arith}
+use Rattle.std.proofs.Common.{◌≡◌, ℕ, Bool, List, sym, ◌∙◌, subst}
 use Rattle.std.specs.Prelude.{All, IsTrue, ◌↔◌}
 use Rattle.fab_tree.specs.declared.start.Start.{Start}
 use Rattle.fab_tree.specs.declared.program.Method.{Method}
 use Rattle.fab_tree.specs.declared.program.Session.{Session}
-use Rattle.fab_tree.specs.Counts.{requests_in}
 use Rattle.fab_tree.specs.Names.{Distinct, KeepsNames}
 use Rattle.fab_tree.specs.Methods.{method_name, session_name, IsKnownMethod, IsKnownSession, KeepsRules}
 use Rattle.fab_names.specs.Known.{is_distinct}
@@ -33,9 +32,3 @@ left_to_sessions s seen ms xs b names e f g methods h =
     let T : Start → Type 0 = λ t. IsTrue b ↔ KeepSessions s t.methods t.sessions in
     let both : IsTrue b ↔ KeepSessions s s.methods s.sessions = subst T e (subst S g (subst R f h)) in
     (λ t. rules_to s names kept (both.0 t), λ k. both.1 (k.in_sessions, k.sessions))
-
--- where all requests are so many at most, so are those of each session
-pub each_few : (xs : List Session) (most : ℕ) → requests_in xs ≤ most → All (λ x. length x.requests ≤ most) xs
-each_few [] most h k d w = absurd (omega (arith, w))
-each_few (x ∷ xs) most h zero d w = omega (arith, h)
-each_few (x ∷ xs) most h (suc k) d w = each_few xs most (omega (arith, h)) k d (omega (arith, w))

@@ -1,5 +1,5 @@
 pub mod AllRules
-pub mod Found
 pub mod InTurn
 pub mod Parts
 pub mod SiteCounts
+pub mod Tests

@@ -1,5 +1,5 @@
 -- The number of the next site behind what is numbered: so many sites further.
-use Rattle.std.proofs.Common.{◌≡◌, ℕ, suc, ◌+◌, ◌<◌, ◌≤◌, List, [], ◌∷◌, ◌++◌, map, length, get_or, drop, Option, Some, None, Result, Ok, Err, refl, sym, ap, ◌∙◌, subst, arith, add-one, drop-cons, append_assoc, append-nil, drop_of_length-le}
+use Rattle.std.proofs.Common.{◌≡◌, ℕ, suc, ◌+◌, ◌≤◌, List, [], ◌∷◌, map, Some, None, sym, ap, ◌∙◌, subst, arith}
 use Rattle.fab_tree.specs.declared.start.Start.{Start}
 use Rattle.fab_tree.specs.declared.program.Sign.{Sign}
 use Rattle.fab_tree.specs.declared.program.Expression.{Expression, ind-Expression, roll-Expression, fold-roll-Expression, map-Expression}
@@ -14,7 +14,7 @@ use Rattle.fab_tree.specs.declared.resolved.Expression.{Expression as NumberedEx
 use Rattle.fab_tree.specs.declared.resolved.Statement.{Statement as NumberedStatement}
 use Rattle.fab_tree.specs.Counts.{total, total_of_terms, sites_step, sites, sites_of_step, sites_of, sites_of_block, sites_of_methods}
 use Rattle.fab_tree.specs.Methods.{locals_of}
-use Rattle.fab_tree.specs.Numbering.{Numbered, in_turn, terms_in_turn, other_in_turn, expression_step, expression_of, statement_step, statement_of, method_of}
+use Rattle.fab_tree.specs.Numbering.{Numbered, in_turn, terms_in_turn, expression_step, expression_of, statement_step, statement_of, method_of}
 
 module _ (start : Start) (locals : List Parameter) where
   -- ---- expressions

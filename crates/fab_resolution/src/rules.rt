@@ -30,8 +30,7 @@ fn keep_methods(alloc: Global, start: &Start, methods: &[Method]) -> Result<bool
     if !are_distinct(methods) {
         return Ok(false);
     }
-    let known = are_known_methods(alloc, start, methods)?;
-    Ok(known)
+    are_known_methods(alloc, start, methods)
 }
 
 fn are_known_methods(alloc: Global, start: &Start, methods: &[Method]) -> Result<bool, NoMemory>

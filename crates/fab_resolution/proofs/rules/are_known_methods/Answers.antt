@@ -1,5 +1,5 @@
 use Rattle.fab_tree.specs.Methods.{IsKnownMethod}
-use Rattle.fab_resolution.proofs.Found.{one_passed}
+use Rattle.fab_resolution.proofs.Tests.{one_passed}
 use Rattle.fab_resolution.proofs.rules.are_known_methods.Goals as goal
 
 pub loop-method-preserved : goal.loop-method-preserved

@@ -1,5 +1,5 @@
 use Rattle.fab_tree.specs.Methods.{IsKnownSession}
-use Rattle.fab_resolution.proofs.Found.{one_passed, not_all}
+use Rattle.fab_resolution.proofs.Tests.{one_passed, not_all}
 use Rattle.fab_resolution.proofs.rules.are_known_sessions.Goals as goal
 
 pub loop-session-preserved : goal.loop-session-preserved

@@ -1,16 +1,7 @@
--- What a scan finds or has passed.
-use Rattle.std.proofs.Common.{◌≡◌, ℕ, suc, ◌+◌, ◌<◌, Bool, true, false, cond, List, [], ◌∷◌, length, get_or, Some, refl, sym, ap, ◌∙◌, subst, ◌⊎◌, inl, inr, arith, eq-or-lt_of_le}
-use Rattle.std.specs.Prelude.{All, find, IsTrue, ◌↔◌, ◌&&◌}
+-- A loop that asks each, and two tests in a row.
+use Rattle.std.proofs.Common.{◌≡◌, ℕ, ◌+◌, ◌<◌, Bool, true, false, List, length, get_or, sym, ap, ◌∙◌, subst, ◌⊎◌, inl, inr, arith, eq-or-lt_of_le}
+use Rattle.std.specs.Prelude.{All, IsTrue, ◌↔◌}
 use Rattle.std.proofs.lemmas.List.{get_or_default}
-
--- what is found is one of the list
-pub find_keeps : {A : Type 0} (P : A → Type 0) (p : A → Bool) (xs : List A) (x : A) → All P xs → find p xs ≡ Some x → P x
-find_keeps P p [] x h e = absurd (cc)
-find_keeps P p (y ∷ ys) x h e = by (p y) (find_keeps P p ys x (λ k d w. h (suc k) d (omega (arith, w)))) e
-  where
-    by : (b : Bool) → (find p ys ≡ Some x → P x) → cond b (Some y) (find p ys) ≡ Some x → P x
-    by true later e = let same : y ≡ x = cc in subst P same (h 0 y (omega arith))
-    by false later e = later e
 
 -- ---- a loop that asks each
 
@@ -28,11 +19,6 @@ module _ {A : Type 0} (P : A → Type 0) (xs : List A) (i : ℕ) (x : A) (within
   not_all f = (λ h. absurd (cc (h)), λ all. let t = test.1 (subst P (sym is) (all i x within)) in sym f ∙ t)
 
 -- ---- two tests
-
-pub both : {P Q : Type 0} (a b : Bool) → IsTrue a ↔ P → IsTrue b ↔ Q → IsTrue (a && b) ↔ (P × Q)
-both true true p q = (λ h. (p.0 refl, q.0 refl), λ k. refl)
-both true false p q = (λ h. absurd (cc (h)), λ k. q.1 k.1)
-both false b p q = (λ h. absurd (cc (h)), λ k. p.1 k.0)
 
 pub first_fails : {P Q : Type 0} (a : Bool) → IsTrue a ↔ P → a ≡ false → IsTrue false ↔ (P × Q)
 first_fails a p f = (λ h. absurd (cc (h)), λ k. sym f ∙ p.1 k.0)
