@@ -7,7 +7,7 @@ use Rattle.fab_tree.specs.Numbering.{resolved}
 use Rattle.fab_tree.specs.Evaluation.{Spells, evaluation_text, line}
 use Rattle.fab_typing.proofs.KnownRequests.{requests_end}
 use Rattle.fab_typing.proofs.ShortTexts.{short_text}
-use Rattle.fab_top.specs.Reply.{AllEnd, AskEvaluation, SpellsSome, SpellsNone, Replies, usage, evaluated, not_built, RepliesWith, Ends, Exactly, WritesEvaluation}
+use Rattle.fab_top.specs.Reply.{AllEnd, AskEvaluation, SpellsOne, SpellsSome, SpellsNone, Replies, usage, evaluated, not_built, RepliesWith, Ends, Exactly, WritesEvaluation}
 use Rattle.fab_top.specs.declared.status.Status.{Status}
 use Rattle.fab_top.specs.declared.status.Status.TheVariants.{Ok, Usage, ReadFault, WriteFault, Memory, NotBuilt}
 
@@ -26,7 +26,7 @@ long_none h s p = omega (arith, p.short)
 
 reply_of_long : {words : List (String Global)} {text reply : List ℕ} {status : Status} (more : List ℕ) → AskEvaluation words → length text ≡ 1000001 → Replies words text status reply → Replies words (text ++ more) status reply
 reply_of_long more asks l (usage n) = absurd (n asks)
-reply_of_long more asks l (evaluated a p) = absurd (omega (arith, p.short))
+reply_of_long more asks l (evaluated a p) = let q = p.spelled.short in absurd (omega (arith, q))
 reply_of_long {text = text} more asks l (not_built a n) = not_built a (long_none (omega (arith, length-append text more)))
 
 told_by : {words : List (String Global)} (l l' : Option (List ℕ)) {text reply : List ℕ} {status : Status} → AskEvaluation words → Consumes l l' text → IsAtEnd l' ⊎ (length text ≡ 1000001) → Replies words text status reply → IfSome l (λ xs. Replies words xs status reply)
@@ -55,7 +55,7 @@ line_of_usage (usage n) = refl
 line_of_not_built : {words : List (String Global)} {text reply : List ℕ} → Replies words text NotBuilt reply → reply ≡ line (codes "not built")
 line_of_not_built (not_built a n) = refl
 
-spells_of : {words : List (String Global)} {text reply : List ℕ} → Replies words text Ok reply → (s : Start) × Spells text s × (reply ≡ evaluation_text (resolved s))
+spells_of : {words : List (String Global)} {text reply : List ℕ} → Replies words text Ok reply → (s : Start) × SpellsOne text s × (reply ≡ evaluation_text (resolved s))
 spells_of (evaluated {s = s} a p) = (s, p, refl)
 
 none_of : {words : List (String Global)} {text reply : List ℕ} → Replies words text NotBuilt reply → SpellsNone text
@@ -80,8 +80,16 @@ module _ (words : List (String Global)) (l l' w w' : Option (List ℕ)) where
   ok_replies Memory e h = absurd (cc)
   ok_replies NotBuilt e h = absurd (cc)
 
+  pub not_built_replies : (status : Status) → Ends words status l l' w w' → status ≡ NotBuilt → RepliesWith NotBuilt words l l' w w'
+  not_built_replies NotBuilt e h = e
+  not_built_replies Ok e h = absurd (cc)
+  not_built_replies Usage e h = absurd (cc)
+  not_built_replies ReadFault e h = absurd (cc)
+  not_built_replies WriteFault e h = absurd (cc)
+  not_built_replies Memory e h = absurd (cc)
+
   pub ok_exactly : (status : Status) → AskEvaluation words → status ≢ ReadFault → Ends words status l l' w w' → IfSome l (λ text. Exactly status Ok (SpellsSome text))
-  ok_exactly Ok asks f e = some_more l (λ text r. let s = spells_of r in record { only = λ h. (s.0, s.1); comes = λ p. inl refl }) (told asks e)
+  ok_exactly Ok asks f e = some_more l (λ text r. let s = spells_of r in record { only = λ h. (s.0, s.1.spelled); comes = λ p. inl refl }) (told asks e)
   ok_exactly Usage asks f e = absurd (asks_none e.replies asks)
   ok_exactly ReadFault asks f e = absurd (f refl)
   ok_exactly WriteFault asks f e = all_some l (λ text. record { only = λ h. absurd (cc); comes = λ p. inr (inr refl) })
@@ -89,7 +97,7 @@ module _ (words : List (String Global)) (l l' w w' : Option (List ℕ)) where
   ok_exactly NotBuilt asks f e = some_more l (λ text r. record { only = λ h. absurd (cc); comes = λ p. absurd (none_of r p.0 p.1) }) (told asks e)
 
   pub not_built_exactly : (status : Status) → AskEvaluation words → status ≢ ReadFault → Ends words status l l' w w' → IfSome l (λ text. Exactly status NotBuilt (SpellsNone text))
-  not_built_exactly Ok asks f e = some_more l (λ text r. let s = spells_of r in record { only = λ h. absurd (cc); comes = λ n. absurd (n s.0 s.1) }) (told asks e)
+  not_built_exactly Ok asks f e = some_more l (λ text r. let s = spells_of r in record { only = λ h. absurd (cc); comes = λ n. absurd (n s.0 s.1.spelled) }) (told asks e)
   not_built_exactly Usage asks f e = absurd (asks_none e.replies asks)
   not_built_exactly ReadFault asks f e = absurd (f refl)
   not_built_exactly WriteFault asks f e = all_some l (λ text. record { only = λ h. absurd (cc); comes = λ p. inr (inr refl) })
@@ -107,7 +115,7 @@ pub not_built_written : {words : List (String Global)} {l l' w w' : Option (List
 not_built_written {w = w} {w' = w'} e = subst (Appends w w') (line_of_not_built e.replies) e.all
 
 pub ok_written : {words : List (String Global)} {l l' w w' : Option (List ℕ)} → RepliesWith Ok words l l' w w' → IfSome l (λ text. WritesEvaluation text w w')
-ok_written {l = l} {w = w} {w' = w'} e = some_more l (λ text r. let s = spells_of r in (s.0, s.1, requests_end_of text s.0 s.1, subst (Appends w w') s.2 e.all)) (told (asks_ok e.replies) e)
+ok_written {l = l} {w = w} {w' = w'} e = some_more l (λ text r. let s = spells_of r in (s.0, s.1, requests_end_of text s.0 s.1.spelled, subst (Appends w w') s.2 e.all)) (told (asks_ok e.replies) e)
 
 read_whole : (l l' : Option (List ℕ)) (text : List ℕ) → Consumes l l' text → IsAtEnd l' ⊎ (length text ≡ 1000001) → IfSome l (λ xs. length xs ≤ 1000000 → IsAtEnd l')
 read_whole None l' text c w = tt

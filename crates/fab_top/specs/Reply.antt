@@ -19,9 +19,14 @@ AskEvaluation words = map string_bytes words ≡ codes "eval" ∷ []
 abbrev pub SpellsSome : List ℕ → Type 0
 SpellsSome text = (s : Start) × Spells text s
 
--- this is the bundle that the text spells, with numbers for names
+-- the text spells this bundle, and no other
+pub record SpellsOne (text : List ℕ) (s : Start) : Type 0 where
+  pub spelled : Spells text s
+  pub only : (other : Start) → Spells text other → other ≡ s
+
+-- this is the one bundle that the text spells, with numbers for names
 abbrev pub SpellsResolved : List ℕ → Resolved → Type 0
-SpellsResolved text r = (s : Start) × Spells text s × (r ≡ resolved s)
+SpellsResolved text r = (s : Start) × SpellsOne text s × (r ≡ resolved s)
 
 -- each request of the bundle ends, with no value
 abbrev pub AllEnd : Resolved → Type 0
@@ -34,7 +39,7 @@ SpellsNone text = (s : Start) → Spells text s → ⊥
 -- Replies words text status written: the status, and what is written, for these words and the text that was read.
 pub data Replies : List (String Global) → List ℕ → Status → List ℕ → Type 0 where
   usage : {words : List (String Global)} {text : List ℕ} → (AskEvaluation words → ⊥) → Replies words text Usage (line (codes "usage"))
-  evaluated : {words : List (String Global)} {text : List ℕ} {s : Start} → AskEvaluation words → Spells text s → Replies words text Ok (evaluation_text (resolved s))
+  evaluated : {words : List (String Global)} {text : List ℕ} {s : Start} → AskEvaluation words → SpellsOne text s → Replies words text Ok (evaluation_text (resolved s))
   not_built : {words : List (String Global)} {text : List ℕ} → AskEvaluation words → SpellsNone text → Replies words text NotBuilt (line (codes "not built"))
 
 -- this was read for the words: the text where they ask for an evaluation, and else nothing
@@ -73,6 +78,6 @@ pub record Exactly (status S : Status) (P : Type 0) : Type 0 where
   pub only : status ≡ S → P
   pub comes : P → (status ≡ S) ⊎ ((status ≡ Memory) ⊎ (status ≡ WriteFault))
 
--- each request of the bundle that the text spells ends, and the bundle's evaluation is written
+-- the text spells one bundle, each of whose requests ends, and this bundle's evaluation is written
 abbrev pub WritesEvaluation : List ℕ → Option (List ℕ) → Option (List ℕ) → Type 0
-WritesEvaluation text written written' = (s : Start) × Spells text s × AllEnd (resolved s) × Appends written written' (evaluation_text (resolved s))
+WritesEvaluation text written written' = (s : Start) × SpellsOne text s × AllEnd (resolved s) × Appends written written' (evaluation_text (resolved s))

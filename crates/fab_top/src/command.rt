@@ -92,17 +92,20 @@ pub fn fab<S: Source, K: Sink>(
     ensures taken { TakesAtMost 1000001 (S.left source.old) (S.left source.new) }
     ensures whole { (result ≡ Ok) ⊎ (result ≡ NotBuilt) → IfSome (S.left source.old) (λ text. length text ≤ 1000000 → IsAtEnd (S.left source.new)) }
 
-    // `Ok` comes exactly where the text spells a bundle of the form; each of its requests ends, and its
-    // evaluation is written.
+    // `Ok` comes exactly where the text spells a bundle of the form. It spells no other, each request of
+    // the bundle ends, and its evaluation is written.
     ensures ok { AskEvaluation words.now → result ≢ ReadFault → IfSome (S.left source.old) (λ text. Exactly result Ok (SpellsSome text)) }
     ensures ok_text { result ≡ Ok → IfSome (S.left source.old) (λ text. WritesEvaluation text (K.written sink.old) (K.written sink.new)) }
 
-    // Also of a source that doesn't tell: what was written is the evaluation of a text that was read from it.
+    // Of a source that doesn't tell: what was written is the evaluation of some text.
     ensures ok_reply { result ≡ Ok → RepliesWith Ok words.now (S.left source.old) (S.left source.new) (K.written sink.old) (K.written sink.new) }
 
     // `NotBuilt` comes exactly where it spells none, and has a line of its own.
     ensures not_built { AskEvaluation words.now → result ≢ ReadFault → IfSome (S.left source.old) (λ text. Exactly result NotBuilt (SpellsNone text)) }
     ensures not_built_line { result ≡ NotBuilt → Appends (K.written sink.old) (K.written sink.new) (line (codes "not built")) }
+
+    // It comes of a text that was read to its end, or of 1,000,001 bytes.
+    ensures not_built_reply { result ≡ NotBuilt → RepliesWith NotBuilt words.now (S.left source.old) (S.left source.new) (K.written sink.old) (K.written sink.new) }
 
     // `ReadFault` comes only where the source's faults rose, and nothing is written.
     ensures read_fault { result ≡ ReadFault → Rose (S.faults source.old) (S.faults source.new) }
