@@ -121,11 +121,6 @@ module _ {A : Type 0} (text : A → List ℕ) where
   pub is_among-one : (items : List A) (x : A) → Contains items x → is_among text (text x) items ≡ true
   is_among-one items x c = any_from (λ y. bytes_eq (text y) (text x)) items x c ((bytes_eq-Decides (text x) (text x)).1 refl)
 
-  -- a test that compares with the name finds what is among
-  pub any_same : (name : List ℕ) (p : A → Bool) → ((x : A) → p x ≡ bytes_eq (text x) name) → (items : List A) → list_any p items ≡ is_among text name items
-  any_same name p same [] = refl
-  any_same name p same (x ∷ xs) = cc (same x, any_same name p same xs)
-
   -- ---- names that are declared once
 
   pub distinct_to : (items : List A) → is_distinct text items ≡ true → Distinct text items

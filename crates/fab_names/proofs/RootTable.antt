@@ -1,94 +1,108 @@
 -- The names of roots in a table, in which each has its root's number.
-use Rattle.std.proofs.Common.{◌≡◌, ℕ, ◌+◌, ◌<◌, ◌≤◌, suc, Bool, true, false, not, List, [], ◌∷◌, ◌++◌, length, get_or, take, drop, map, refl, sym, subst, ap, ◌∙◌, Bor, if◌then◌else◌, drop-cons}
+use Rattle.std.proofs.Common.{◌≡◌, ℕ, ◌+◌, ◌<◌, ◌≤◌, suc, Bool, true, false, cond, List, [], ◌∷◌, ◌++◌, length, get_or, take, drop, Option, Some, refl, sym, subst, ap, ◌∙◌, arith, Bor, BTreeMap, drop-cons}
+use Rattle.std.specs.BTreeMap.{get_by, is_at, IsEmpty, UpdatesBy}
+use Rattle.std.specs.Cmp.Lexicographic.{slice_cmp}
 use Rattle.std.specs.List.{list_any, position}
-use Rattle.std.specs.Option.{unwrap_or}
+use Rattle.std.specs.Map.{lookup}
+use Rattle.std.specs.Option.{is_some, unwrap_or, option_map}
+use Rattle.std.specs.Ordering.{nat_cmp}
 use Rattle.std.specs.Str.{bytes_eq}
-use Rattle.std.proofs.lemmas.List.{take_more, take-append-drop, take_all, map-append}
+use Rattle.std.proofs.lemmas.Bool.Decides.{nat_tests}
+use Rattle.std.proofs.lemmas.List.{take_more, take-append-drop, take_all, length-take}
+use Rattle.std.proofs.lemmas.Map.Text.{btree_map_updates_str}
+use Rattle.std.proofs.lemmas.Slice.Eq.{bytes_eq-Decides}
 use Rattle.fab_tree.specs.declared.start.Root.{Root}
 use Rattle.fab_tree.specs.Names.{root_name}
 use Rattle.fab_tree.specs.Resolution.{number_of}
 use Rattle.fab_names.specs.Known.{is_among, is_distinct}
-use Rattle.fab_names.proofs.Names.{bytes_eq-flip, any_same, first_place, distinct_push, doubled, number_within, place_or_length}
+use Rattle.fab_names.proofs.Names.{or_first, or_second, first_place, distinct_push, doubled, number_within, place_or_length}
 
--- what a key of the table says
-abbrev pub key_text : Bor (List ℕ) → List ℕ
-key_text k = k.now
+abbrev pub Table : Type 0
+Table = BTreeMap (Bor (List ℕ)) ℕ
 
--- these keys are the names of these roots, and those are distinct
-pub record Holds (keys : List (Bor (List ℕ))) (roots : List Root) : Type 0 where
-  pub names : map key_text keys ≡ map root_name roots
+-- for each name the table has the place of the first root of that name
+abbrev pub Answers : Table → List Root → Type 0
+Answers table roots = (q : List ℕ) → get_by (λ k. slice_cmp nat_cmp q k.now) table ≡ position (λ x. bytes_eq (root_name x) q) roots
+
+-- the table of these roots, whose names are distinct
+pub record Holds (table : Table) (roots : List Root) : Type 0 where
+  pub answers : Answers table roots
   pub distinct : is_distinct root_name roots ≡ true
 
--- what is found among names is the same for lists of the same names
-among_names : {A B : Type 0} (f : A → List ℕ) (g : B → List ℕ) (name : List ℕ) (xs : List A) (ys : List B) → map f xs ≡ map g ys → is_among f name xs ≡ is_among g name ys
-among_names f g name [] [] e = refl
-among_names f g name [] (y ∷ ys) e = absurd (cc)
-among_names f g name (x ∷ xs) [] e = absurd (cc)
-among_names f g name (x ∷ xs) (y ∷ ys) e =
-    let first : f x ≡ g y = cc in
-    let others : map f xs ≡ map g ys = cc in
-    cc (first, among_names f g name xs ys others)
+-- ---- the first place that passes
 
-number_names : {A B : Type 0} (f : A → List ℕ) (g : B → List ℕ) (name : List ℕ) (xs : List A) (ys : List B) → map f xs ≡ map g ys → number_of f xs name ≡ number_of g ys name
-number_names f g name [] [] e = refl
-number_names f g name [] (y ∷ ys) e = absurd (cc)
-number_names f g name (x ∷ xs) [] e = absurd (cc)
-number_names f g name (x ∷ xs) (y ∷ ys) e =
-    let first : f x ≡ g y = cc in
-    let others : map f xs ≡ map g ys = cc in
-    cc (first, number_names f g name xs ys others)
+module _ {A : Type 0} (p : A → Bool) where
+  place_cons : (x : A) (xs : List A) → position p (x ∷ xs) ≡ cond (p x) (Some 0) (option_map suc (position p xs))
+  place_cons x xs = grind (arith, nat_tests)
 
-names_push : (keys : List (Bor (List ℕ))) (roots : List Root) (k : Bor (List ℕ)) (r : Root) → map key_text keys ≡ map root_name roots → k.now ≡ r.name.text → map key_text (keys ++ k ∷ []) ≡ map root_name (roots ++ r ∷ [])
-names_push keys roots k r e h = map-append key_text keys (k ∷ []) ∙ cc (e, h, sym (map-append root_name roots (r ∷ [])))
+  -- there is one
+  place_some : (xs : List A) → is_some (position p xs) ≡ list_any p xs
+  place_some [] = refl
+  place_some (x ∷ xs) = grind (arith, place_cons x xs, place_some xs)
 
--- whether a name is there already
-module _ (keys : List (Bor (List ℕ))) (roots : List Root) (k : Bor (List ℕ)) (r : Root) (h : Holds keys roots) (same : k.now ≡ r.name.text) where
-  pub seen : list_any (λ x. bytes_eq k.now x.now) keys ≡ is_among root_name r.name.text roots
-  seen =
-      any_same key_text r.name.text (λ x. bytes_eq k.now x.now) (λ x. ap (λ t. bytes_eq t x.now) same ∙ bytes_eq-flip r.name.text x.now) keys
-      ∙ among_names key_text root_name r.name.text keys roots h.names
+  -- one more that doesn't pass
+  place_same : (xs : List A) (y : A) → p y ≡ false → position p (xs ++ y ∷ []) ≡ position p xs
+  place_same [] y e = grind arith
+  place_same (x ∷ xs) y e = place_cons x (xs ++ y ∷ []) ∙ ap (λ o. cond (p x) (Some 0) (option_map suc o)) (place_same xs y e) ∙ sym (place_cons x xs)
 
-  -- one more root, whose name is new
-  pub one_more : list_any (λ x. bytes_eq k.now x.now) keys ≡ false → Holds (keys ++ k ∷ []) (roots ++ r ∷ [])
-  one_more new = record {
-    names = names_push keys roots k r h.names same;
-    distinct = distinct_push root_name roots r h.distinct (sym seen ∙ new);
+  -- one more that is the first to pass
+  place_new : (xs : List A) (y : A) → list_any p xs ≡ false → p y ≡ true → position p (xs ++ y ∷ []) ≡ Some (length xs)
+  place_new [] y n e = grind arith
+  place_new (x ∷ xs) y n e =
+      let rest = place_new xs y (or_second (p x) (list_any p xs) n) e in
+      let first = or_first (p x) (list_any p xs) n in
+      place_cons x (xs ++ y ∷ []) ∙ cc
+
+-- ---- one more root
+
+module _ (table : Table) (roots : List Root) (k : Bor (List ℕ)) (r : Root) (h : Holds table roots) (same : k.now ≡ r.name.text) (old : Option ℕ) (was : old ≡ get_by (λ x. slice_cmp nat_cmp k.now x.now) table) where
+  -- whether its name is there already
+  seen : is_some old ≡ is_among root_name r.name.text roots
+  seen = ap is_some (was ∙ h.answers k.now) ∙ place_some (λ x. bytes_eq (root_name x) k.now) roots ∙ ap (λ t. is_among root_name t roots) same
+
+  -- a table in which its name has the next number
+  answers_more : (new : Table) (n : ℕ) → n ≡ length roots → is_among root_name r.name.text roots ≡ false → UpdatesBy (λ x y. slice_cmp nat_cmp x.now y.now) (λ x. slice_cmp nat_cmp k.now x.now) table new (Some n) → Answers new (roots ++ r ∷ [])
+  answers_more new n next fresh u q = btree_map_updates_str k.now table new (Some n) u q ∙ by (bytes_eq k.now q) refl
+    where
+      by : (b : Bool) → bytes_eq k.now q ≡ b → cond b (Some n) (get_by (λ x. slice_cmp nat_cmp q x.now) table) ≡ position (λ x. bytes_eq (root_name x) q) (roots ++ r ∷ [])
+      by true e =
+          let name : r.name.text ≡ q = sym same ∙ (bytes_eq-Decides k.now q).0 e in
+          ap Some next ∙ sym (place_new (λ x. bytes_eq (root_name x) q) roots r (ap (λ t. is_among root_name t roots) (sym name) ∙ fresh) ((bytes_eq-Decides r.name.text q).1 name))
+      by false e = h.answers q ∙ sym (place_same (λ x. bytes_eq (root_name x) q) roots r (ap (λ t. bytes_eq t q) (sym same) ∙ e))
+
+  pub one_more : (new : Table) (n : ℕ) → n ≡ length roots → is_some old ≡ false → UpdatesBy (λ x y. slice_cmp nat_cmp x.now y.now) (λ x. slice_cmp nat_cmp k.now x.now) table new (Some n) → Holds new (roots ++ r ∷ [])
+  one_more new n next fresh u = record {
+    answers = answers_more new n next (sym seen ∙ fresh) u;
+    distinct = distinct_push root_name roots r h.distinct (sym seen ∙ fresh);
   }
 
-  -- one more root, whose name is there
-  pub again : (others : List Root) → list_any (λ x. bytes_eq k.now x.now) keys ≡ true → is_distinct root_name (roots ++ r ∷ others) ≡ false
-  again others old = doubled root_name roots others r (sym seen ∙ old)
+  -- its name is there
+  pub again : (others : List Root) → is_some old ≡ true → is_distinct root_name (roots ++ r ∷ others) ≡ false
+  again others there = doubled root_name roots others r (sym seen ∙ there)
 
 -- the same as a loop over all roots has it
-module _ (keys : List (Bor (List ℕ))) (roots : List Root) (i : ℕ) (k : Bor (List ℕ)) (r : Root) (h : Holds keys (take i roots)) (within : i < length roots) (is : r ≡ get_or roots i r) (same : k.now ≡ r.name.text) where
-  pub goes_on : (new : List (Bor (List ℕ))) → true ≡ not (list_any (λ x. bytes_eq k.now x.now) keys) → new ≡ (if list_any (λ x. bytes_eq k.now x.now) keys then keys else keys ++ k ∷ []) → Holds new (take (i + 1) roots)
-  goes_on new fresh e = by (list_any (λ x. bytes_eq k.now x.now) keys) refl fresh e
-    where
-      by : (b : Bool) → list_any (λ x. bytes_eq k.now x.now) keys ≡ b → true ≡ not b → new ≡ (if b then keys else keys ++ k ∷ []) → Holds new (take (i + 1) roots)
-      by true f n g = absurd (cc)
-      by false f n g =
-          let more : take (i + 1) roots ≡ take i roots ++ r ∷ [] = take_more roots i r within ∙ ap (λ x. take i roots ++ x ∷ []) (sym is) in
-          subst (λ l. Holds l (take (i + 1) roots)) (sym g) (subst (Holds (keys ++ k ∷ [])) (sym more) (one_more keys (take i roots) k r h same f))
+module _ (table : Table) (roots : List Root) (i : ℕ) (k : Bor (List ℕ)) (r : Root) (h : Holds table (take i roots)) (within : i < length roots) (is : r ≡ get_or roots i r) (same : k.now ≡ r.name.text) (old : Option ℕ) (was : old ≡ get_by (λ x. slice_cmp nat_cmp k.now x.now) table) where
+  pub goes_on : (new : Table) → is_some old ≡ false → UpdatesBy (λ x y. slice_cmp nat_cmp x.now y.now) (λ x. slice_cmp nat_cmp k.now x.now) table new (Some i) → Holds new (take (i + 1) roots)
+  goes_on new fresh u =
+      let more : take i roots ++ r ∷ [] ≡ take (i + 1) roots = ap (λ x. take i roots ++ x ∷ []) is ∙ sym (take_more roots i r within) in
+      let next : i ≡ length (take i roots) = omega (arith, length-take i roots) in
+      subst (Holds new) more (one_more table (take i roots) k r h same old was new i next fresh u)
 
-  pub stops : false ≡ not (list_any (λ x. bytes_eq k.now x.now) keys) → is_distinct root_name roots ≡ false
-  stops old = by (list_any (λ x. bytes_eq k.now x.now) keys) refl old
-    where
-      by : (b : Bool) → list_any (λ x. bytes_eq k.now x.now) keys ≡ b → false ≡ not b → is_distinct root_name roots ≡ false
-      by false f n = absurd (cc)
-      by true f n =
-          let whole : take i roots ++ r ∷ drop (suc i) roots ≡ roots = ap (λ x. take i roots ++ x ∷ drop (suc i) roots) is ∙ ap (λ l. take i roots ++ l) (sym (drop-cons roots i r within)) ∙ take-append-drop i roots in
-          sym (ap (is_distinct root_name) whole) ∙ again keys (take i roots) k r h same (drop (suc i) roots) f
+  pub stops : is_some old ≡ true → is_distinct root_name roots ≡ false
+  stops there =
+      let whole : take i roots ++ r ∷ drop (suc i) roots ≡ roots = ap (λ x. take i roots ++ x ∷ drop (suc i) roots) is ∙ ap (λ l. take i roots ++ l) (sym (drop-cons roots i r within)) ∙ take-append-drop i roots in
+      sym (ap (is_distinct root_name) whole) ∙ again table (take i roots) k r h same old was (drop (suc i) roots) there
 
 -- none yet
-pub none : (keys : List (Bor (List ℕ))) → keys ≡ [] → Holds keys []
-none keys e = record { names = ap (map key_text) e; distinct = refl }
+pub none : (table : Table) → IsEmpty table → Holds table []
+none table e = record { answers = λ q. ap (lookup (is_at (λ k. slice_cmp nat_cmp q k.now))) e; distinct = refl }
 
 -- all
-pub at_end : (keys : List (Bor (List ℕ))) (roots all : List Root) (i : ℕ) → Holds keys (take i roots) → length roots ≤ i → roots ≡ all → Holds keys all
-at_end keys roots all i h past e = subst (Holds keys) (take_all i roots past ∙ e) h
+pub at_end : (table : Table) (roots : List Root) (i : ℕ) → Holds table (take i roots) → length roots ≤ i → Holds table roots
+at_end table roots i h past = subst (Holds table) (take_all i roots past) h
 
--- a name's place in the table, or the length, is its number
-pub place : (keys : List (Bor (List ℕ))) (roots : List Root) (name : List ℕ) → map key_text keys ≡ map root_name roots → unwrap_or (position (λ x. bytes_eq name x.now) keys) (length keys) ≡ number_of root_name roots name
-place keys roots name e =
-    place_or_length (λ x. bytes_eq name x.now) keys (first_place key_text name (λ x. bytes_eq name x.now) (λ x. bytes_eq-flip name x.now) keys) (number_within key_text keys name)
-    ∙ number_names key_text root_name name keys roots e
+-- the place that a table has, or the length, is the number of a name
+pub place : (table : Table) (roots : List Root) (name : List ℕ) → Answers table roots → unwrap_or (get_by (λ k. slice_cmp nat_cmp name k.now) table) (length roots) ≡ number_of root_name roots name
+place table roots name h =
+    ap (λ o. unwrap_or o (length roots)) (h name)
+    ∙ place_or_length (λ x. bytes_eq (root_name x) name) roots (first_place root_name name (λ x. bytes_eq (root_name x) name) (λ x. refl) roots) (number_within root_name roots name)

@@ -6,20 +6,26 @@ ghost use Rattle.fab_names.specs.Known.{is_distinct};
 
 use fab_base::NoMemory;
 use fab_tree::{Name, Root, Start};
-use indexmap::IndexSet;
 use std::alloc::Global;
+use std::collections::BTreeMap;
 use std::marker::Model;
 
-/// What a bundle declares. There may be many roots, so their names stand in a table, in which each
-/// has its root's number. Contracts see it as the bundle.
+/// What a bundle declares. Contracts see it as the bundle. There may be many roots, so their names
+/// stand in a table, in which each has its root's number. The table is in the order of names, so no
+/// choice of names makes a look-up long.
 #[derive(Drop)]
 pub struct Declared<'a> {
     start: &'a Start,
-    roots: IndexSet<&'a str>,
+    roots: BTreeMap<&'a str, usize>,
 }
 
 impl<'a> Model for Declared<'a> {
-    ghost use Rattle.std.specs.Prelude.{◌≡◌, map};
+    ghost use Rattle.std.specs.Prelude.{◌≡◌, ℕ, List};
+    ghost use Rattle.std.specs.BTreeMap.{get_by};
+    ghost use Rattle.std.specs.Cmp.Lexicographic.{slice_cmp};
+    ghost use Rattle.std.specs.List.{position};
+    ghost use Rattle.std.specs.Ordering.{nat_cmp};
+    ghost use Rattle.std.specs.Str.{bytes_eq};
     ghost use Rattle.fab_tree.specs.contracts.start.Start as bundle;
     ghost use Rattle.fab_tree.specs.declared.start.Start.{Start as Bundle};
     ghost use Rattle.fab_tree.specs.Names.{root_name};
@@ -30,7 +36,7 @@ impl<'a> Model for Declared<'a> {
 
     ghost view = { λ d. d.start.now };
 
-    ghost invariant = { λ d. map (λ k. k.now) d.roots.keys ≡ map root_name d.start.now.roots };
+    ghost invariant = { λ d. (q : List ℕ) → get_by (λ k. slice_cmp nat_cmp q k.now) d.roots ≡ position (λ x. bytes_eq (root_name x) q) d.start.now.roots };
 }
 
 impl<'a> Declared<'a> {
@@ -38,9 +44,9 @@ impl<'a> Declared<'a> {
     pub fn make(alloc: Global, start: &'a Start) -> Result<Option<Declared<'a>>, NoMemory>
         ensures { IfOk result (λ o. MatchOption o (is_distinct root_name start.now.roots ≡ false) (λ d. (d ≡ start.now) × (is_distinct root_name start.now.roots ≡ true))) }
     {
-        let mut roots = IndexSet::new(alloc);
-        for root in start.roots.as_slice() {
-            if !roots.insert(root.name.text.as_str())? {
+        let mut roots = BTreeMap::new(alloc);
+        for (number, root) in start.roots.as_slice().iter().enumerate() {
+            if roots.insert(root.name.text.as_str(), number)?.is_some() {
                 return Ok(None);
             }
         }
@@ -60,8 +66,9 @@ impl<'a> Declared<'a> {
         ensures within { result ≤ length self.now.roots }
     {
         self.roots
-            .get_index_of(name.text.as_str())
-            .unwrap_or(self.roots.len())
+            .get(name.text.as_str())
+            .copied()
+            .unwrap_or(self.start.roots.as_slice().len())
     }
 
     /// The root of this name.

@@ -1,24 +1,25 @@
-use Rattle.std.proofs.lemmas.Grind.{common_steps}
-use Rattle.std.proofs.Common.{refl, sym, ap, ◌∙◌, arith}
-use Rattle.fab_tree.specs.Names.{root_name}
-use Rattle.fab_names.specs.Known.{is_distinct}
+use Rattle.std.proofs.Common.{refl, sym, ap, ◌∙◌, arith, length}
 use Rattle.fab_names.proofs.RootTable.{Holds, none, at_end, goes_on, stops}
 use Rattle.fab_names.proofs.declared.Declared.make.Goals as goal
 
-pub loop-root-init : goal.loop-root-init
-loop-root-init c = none c.new-roots.result.keys (grind (arith, common_steps))
+pub loop-number-init : goal.loop-number-init
+loop-number-init c = none c.new-roots.result c.new-roots.ensures.empty
 
-pub returns-then-not-branch : goal.returns-then-not-branch
-returns-then-not-branch c = ap (is_distinct root_name) (sym c.as_slice-root-items.ensures) ∙ stops c.loop-root.roots.keys c.as_slice-root-items.result.now c.loop-root.root-index c.as_str.result c.root-item.result c.loop-root.invariant (omega arith) c.root-item.is c.as_str.ensures (sym c.if-not-branch.true ∙ c.in_ok-insert.ensures.added)
+pub returns-then-is_some : goal.returns-then-is_some
+returns-then-is_some c =
+    let is = rw c.as_slice-root-items.ensures at c.root-item.is in
+    stops c.loop-number.roots c.args.start.now.roots c.loop-number.number c.as_str.result c.root-item.result c.loop-number.invariant (omega (arith, ap length c.as_slice-root-items.ensures)) is c.as_str.ensures c.in_ok-insert.field-0 c.in_ok-insert.ensures.old (sym c.is_some.ensures ∙ c.if-is_some.true)
 
-pub loop-root-preserved : goal.loop-root-preserved
-loop-root-preserved c = goes_on c.loop-root.roots.keys c.as_slice-root-items.result.now c.loop-root.root-index c.as_str.result c.root-item.result c.loop-root.invariant (omega arith) c.root-item.is c.as_str.ensures c.insert.new.self.keys (sym c.if-not-branch.false ∙ c.in_ok-insert.ensures.added) c.in_ok-insert.ensures.keys
+pub loop-number-preserved : goal.loop-number-preserved
+loop-number-preserved c =
+    let is = rw c.as_slice-root-items.ensures at c.root-item.is in
+    goes_on c.loop-number.roots c.args.start.now.roots c.loop-number.number c.as_str.result c.root-item.result c.loop-number.invariant (omega (arith, ap length c.as_slice-root-items.ensures)) is c.as_str.ensures c.in_ok-insert.field-0 c.in_ok-insert.ensures.old c.insert.new.self (sym c.is_some.ensures ∙ c.if-is_some.false) c.in_ok-insert.ensures.updates
 
-whole : (c : goal.After-loop-root) → Holds c.loop-root.roots.keys c.args.start.now.roots
-whole c = at_end c.loop-root.roots.keys c.as_slice-root-items.result.now c.args.start.now.roots c.loop-root.root-index c.loop-root.invariant c.loop-root-test.false c.as_slice-root-items.ensures
+whole : (c : goal.After-loop-number) → Holds c.loop-number.roots c.args.start.now.roots
+whole c = at_end c.loop-number.roots c.args.start.now.roots c.loop-number.number c.loop-number.invariant (omega (arith, ap length c.as_slice-root-items.ensures))
 
 pub invariant_of-result : goal.invariant_of-result
-invariant_of-result c = (whole c).names
+invariant_of-result c = (whole c).answers
 
 pub returns : goal.returns
 returns c = (refl, (whole c).distinct)
