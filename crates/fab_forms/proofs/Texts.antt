@@ -1,15 +1,12 @@
 -- Texts put together.
-use Rattle.std.proofs.Common.{◌≡◌, ◌+◌, ◌/◌, ◌%◌, option_map, ◌<◌, ℕ, zero, suc, Bool, true, false, List, [], ◌∷◌, ◌++◌, Option, Some, None, find, slice_get, cond, if◌then◌else◌, refl, sym, ap, ◌∙◌, append_assoc, arith}
+use Rattle.std.proofs.Common.{◌≡◌, ◌/◌, ◌%◌, option_map, ℕ, false, List, [], ◌∷◌, ◌++◌, None, find, sym, ap, ◌∙◌, append_assoc}
 use Rattle.std.specs.Fmt.{digit_glyph}
-use Rattle.std.proofs.lemmas.Slice.Eq.{bytes_eq-Decides}
 use Rattle.std.proofs.lemmas.Grind.{flat_map-append}
 use Rattle.fab_base.specs.declared.object.Oid.{Oid}
-use Rattle.fab_base.specs.FlatMap.{is_same, parts_of}
-use Rattle.fab_tree.specs.declared.resolved.Root.{Root}
+use Rattle.fab_base.specs.FlatMap.{is_same}
 use Rattle.fab_base.specs.FieldSpelling.{oid_bytes}
 use Rattle.fab_tree.specs.declared.resolved.Resolved.{Resolved}
 use Rattle.fab_tree.specs.Evaluation.{hex, text_or, name_text}
-use Rattle.fab_forms.specs.Numbered.{AreNumbered}
 
 pub hex_then : (a b c xs ys : List ℕ) → b ≡ a ++ hex xs → c ≡ b ++ hex ys → c ≡ a ++ hex (xs ++ ys)
 hex_then a b c xs ys e f = f ∙ ap (λ z. z ++ hex ys) e ∙ append_assoc a (hex xs) (hex ys) ∙ ap (λ z. a ++ z) (sym (flat_map-append (λ x. digit_glyph false (x / 16) ∷ digit_glyph false (x % 16) ∷ []) xs ys))

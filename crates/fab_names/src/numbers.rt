@@ -39,7 +39,7 @@ impl Declared<'_> {
         use_of(self.start().labels.as_slice(), name)
     }
 
-    /// The type of a field.
+    /// The type of a field, a parameter or a local.
     pub fn sort(&self, sort: &Sort) -> NumberedSort
         requires { KeepsLimits self.now }
         ensures { result ≡ sort_of self.now sort.now }
