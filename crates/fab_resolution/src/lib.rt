@@ -2,6 +2,7 @@
 #![tactic(auto)]
 
 mod expressions;
+mod laws;
 mod methods;
 mod rules;
 mod scope;
@@ -10,4 +11,5 @@ mod sites;
 mod statements;
 mod whole;
 
+pub use laws::sites_count_up;
 pub use whole::resolve;
