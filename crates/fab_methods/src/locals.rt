@@ -48,10 +48,7 @@ impl<'a> Declaration<'a> {
 }
 
 /// The locals of a method: its parameters, and those that its body declares.
-pub fn locals_of<'a>(
-    alloc: Global,
-    method: &'a Method,
-) -> Result<Vec<Declaration<'a>>, NoMemory>
+pub fn locals_of<'a>(alloc: Global, method: &'a Method) -> Result<Vec<Declaration<'a>>, NoMemory>
     ensures { IfOk result (λ v. v.items ≡ locals_of method.now) }
 {
     let mut locals = Vec::new(alloc);
