@@ -1,15 +1,17 @@
 //! Expressions with numbers for names.
-ghost use Rattle.fab_tree.specs.Numbering.{expression_of};
+ghost use Rattle.std.specs.Prelude.{map};
+ghost use Rattle.fab_tree.specs.Numbering.{expression_of, terms_in_turn};
 ghost use Rattle.fab_resolution.specs.Gives.{Gives};
 
 use crate::scope::Scope;
 use crate::sites::{Refusal, next_site};
 use fab_base::{Boxed, Seq};
-use fab_tree::Expression;
 use fab_tree::resolved::Expression as Numbered;
+use fab_tree::{Expression, Sign};
 use std::alloc::Global;
 
 /// An expression with numbers for names.
+#[cycle(expression)]
 pub(crate) fn numbered(
     alloc: Global,
     scope: &Scope<'_>,
@@ -39,11 +41,7 @@ pub(crate) fn numbered(
         }
         Expression::Sum { first, others, .. } => {
             let head = numbered(alloc, scope, sites, first.get())?;
-            let mut terms = Seq::new(alloc);
-            for term in others.as_slice() {
-                let value = numbered(alloc, scope, sites, &term.1)?;
-                terms.push((term.0, value))?;
-            }
+            let terms = numbered_terms(alloc, scope, sites, others.as_slice())?;
             Ok(Numbered::Sum {
                 first: Boxed::make(alloc, head)?,
                 others: terms,
@@ -64,4 +62,22 @@ pub(crate) fn numbered(
             })
         }
     }
+}
+
+/// The terms of a sum behind its first, each with its sign.
+#[cycle(expression)]
+fn numbered_terms(
+    alloc: Global,
+    scope: &Scope<'_>,
+    sites: &mut u16,
+    others: &[(Sign, Expression)],
+) -> Result<Seq<(Sign, Numbered)>, Refusal>
+    ensures { Gives result sites.new (terms_in_turn (map (λ t. (t.0, expression_of scope.now.start.now scope.now.locals.now t.1)) others.now) sites.old) }
+{
+    let mut terms = Seq::new(alloc);
+    for term in others {
+        let value = numbered(alloc, scope, sites, &term.1)?;
+        terms.push((term.0, value))?;
+    }
+    Ok(terms)
 }
