@@ -1,6 +1,5 @@
 -- The parts of what is numbered, of which each ends no later than the whole.
-use Rattle.std.proofs.Common.{◌≡◌, ℕ, suc, ◌≤◌, List, [], ◌∷◌, map, Option, Some, None, refl, sym, ap, ◌∙◌, arith}
-use Rattle.fab_tree.specs.declared.start.Name.{Name}
+use Rattle.std.proofs.Common.{◌≡◌, ℕ, ◌≤◌, List, [], ◌∷◌, map, Option, Some, None, refl, sym, ap, ◌∙◌, arith}
 use Rattle.fab_tree.specs.declared.start.Start.{Start}
 use Rattle.fab_tree.specs.declared.program.Sign.{Sign}
 use Rattle.fab_tree.specs.declared.program.Comparison.{Comparison}
@@ -85,11 +84,6 @@ module _ (start : Start) (locals : List Parameter) where
 
   -- ---- the parts of a statement end no later than the whole
 
-  of_write : (x y : Name) (a : Expression) (n : ℕ) → statement_of start locals (forms.Write x y a) n ≡ statement_step start locals (layers.Write x y a) n
-  of_write x y a n =
-      ap (λ w. statement_of start locals w n) (sym (forms.rolls-Write x y a))
-      ∙ ap (λ w. w n) (fold-roll-Statement (Numbered NumberedStatement) (statement_step start locals) (layers.Write x y a))
-
   abbrev other : Option (List Statement) → Option (List (Numbered NumberedStatement))
   other None = None
   other (Some xs) = Some (map (statement_of start locals) xs)
@@ -105,12 +99,6 @@ module _ (start : Start) (locals : List Parameter) where
   other_grows : (otherwise : Option (List Statement)) (n : ℕ) → n ≤ (other_in_turn start locals (other otherwise) n).1
   other_grows None n = omega arith
   other_grows (Some xs) n = block_grows start locals xs n
-
-  pub site_within : (s : Statement) (x y : Name) (a : Expression) (n : ℕ) → s ≡ forms.Write x y a → suc n ≤ (statement_of start locals s n).1
-  site_within s x y a n h =
-      let g = expression_grows start locals a (suc n) in
-      let e = ap (λ (w : NumberedStatement × ℕ). w.1) (ap (λ w. statement_of start locals w n) h ∙ of_write x y a n) in
-      omega (arith, g, e)
 
   pub block_within : (s : Statement) (a : Expression) (block seen : List Statement) (otherwise : Option (List Statement)) (n m : ℕ) (made : NumberedExpression) → s ≡ forms.If a block otherwise → seen ≡ block → expression_of start locals a n ≡ (made, m) → (in_turn (map (statement_of start locals) seen) m).1 ≤ (statement_of start locals s n).1
   block_within s a block seen otherwise n m made h i k =
