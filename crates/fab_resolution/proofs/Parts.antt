@@ -48,20 +48,18 @@ module _ (start : Start) (locals : List Parameter) where
       ap (λ w. expression_of start locals w n) (sym (e.rolls-Compared a c b at))
       ∙ ap (λ w. w n) (fold-roll-Expression (Numbered NumberedExpression) (expression_step start locals) (o.Compared a c b at))
 
-  pub first_within : (x a seen : Expression) (others : List (Sign × Expression)) (at n : ℕ) → x ≡ e.Sum a others at → seen ≡ a → (expression_of start locals seen n).1 ≤ (expression_of start locals x n).1
-  first_within x a seen others at n h i =
+  pub first_within : (x a : Expression) (others : List (Sign × Expression)) (at n : ℕ) → x ≡ e.Sum a others at → (expression_of start locals a n).1 ≤ (expression_of start locals x n).1
+  first_within x a others at n h =
       let g = terms_grow start locals others (expression_of start locals a n).1 in
       let s = ap (λ (w : NumberedExpression × ℕ). w.1) (ap (λ w. expression_of start locals w n) h ∙ of_sum a others at n) in
-      let j = ap (λ w. (expression_of start locals w n).1) i in
-      omega (arith, g, s, j)
+      omega (arith, g, s)
 
   -- a sum, of which the first term is numbered
-  module _ (x a seen : Expression) (items others : List (Sign × Expression)) (at n m : ℕ) (head : NumberedExpression) (h : x ≡ e.Sum a others at) (i : seen ≡ a) (j : items ≡ others) (k : expression_of start locals seen n ≡ (head, m)) where
+  module _ (x a : Expression) (items others : List (Sign × Expression)) (at n m : ℕ) (head : NumberedExpression) (h : x ≡ e.Sum a others at) (j : items ≡ others) (k : expression_of start locals a n ≡ (head, m)) where
     sum_is : expression_of start locals x n ≡ (ne.Sum head (terms_of items m).0, (terms_of items m).1)
     sum_is =
         ap (λ w. expression_of start locals w n) h
         ∙ of_sum a others at n
-        ∙ ap (λ w. let z = expression_of start locals w n in let y = terms_of others z.1 in (ne.Sum z.0 y.0, y.1)) (sym i)
         ∙ ap (λ (z : NumberedExpression × ℕ). let y = terms_of others z.1 in (ne.Sum z.0 y.0, y.1)) k
         ∙ ap (λ l. let y = terms_of l m in (ne.Sum head y.0, y.1)) (sym j)
 
@@ -69,18 +67,14 @@ module _ (start : Start) (locals : List Parameter) where
     terms_within = let s = ap (λ (w : NumberedExpression × ℕ). w.1) sum_is in omega (arith, s)
 
     -- all its terms are numbered
-    pub sum_of : (terms : List (Sign × NumberedExpression)) (next : ℕ) (first : NumberedExpression) → terms_of items m ≡ (terms, next) → first ≡ head → expression_of start locals x n ≡ (ne.Sum first terms, next)
-    sum_of terms next first p f =
-        sum_is
-        ∙ ap (λ (y : List (Sign × NumberedExpression) × ℕ). (ne.Sum head y.0, y.1)) p
-        ∙ ap (λ w. (ne.Sum w terms, next)) (sym f)
+    pub sum_of : (terms : List (Sign × NumberedExpression)) (next : ℕ) → terms_of items m ≡ (terms, next) → expression_of start locals x n ≡ (ne.Sum head terms, next)
+    sum_of terms next p = sum_is ∙ ap (λ (y : List (Sign × NumberedExpression) × ℕ). (ne.Sum head y.0, y.1)) p
 
-  pub left_within : (x a b seen : Expression) (c : Comparison) (at n : ℕ) → x ≡ e.Compared a c b at → seen ≡ a → (expression_of start locals seen n).1 ≤ (expression_of start locals x n).1
-  left_within x a b seen c at n h i =
+  pub left_within : (x a b : Expression) (c : Comparison) (at n : ℕ) → x ≡ e.Compared a c b at → (expression_of start locals a n).1 ≤ (expression_of start locals x n).1
+  left_within x a b c at n h =
       let g = expression_grows start locals b (expression_of start locals a n).1 in
       let s = ap (λ (w : NumberedExpression × ℕ). w.1) (ap (λ w. expression_of start locals w n) h ∙ of_compared a b c at n) in
-      let j = ap (λ w. (expression_of start locals w n).1) i in
-      omega (arith, g, s, j)
+      omega (arith, g, s)
 
   -- ---- the parts of a statement end no later than the whole
 

@@ -33,35 +33,38 @@ pub(crate) fn numbered(
                 site,
             })
         }
-        Expression::Negative { operand, .. } => {
-            let negated = numbered(alloc, scope, sites, operand.get())?;
-            Ok(Numbered::Negative {
-                operand: Boxed::make(alloc, negated)?,
-            })
-        }
-        Expression::Sum { first, others, .. } => {
-            let head = numbered(alloc, scope, sites, first.get())?;
-            let terms = numbered_terms(alloc, scope, sites, others.as_slice())?;
-            Ok(Numbered::Sum {
-                first: Boxed::make(alloc, head)?,
-                others: terms,
-            })
-        }
+        Expression::Negative { operand, .. } => Ok(Numbered::Negative {
+            operand: numbered_boxed(alloc, scope, sites, operand)?,
+        }),
+        Expression::Sum { first, others, .. } => Ok(Numbered::Sum {
+            first: numbered_boxed(alloc, scope, sites, first)?,
+            others: numbered_terms(alloc, scope, sites, others.as_slice())?,
+        }),
         Expression::Compared {
             left,
             comparison,
             right,
             ..
-        } => {
-            let one = numbered(alloc, scope, sites, left.get())?;
-            let other = numbered(alloc, scope, sites, right.get())?;
-            Ok(Numbered::Compared {
-                left: Boxed::make(alloc, one)?,
-                comparison: *comparison,
-                right: Boxed::make(alloc, other)?,
-            })
-        }
+        } => Ok(Numbered::Compared {
+            left: numbered_boxed(alloc, scope, sites, left)?,
+            comparison: *comparison,
+            right: numbered_boxed(alloc, scope, sites, right)?,
+        }),
     }
+}
+
+/// An expression inside another.
+#[cycle(expression)]
+fn numbered_boxed(
+    alloc: Global,
+    scope: &Scope<'_>,
+    sites: &mut u16,
+    expression: &Boxed<Expression>,
+) -> Result<Boxed<Numbered>, Refusal>
+    ensures { Gives result sites.new (expression_of scope.now.start.now scope.now.locals.now expression.now sites.old) }
+{
+    let inner = numbered(alloc, scope, sites, expression.get())?;
+    Ok(Boxed::make(alloc, inner)?)
 }
 
 /// The terms of a sum behind its first, each with its sign.

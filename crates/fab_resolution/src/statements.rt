@@ -61,18 +61,14 @@ fn numbered_statement(
             condition,
             block,
             otherwise,
-        } => {
-            let condition = numbered(alloc, scope, sites, condition)?;
-            let then = numbered_block(alloc, scope, sites, block.as_slice())?;
-            Ok(Numbered::If {
-                condition,
-                block: then,
-                otherwise: match otherwise {
-                    Some(other) => numbered_block(alloc, scope, sites, other.as_slice())?,
-                    None => Seq::new(alloc),
-                },
-            })
-        }
+        } => Ok(Numbered::If {
+            condition: numbered(alloc, scope, sites, condition)?,
+            block: numbered_block(alloc, scope, sites, block.as_slice())?,
+            otherwise: match otherwise {
+                Some(other) => numbered_block(alloc, scope, sites, other.as_slice())?,
+                None => Seq::new(alloc),
+            },
+        }),
     }
 }
 

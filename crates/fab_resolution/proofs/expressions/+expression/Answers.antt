@@ -7,32 +7,32 @@ use Rattle.fab_resolution.proofs.Parts.{signed, signed_in_turn, signed_grow, fir
 use Rattle.fab_resolution.proofs.SiteCounts.{numbered_term}
 use Rattle.fab_resolution.proofs.expressions.+expression.Goals as goal
 
-pub numbered-returns-in_err-head-in-Sum : goal.numbered-returns-in_err-head-in-Sum
-numbered-returns-in_err-head-in-Sum t c = refused c.from_residual-in_err-head-in-Sum.result c.in_err-head-in-Sum.field-0.0 c.numbered-in-Sum.new.sites c.numbered-in-Sum.new.sites
-    (expression_of c.args.scope.now.start.now c.args.scope.now.locals.now c.get-in-Sum.result.now c.args.sites.now)
+pub numbered-returns-in_err-numbered_boxed-in-Sum : goal.numbered-returns-in_err-numbered_boxed-in-Sum
+numbered-returns-in_err-numbered_boxed-in-Sum t c = refused c.from_residual-in_err-numbered_boxed-in-Sum.result c.in_err-numbered_boxed-in-Sum.field-0.0 c.numbered_boxed-in-Sum.new.sites c.numbered_boxed-in-Sum.new.sites
+    (expression_of c.args.scope.now.start.now c.args.scope.now.locals.now c.in-Sum.first c.args.sites.now)
     (expression_of c.args.scope.now.start.now c.args.scope.now.locals.now c.args.expression.now c.args.sites.now)
-    c.from_residual-in_err-head-in-Sum.ensures.1
-    (first_within c.args.scope.now.start.now c.args.scope.now.locals.now c.args.expression.now c.in-Sum.first c.get-in-Sum.result.now c.in-Sum.others c.in-Sum.at c.args.sites.now c.in-Sum.is c.get-in-Sum.ensures)
-    c.in_err-head-in-Sum.ensures
+    c.from_residual-in_err-numbered_boxed-in-Sum.ensures.1
+    (first_within c.args.scope.now.start.now c.args.scope.now.locals.now c.args.expression.now c.in-Sum.first c.in-Sum.others c.in-Sum.at c.args.sites.now c.in-Sum.is)
+    c.in_err-numbered_boxed-in-Sum.ensures
 
-pub numbered-returns-in_err-terms-in-Sum : goal.numbered-returns-in_err-terms-in-Sum
-numbered-returns-in_err-terms-in-Sum t c = refused c.from_residual-in_err-terms-in-Sum.result c.in_err-terms-in-Sum.field-0.0 c.numbered_terms.new.sites c.numbered_terms.new.sites
-    (terms_in_turn (map (numbered_term c.args.scope.now.start.now c.args.scope.now.locals.now) c.as_slice.result.now) c.numbered-in-Sum.new.sites)
+pub numbered-returns-in_err-numbered_terms-in-Sum : goal.numbered-returns-in_err-numbered_terms-in-Sum
+numbered-returns-in_err-numbered_terms-in-Sum t c = refused c.from_residual-in_err-numbered_terms-in-Sum.result c.in_err-numbered_terms-in-Sum.field-0.0 c.numbered_terms.new.sites c.numbered_terms.new.sites
+    (terms_in_turn (map (numbered_term c.args.scope.now.start.now c.args.scope.now.locals.now) c.as_slice.result.now) c.numbered_boxed-in-Sum.new.sites)
     (expression_of c.args.scope.now.start.now c.args.scope.now.locals.now c.args.expression.now c.args.sites.now)
-    c.from_residual-in_err-terms-in-Sum.ensures.1
-    (terms_within c.args.scope.now.start.now c.args.scope.now.locals.now c.args.expression.now c.in-Sum.first c.get-in-Sum.result.now c.as_slice.result.now c.in-Sum.others c.in-Sum.at c.args.sites.now c.numbered-in-Sum.new.sites c.in_ok-head-in-Sum.head c.in-Sum.is c.get-in-Sum.ensures c.as_slice.ensures c.in_ok-head-in-Sum.ensures)
-    c.in_err-terms-in-Sum.ensures
+    c.from_residual-in_err-numbered_terms-in-Sum.ensures.1
+    (terms_within c.args.scope.now.start.now c.args.scope.now.locals.now c.args.expression.now c.in-Sum.first c.as_slice.result.now c.in-Sum.others c.in-Sum.at c.args.sites.now c.numbered_boxed-in-Sum.new.sites c.in_ok-numbered_boxed-in-Sum.field-0 c.in-Sum.is c.as_slice.ensures c.in_ok-numbered_boxed-in-Sum.ensures)
+    c.in_err-numbered_terms-in-Sum.ensures
 
-pub numbered-returns-in_ok-make-in-Sum : goal.numbered-returns-in_ok-make-in-Sum
-numbered-returns-in_ok-make-in-Sum t c = sum_of c.args.scope.now.start.now c.args.scope.now.locals.now c.args.expression.now c.in-Sum.first c.get-in-Sum.result.now c.as_slice.result.now c.in-Sum.others c.in-Sum.at c.args.sites.now c.numbered-in-Sum.new.sites c.in_ok-head-in-Sum.head c.in-Sum.is c.get-in-Sum.ensures c.as_slice.ensures c.in_ok-head-in-Sum.ensures c.in_ok-terms-in-Sum.terms c.numbered_terms.new.sites c.in_ok-make-in-Sum.field-0 c.in_ok-terms-in-Sum.ensures c.in_ok-make-in-Sum.ensures
+pub numbered-returns-in_ok-numbered_terms-in-Sum : goal.numbered-returns-in_ok-numbered_terms-in-Sum
+numbered-returns-in_ok-numbered_terms-in-Sum t c = sum_of c.args.scope.now.start.now c.args.scope.now.locals.now c.args.expression.now c.in-Sum.first c.as_slice.result.now c.in-Sum.others c.in-Sum.at c.args.sites.now c.numbered_boxed-in-Sum.new.sites c.in_ok-numbered_boxed-in-Sum.field-0 c.in-Sum.is c.as_slice.ensures c.in_ok-numbered_boxed-in-Sum.ensures c.in_ok-numbered_terms-in-Sum.field-0 c.numbered_terms.new.sites c.in_ok-numbered_terms-in-Sum.ensures
 
-pub numbered-returns-in_err-one-in-Compared : goal.numbered-returns-in_err-one-in-Compared
-numbered-returns-in_err-one-in-Compared t c = refused c.from_residual-in_err-one-in-Compared.result c.in_err-one-in-Compared.field-0.0 c.numbered-in-Compared.new.sites c.numbered-in-Compared.new.sites
-    (expression_of c.args.scope.now.start.now c.args.scope.now.locals.now c.get-in-Compared.result.now c.args.sites.now)
+pub numbered-returns-in_err-numbered_boxed-in-Compared : goal.numbered-returns-in_err-numbered_boxed-in-Compared
+numbered-returns-in_err-numbered_boxed-in-Compared t c = refused c.from_residual-in_err-numbered_boxed-in-Compared.result c.in_err-numbered_boxed-in-Compared.field-0.0 c.numbered_boxed-in-Compared.new.sites c.numbered_boxed-in-Compared.new.sites
+    (expression_of c.args.scope.now.start.now c.args.scope.now.locals.now c.in-Compared.left c.args.sites.now)
     (expression_of c.args.scope.now.start.now c.args.scope.now.locals.now c.args.expression.now c.args.sites.now)
-    c.from_residual-in_err-one-in-Compared.ensures.1
-    (left_within c.args.scope.now.start.now c.args.scope.now.locals.now c.args.expression.now c.in-Compared.left c.in-Compared.right c.get-in-Compared.result.now c.in-Compared.comparison c.in-Compared.at c.args.sites.now c.in-Compared.is c.get-in-Compared.ensures)
-    c.in_err-one-in-Compared.ensures
+    c.from_residual-in_err-numbered_boxed-in-Compared.ensures.1
+    (left_within c.args.scope.now.start.now c.args.scope.now.locals.now c.args.expression.now c.in-Compared.left c.in-Compared.right c.in-Compared.comparison c.in-Compared.at c.args.sites.now c.in-Compared.is)
+    c.in_err-numbered_boxed-in-Compared.ensures
 
 pub numbered_terms-returns-in_err-value : goal.numbered_terms-returns-in_err-value
 numbered_terms-returns-in_err-value t c = refused c.from_residual.result c.in_err-value.field-0.0 c.numbered.new.sites c.numbered.new.sites
