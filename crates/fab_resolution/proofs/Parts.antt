@@ -1,6 +1,5 @@
 -- The parts of what is numbered, of which each ends no later than the whole.
-use Rattle.std.proofs.Common.{◌≡◌, ℕ, suc, ◌≤◌, List, [], ◌∷◌, ◌++◌, map, length, drop, Option, Some, None, refl, sym, ap, ◌∙◌, arith, append-nil, drop_of_length-le}
-use Rattle.fab_tree.specs.declared.start.Name.{Name}
+use Rattle.std.proofs.Common.{◌≡◌, ℕ, ◌≤◌, List, [], ◌∷◌, map, Option, Some, None, refl, sym, ap, ◌∙◌, arith}
 use Rattle.fab_tree.specs.declared.start.Start.{Start}
 use Rattle.fab_tree.specs.declared.program.Sign.{Sign}
 use Rattle.fab_tree.specs.declared.program.Comparison.{Comparison}
@@ -22,7 +21,7 @@ module _ (start : Start) (locals : List Parameter) where
   abbrev pub signed : Sign × Expression → Numbered (Sign × NumberedExpression)
   signed t n = let a = expression_of start locals t.1 n in ((t.0, a.0), a.1)
 
-  signed_in_turn : (ts : List (Sign × Expression)) (n : ℕ) → terms_in_turn (map (numbered_term start locals) ts) n ≡ in_turn (map signed ts) n
+  pub signed_in_turn : (ts : List (Sign × Expression)) (n : ℕ) → terms_in_turn (map (numbered_term start locals) ts) n ≡ in_turn (map signed ts) n
   signed_in_turn [] n = refl
   signed_in_turn (t ∷ ts) n =
       let a = expression_of start locals t.1 n in
@@ -36,62 +35,48 @@ module _ (start : Start) (locals : List Parameter) where
 
   -- ---- the parts of an expression end no later than the whole
 
-  of_sum : (a : Expression) (others : List (Sign × Expression)) (at n : ℕ) → expression_of start locals (e.Sum a others at) n ≡ (let x = expression_of start locals a n in let y = in_turn (map signed others) x.1 in (ne.Sum x.0 y.0, y.1))
+  abbrev terms_of : List (Sign × Expression) → Numbered (List (Sign × NumberedExpression))
+  terms_of ts = terms_in_turn (map (numbered_term start locals) ts)
+
+  of_sum : (a : Expression) (others : List (Sign × Expression)) (at n : ℕ) → expression_of start locals (e.Sum a others at) n ≡ expression_step start locals (o.Sum (expression_of start locals a) (map (numbered_term start locals) others) at) n
   of_sum a others at n =
       ap (λ w. expression_of start locals w n) (sym (e.rolls-Sum a others at))
       ∙ ap (λ w. w n) (fold-roll-Expression (Numbered NumberedExpression) (expression_step start locals) (o.Sum a others at))
-      ∙ ap (λ (y : List (Sign × NumberedExpression) × ℕ). (ne.Sum (expression_of start locals a n).0 y.0, y.1)) (signed_in_turn others (expression_of start locals a n).1)
 
   of_compared : (a b : Expression) (c : Comparison) (at n : ℕ) → expression_of start locals (e.Compared a c b at) n ≡ expression_step start locals (o.Compared (expression_of start locals a) c (expression_of start locals b) at) n
   of_compared a b c at n =
       ap (λ w. expression_of start locals w n) (sym (e.rolls-Compared a c b at))
       ∙ ap (λ w. w n) (fold-roll-Expression (Numbered NumberedExpression) (expression_step start locals) (o.Compared a c b at))
 
-  pub first_within : (x a seen : Expression) (others : List (Sign × Expression)) (at n : ℕ) → x ≡ e.Sum a others at → seen ≡ a → (expression_of start locals seen n).1 ≤ (expression_of start locals x n).1
-  first_within x a seen others at n h i =
-      let g = signed_grow others (expression_of start locals a n).1 in
+  pub first_within : (x a : Expression) (others : List (Sign × Expression)) (at n : ℕ) → x ≡ e.Sum a others at → (expression_of start locals a n).1 ≤ (expression_of start locals x n).1
+  first_within x a others at n h =
+      let g = terms_grow start locals others (expression_of start locals a n).1 in
       let s = ap (λ (w : NumberedExpression × ℕ). w.1) (ap (λ w. expression_of start locals w n) h ∙ of_sum a others at n) in
-      let j = ap (λ w. (expression_of start locals w n).1) i in
-      omega (arith, g, s, j)
+      omega (arith, g, s)
 
   -- a sum, of which the first term is numbered
-  module _ (x a seen : Expression) (items others : List (Sign × Expression)) (at n m : ℕ) (head : NumberedExpression) (h : x ≡ e.Sum a others at) (i : seen ≡ a) (j : items ≡ others) (k : expression_of start locals seen n ≡ (head, m)) where
-    sum_is : expression_of start locals x n ≡ (ne.Sum head (in_turn (map signed items) m).0, (in_turn (map signed items) m).1)
+  module _ (x a : Expression) (items others : List (Sign × Expression)) (at n m : ℕ) (head : NumberedExpression) (h : x ≡ e.Sum a others at) (j : items ≡ others) (k : expression_of start locals a n ≡ (head, m)) where
+    sum_is : expression_of start locals x n ≡ (ne.Sum head (terms_of items m).0, (terms_of items m).1)
     sum_is =
         ap (λ w. expression_of start locals w n) h
         ∙ of_sum a others at n
-        ∙ ap (λ w. let z = expression_of start locals w n in let y = in_turn (map signed others) z.1 in (ne.Sum z.0 y.0, y.1)) (sym i)
-        ∙ ap (λ (z : NumberedExpression × ℕ). let y = in_turn (map signed others) z.1 in (ne.Sum z.0 y.0, y.1)) k
-        ∙ ap (λ l. let y = in_turn (map signed l) m in (ne.Sum head y.0, y.1)) (sym j)
+        ∙ ap (λ (z : NumberedExpression × ℕ). let y = terms_of others z.1 in (ne.Sum z.0 y.0, y.1)) k
+        ∙ ap (λ l. let y = terms_of l m in (ne.Sum head y.0, y.1)) (sym j)
 
-    -- its other terms end where it ends
-    pub sum_ends : (in_turn (map signed items) m).1 ≡ (expression_of start locals x n).1
-    sum_ends = ap (λ (w : NumberedExpression × ℕ). w.1) (sym sum_is)
+    pub terms_within : (terms_of items m).1 ≤ (expression_of start locals x n).1
+    terms_within = let s = ap (λ (w : NumberedExpression × ℕ). w.1) sum_is in omega (arith, s)
 
     -- all its terms are numbered
-    pub sum_of : (at_end : ℕ) → length items ≤ at_end → (made : List (Sign × NumberedExpression)) (next : ℕ) → made ++ (in_turn (map signed (drop at_end items)) next).0 ≡ (in_turn (map signed items) m).0 → (in_turn (map signed (drop at_end items)) next).1 ≡ (in_turn (map signed items) m).1 → (first : NumberedExpression) → first ≡ head → expression_of start locals x n ≡ (ne.Sum first made, next)
-    sum_of at_end past made next p q first f =
-        let none : drop at_end items ≡ [] = drop_of_length-le items past in
-        let all : (in_turn (map signed items) m).0 ≡ made = sym p ∙ ap (λ l. made ++ (in_turn (map signed l) next).0) none ∙ append-nil made in
-        let end : (in_turn (map signed items) m).1 ≡ next = sym q ∙ ap (λ l. (in_turn (map signed l) next).1) none in
-        sum_is
-        ∙ ap (λ l. (ne.Sum head l, (in_turn (map signed items) m).1)) all
-        ∙ ap (λ k. (ne.Sum head made, k)) end
-        ∙ ap (λ w. (ne.Sum w made, next)) (sym f)
+    pub sum_of : (terms : List (Sign × NumberedExpression)) (next : ℕ) → terms_of items m ≡ (terms, next) → expression_of start locals x n ≡ (ne.Sum head terms, next)
+    sum_of terms next p = sum_is ∙ ap (λ (y : List (Sign × NumberedExpression) × ℕ). (ne.Sum head y.0, y.1)) p
 
-  pub left_within : (x a b seen : Expression) (c : Comparison) (at n : ℕ) → x ≡ e.Compared a c b at → seen ≡ a → (expression_of start locals seen n).1 ≤ (expression_of start locals x n).1
-  left_within x a b seen c at n h i =
+  pub left_within : (x a b : Expression) (c : Comparison) (at n : ℕ) → x ≡ e.Compared a c b at → (expression_of start locals a n).1 ≤ (expression_of start locals x n).1
+  left_within x a b c at n h =
       let g = expression_grows start locals b (expression_of start locals a n).1 in
       let s = ap (λ (w : NumberedExpression × ℕ). w.1) (ap (λ w. expression_of start locals w n) h ∙ of_compared a b c at n) in
-      let j = ap (λ w. (expression_of start locals w n).1) i in
-      omega (arith, g, s, j)
+      omega (arith, g, s)
 
   -- ---- the parts of a statement end no later than the whole
-
-  of_write : (x y : Name) (a : Expression) (n : ℕ) → statement_of start locals (forms.Write x y a) n ≡ statement_step start locals (layers.Write x y a) n
-  of_write x y a n =
-      ap (λ w. statement_of start locals w n) (sym (forms.rolls-Write x y a))
-      ∙ ap (λ w. w n) (fold-roll-Statement (Numbered NumberedStatement) (statement_step start locals) (layers.Write x y a))
 
   abbrev other : Option (List Statement) → Option (List (Numbered NumberedStatement))
   other None = None
@@ -108,12 +93,6 @@ module _ (start : Start) (locals : List Parameter) where
   other_grows : (otherwise : Option (List Statement)) (n : ℕ) → n ≤ (other_in_turn start locals (other otherwise) n).1
   other_grows None n = omega arith
   other_grows (Some xs) n = block_grows start locals xs n
-
-  pub site_within : (s : Statement) (x y : Name) (a : Expression) (n : ℕ) → s ≡ forms.Write x y a → suc n ≤ (statement_of start locals s n).1
-  site_within s x y a n h =
-      let g = expression_grows start locals a (suc n) in
-      let e = ap (λ (w : NumberedStatement × ℕ). w.1) (ap (λ w. statement_of start locals w n) h ∙ of_write x y a n) in
-      omega (arith, g, e)
 
   pub block_within : (s : Statement) (a : Expression) (block seen : List Statement) (otherwise : Option (List Statement)) (n m : ℕ) (made : NumberedExpression) → s ≡ forms.If a block otherwise → seen ≡ block → expression_of start locals a n ≡ (made, m) → (in_turn (map (statement_of start locals) seen) m).1 ≤ (statement_of start locals s n).1
   block_within s a block seen otherwise n m made h i k =

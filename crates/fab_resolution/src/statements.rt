@@ -1,14 +1,17 @@
 //! Statements with numbers for names.
-ghost use Rattle.std.specs.Prelude.{map};
-ghost use Rattle.fab_tree.specs.Numbering.{in_turn, statement_of};
+ghost use Rattle.std.specs.Prelude.{map, suc};
+ghost use Rattle.fab_tree.specs.declared.resolved.Statement.TheVariants.{Assign, Write};
+ghost use Rattle.fab_tree.specs.Methods.{local_name};
+ghost use Rattle.fab_tree.specs.Numbering.{expression_of, field_number, in_turn, local_number, statement_of};
+ghost use Rattle.fab_tree.specs.Resolution.{use_of};
 ghost use Rattle.fab_resolution.specs.Gives.{Gives};
 
 use crate::expressions::numbered;
 use crate::scope::Scope;
 use crate::sites::{Refusal, next_site};
 use fab_base::Seq;
-use fab_tree::Statement;
 use fab_tree::resolved::Statement as Numbered;
+use fab_tree::{Expression, Name, Statement};
 use std::alloc::Global;
 
 /// The statements of a block with numbers for names.
@@ -29,7 +32,7 @@ pub(crate) fn numbered_block(
     Ok(made)
 }
 
-/// A statement with numbers for names. A write takes its site before what is written takes its own.
+/// A statement with numbers for names.
 #[cycle(block)]
 fn numbered_statement(
     alloc: Global,
@@ -45,52 +48,66 @@ fn numbered_statement(
             value,
             at,
             ..
-        } => {
-            let value = numbered(alloc, scope, sites, value)?;
-            Ok(Numbered::Assign {
-                local: scope.local_number(name),
-                value,
-                at: *at,
-            })
-        }
+        } => numbered_assignment(alloc, scope, sites, name, value, *at),
         Statement::Assign { name, value } => {
-            let value = numbered(alloc, scope, sites, value)?;
-            Ok(Numbered::Assign {
-                local: scope.local_number(name),
-                value,
-                at: name.at,
-            })
+            numbered_assignment(alloc, scope, sites, name, value, name.at)
         }
         Statement::Write {
             object,
             field,
             value,
-        } => {
-            let site = next_site(sites)?;
-            let written = numbered(alloc, scope, sites, value)?;
-            Ok(Numbered::Write {
-                object: scope.local_use(object),
-                field: scope.field_number(object, field),
-                value: written,
-                site,
-            })
-        }
+        } => numbered_write(alloc, scope, sites, object, field, value),
         Statement::If {
             condition,
             block,
             otherwise,
-        } => {
-            let condition = numbered(alloc, scope, sites, condition)?;
-            let then = numbered_block(alloc, scope, sites, block.as_slice())?;
-            let other = match otherwise {
+        } => Ok(Numbered::If {
+            condition: numbered(alloc, scope, sites, condition)?,
+            block: numbered_block(alloc, scope, sites, block.as_slice())?,
+            otherwise: match otherwise {
                 Some(other) => numbered_block(alloc, scope, sites, other.as_slice())?,
                 None => Seq::new(alloc),
-            };
-            Ok(Numbered::If {
-                condition,
-                block: then,
-                otherwise: other,
-            })
-        }
+            },
+        }),
     }
+}
+
+/// What a local gets, where it is declared or later.
+fn numbered_assignment(
+    alloc: Global,
+    scope: &Scope<'_>,
+    sites: &mut u16,
+    name: &Name,
+    value: &Expression,
+    at: u32,
+) -> Result<Numbered, Refusal>
+    ensures { Gives result sites.new (let v = expression_of scope.now.start.now scope.now.locals.now value.now sites.old in (Assign (local_number scope.now.start.now scope.now.locals.now name.now) v.0 at, v.1)) }
+{
+    let value = numbered(alloc, scope, sites, value)?;
+    Ok(Numbered::Assign {
+        local: scope.local_number(name),
+        value,
+        at,
+    })
+}
+
+/// What a field gets. The write takes its site before what is written takes its own.
+fn numbered_write(
+    alloc: Global,
+    scope: &Scope<'_>,
+    sites: &mut u16,
+    object: &Name,
+    field: &Name,
+    value: &Expression,
+) -> Result<Numbered, Refusal>
+    ensures { Gives result sites.new (let v = expression_of scope.now.start.now scope.now.locals.now value.now (suc sites.old) in (Write (use_of local_name scope.now.locals.now object.now) (field_number scope.now.start.now scope.now.locals.now object.now field.now) v.0 sites.old, v.1)) }
+{
+    let site = next_site(sites)?;
+    let written = numbered(alloc, scope, sites, value)?;
+    Ok(Numbered::Write {
+        object: scope.local_use(object),
+        field: scope.field_number(object, field),
+        value: written,
+        site,
+    })
 }

@@ -1,7 +1,7 @@
-use Rattle.std.proofs.Common.{suc, map}
+use Rattle.std.proofs.Common.{map}
 use Rattle.fab_tree.specs.Numbering.{expression_of, statement_of, in_turn}
 use Rattle.fab_resolution.proofs.InTurn.{refused, ends_within, goes_on}
-use Rattle.fab_resolution.proofs.Parts.{site_within, block_within, condition_within}
+use Rattle.fab_resolution.proofs.Parts.{block_within, condition_within}
 use Rattle.fab_resolution.proofs.SiteCounts.{block_grows}
 use Rattle.fab_resolution.proofs.statements.+block.Goals as goal
 
@@ -18,26 +18,18 @@ numbered_block-loop-statement-preserved t c =
     let k = goes_on (statement_of c.args.scope.now.start.now c.args.scope.now.locals.now) c.args.block.now c.loop-statement.statement-index c.statement-item.result c.loop-statement-test.true c.statement-item.is c.loop-statement.made c.push.new.self c.in_ok-one.one c.loop-statement.sites c.numbered_statement.new.sites (in_turn (map (statement_of c.args.scope.now.start.now c.args.scope.now.locals.now) c.args.block.now) c.args.sites.now) c.in_ok-one.ensures c.in_ok-push.ensures.ok c.loop-statement.invariant.made c.loop-statement.invariant.next in
     record { made = k.0; next = k.1 }
 
-pub numbered_statement-returns-in_err-site-in-Write : goal.numbered_statement-returns-in_err-site-in-Write
-numbered_statement-returns-in_err-site-in-Write t c = refused c.from_residual-in_err-site-in-Write.result c.in_err-site-in-Write.field-0.0 c.next_site.new.sites c.next_site.new.sites
-    (c.args.sites.now, suc c.args.sites.now)
-    (statement_of c.args.scope.now.start.now c.args.scope.now.locals.now c.args.statement.now c.args.sites.now)
-    c.from_residual-in_err-site-in-Write.ensures.1
-    (site_within c.args.scope.now.start.now c.args.scope.now.locals.now c.args.statement.now c.in-Write.object c.in-Write.field c.in-Write.value c.args.sites.now c.in-Write.is)
-    c.in_err-site-in-Write.ensures
-
-pub numbered_statement-returns-in_err-condition-in-If : goal.numbered_statement-returns-in_err-condition-in-If
-numbered_statement-returns-in_err-condition-in-If t c = refused c.from_residual-in_err-condition-in-If.result c.in_err-condition-in-If.field-0.0 c.numbered-in-If.new.sites c.numbered-in-If.new.sites
+pub numbered_statement-returns-in_err-numbered-in-If : goal.numbered_statement-returns-in_err-numbered-in-If
+numbered_statement-returns-in_err-numbered-in-If t c = refused c.from_residual.result c.in_err-numbered-in-If.field-0.0 c.numbered.new.sites c.numbered.new.sites
     (expression_of c.args.scope.now.start.now c.args.scope.now.locals.now c.in-If.condition c.args.sites.now)
     (statement_of c.args.scope.now.start.now c.args.scope.now.locals.now c.args.statement.now c.args.sites.now)
-    c.from_residual-in_err-condition-in-If.ensures.1
+    c.from_residual.ensures.1
     (condition_within c.args.scope.now.start.now c.args.scope.now.locals.now c.args.statement.now c.in-If.condition c.in-If.block c.in-If.otherwise c.args.sites.now c.in-If.is)
-    c.in_err-condition-in-If.ensures
+    c.in_err-numbered-in-If.ensures
 
-pub numbered_statement-returns-in_err-then-in-If : goal.numbered_statement-returns-in_err-then-in-If
-numbered_statement-returns-in_err-then-in-If t c = refused c.from_residual-in_err-then-in-If.result c.in_err-then-in-If.field-0.0 c.numbered_block.new.sites c.numbered_block.new.sites
-    (in_turn (map (statement_of c.args.scope.now.start.now c.args.scope.now.locals.now) c.as_slice.result.now) c.numbered-in-If.new.sites)
+pub numbered_statement-returns-in_err-numbered_block-in-If : goal.numbered_statement-returns-in_err-numbered_block-in-If
+numbered_statement-returns-in_err-numbered_block-in-If t c = refused c.from_residual-in_err-numbered_block-in-If.result c.in_err-numbered_block-in-If.field-0.0 c.numbered_block.new.sites c.numbered_block.new.sites
+    (in_turn (map (statement_of c.args.scope.now.start.now c.args.scope.now.locals.now) c.as_slice.result.now) c.numbered.new.sites)
     (statement_of c.args.scope.now.start.now c.args.scope.now.locals.now c.args.statement.now c.args.sites.now)
-    c.from_residual-in_err-then-in-If.ensures.1
-    (block_within c.args.scope.now.start.now c.args.scope.now.locals.now c.args.statement.now c.in-If.condition c.in-If.block c.as_slice.result.now c.in-If.otherwise c.args.sites.now c.numbered-in-If.new.sites c.in_ok-condition-in-If.condition c.in-If.is c.as_slice.ensures c.in_ok-condition-in-If.ensures)
-    c.in_err-then-in-If.ensures
+    c.from_residual-in_err-numbered_block-in-If.ensures.1
+    (block_within c.args.scope.now.start.now c.args.scope.now.locals.now c.args.statement.now c.in-If.condition c.in-If.block c.as_slice.result.now c.in-If.otherwise c.args.sites.now c.numbered.new.sites c.in_ok-numbered-in-If.field-0 c.in-If.is c.as_slice.ensures c.in_ok-numbered-in-If.ensures)
+    c.in_err-numbered_block-in-If.ensures
