@@ -7,8 +7,9 @@ ghost use Rattle.fab_tree.specs.declared.resolved.Request.{Request};
 ghost use Rattle.fab_tree.specs.declared.resolved.Resolved.{Resolved};
 ghost use Rattle.fab_requests.specs.TypedRequests.{AreTypedRequests};
 
-/// Requests for well typed methods all end, whatever those before them wrote: each needs only that
-/// what it gives is of its parameters' types in the map before the first.
+/// Requests for well typed methods of at most 1,000,000 statements all end, whatever those before
+/// them wrote, if what each gives is of its parameters' types in the map before the first, with at
+/// most 256 objects.
 pub fn typed_requests_all_end()
     ensures { (program : Resolved) (known : FlatMap) (requests : List Request) → AreTypedRequests program known requests → (in_turn program known requests).endings ≡ replicate (length requests) (Ended None) }
 {}

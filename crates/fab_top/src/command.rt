@@ -75,8 +75,8 @@ fn run<S: Source, K: Sink>(alloc: Global, words: &[String], source: &mut S, sink
 /// Does what the words ask for, and says how it ended.
 ///
 /// The one word `eval` asks for the evaluation of the bundle that the source has: at most
-/// 1,000,000 bytes, which are read in pieces of 65,536. Of what the source has left and the sink
-/// holds, the clauses speak where these tell it.
+/// 1,000,000 bytes. Of what the source has left and the sink holds, the clauses speak where these
+/// tell it.
 pub fn fab<S: Source, K: Sink>(
     alloc: Global,
     words: &[String],
@@ -104,7 +104,7 @@ pub fn fab<S: Source, K: Sink>(
     ensures not_built { AskEvaluation words.now → result ≢ ReadFault → IfSome (S.left source.old) (λ text. Exactly result NotBuilt (SpellsNone text)) }
     ensures not_built_line { result ≡ NotBuilt → Appends (K.written sink.old) (K.written sink.new) (line (codes "not built")) }
 
-    // It comes of a text that was read to its end, or of 1,000,001 bytes.
+    // It is the reply to what was read: a text to its end, or 1,000,001 bytes.
     ensures not_built_reply { result ≡ NotBuilt → RepliesWith NotBuilt words.now (S.left source.old) (S.left source.new) (K.written sink.old) (K.written sink.new) }
 
     // `ReadFault` comes only where the source's faults rose, and nothing is written.
@@ -115,7 +115,8 @@ pub fn fab<S: Source, K: Sink>(
     ensures write_fault { result ≡ WriteFault → Rose (K.faults sink.old) (K.faults sink.new) }
     ensures write_fault_front { result ≡ WriteFault → RepliesInPart words.now (S.left source.old) (S.left source.new) (K.written sink.old) (K.written sink.new) }
 
-    // With `Memory` nothing is written, or the text was read whole and a front of its reply is.
+    // With `Memory` nothing is written, or a front of the reply to what was read, which is the text to
+    // its end or 1,000,001 bytes, and nothing where the words ask for nothing.
     ensures memory { result ≡ Memory → Keeps (K.written sink.old) (K.written sink.new) ⊎ RepliesInPart words.now (S.left source.old) (S.left source.new) (K.written sink.old) (K.written sink.new) }
     ensures source_faults { S.faults source.old ≤ S.faults source.new }
     ensures sink_faults { K.faults sink.old ≤ K.faults sink.new }

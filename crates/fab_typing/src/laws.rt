@@ -14,14 +14,16 @@ ghost use Rattle.fab_eval.specs.Typed.{IsTypedMethod};
 ghost use Rattle.fab_requests.specs.TypedRequests.{AreTypedRequests};
 ghost use Rattle.fab_typing.specs.Short.{AreShort};
 
-/// A method that keeps the rules of names and types is well typed once numbers stand for its names,
-/// whatever number its first site has, if the fields of all classes are numbers.
+/// A method that keeps the rules of names and types, in a bundle that keeps those of what it
+/// declares, is well typed once numbers stand for its names, whatever number its first site has, if
+/// the fields of all classes are numbers.
 pub fn known_methods_are_typed()
     ensures { (s : Start) (m : Method) (n : ℕ) → KeepsNames s → All (λ c. All (λ f. f.sort ≡ sorts.Int) c.fields) s.classes → IsKnownMethod s m → IsTypedMethod (map (class_of s) s.classes) (method_of s m n).0 }
 {}
 
-/// The requests of a bundle of the evaluated form are well typed over the objects that there are
-/// from the start, if no body is too long for the fuel.
+/// The requests of a bundle of the evaluated form, which keeps the rules and the limits on methods
+/// and sessions, are well typed over the objects that there are from the start, if no body is too
+/// long for the fuel.
 pub fn known_requests_are_typed()
     ensures { (s : Start) → KeepsCounts s → KeepsRules s → IsEvaluated s → AreShort s → AreTypedRequests (resolved s) (map_at_start (resolved s)) (requests_of (resolved s)) }
 {}
