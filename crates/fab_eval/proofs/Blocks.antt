@@ -7,12 +7,12 @@ use Rattle.fab_base.specs.declared.object.Value.{Value}
 use Rattle.fab_base.specs.declared.object.Value.TheVariants.{Int, Null, Ref}
 use Rattle.fab_base.specs.declared.object.Stop.TheVariants.{Fuel, Reads, Writes}
 use Rattle.fab_base.specs.FlatMap.{get, put}
-use Rattle.fab_tree.specs.declared.program.Sign.{Sign}
-use Rattle.fab_tree.specs.declared.resolved.Expression.{Expression, ind-Expression, roll-Expression, fold-roll-Expression, map-Expression}
-use Rattle.fab_tree.specs.declared.resolved.Expression.TheOpen.{Expression-F, Number, Local, Read, Negative, Sum, Compared}
-use Rattle.fab_tree.specs.declared.resolved.Statement.{Statement, ind-Statement, roll-Statement, fold-roll-Statement, map-Statement}
-use Rattle.fab_tree.specs.declared.resolved.Statement.TheOpen.{Statement-F, Assign, Write, If}
-use Rattle.fab_tree.specs.Meaning.{State, Run, goes, ends, stopped, M, and_then, gives, ◌>>=◌, ◌>>◌, charge, local, reached, access, replaces, write, name_in, field_of, with_field, is_among, is_full, touched, noted, with_written, holds, added, summed, value, expression_step, in_order, statement, statement_step, block}
+use Rattle.fab_plain.specs.declared.program.Sign.{Sign}
+use Rattle.fab_plain.specs.declared.resolved.Expression.{Expression, ind-Expression, roll-Expression, fold-roll-Expression, map-Expression}
+use Rattle.fab_plain.specs.declared.resolved.Expression.TheOpen.{Expression-F, Number, Local, Read, Negative, Sum, Compared}
+use Rattle.fab_plain.specs.declared.resolved.Statement.{Statement, ind-Statement, roll-Statement, fold-roll-Statement, map-Statement}
+use Rattle.fab_plain.specs.declared.resolved.Statement.TheOpen.{Statement-F, Assign, Write, If}
+use Rattle.fab_plain.specs.Meaning.{State, Run, goes, ends, stopped, M, and_then, gives, ◌>>=◌, ◌>>◌, charge, local, reached, access, replaces, write, name_in, field_of, with_field, is_among, is_full, touched, noted, with_written, holds, added, summed, value, expression_step, in_order, statement, statement_step, block}
 use Rattle.fab_eval.specs.Runs.{state_after}
 
 -- ---- fuel

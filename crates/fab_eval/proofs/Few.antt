@@ -6,7 +6,7 @@ use Rattle.std.proofs.lemmas.Bool.Decides.{nat_tests}
 use Rattle.fab_base.specs.declared.object.Oid.{Oid}
 use Rattle.fab_base.specs.FlatMap.{is_same}
 use Rattle.fab_map.proofs.Order.{same_self, same_flips, one_name}
-use Rattle.fab_tree.specs.Meaning.{is_among, without, each_once, touched, noted, with_written}
+use Rattle.fab_plain.specs.Meaning.{is_among, without, each_once, touched, noted, with_written}
 use Rattle.fab_eval.proofs.Noting.{among_without, noted_known, noted_new}
 
 -- no name stands twice

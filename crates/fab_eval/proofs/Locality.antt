@@ -12,15 +12,15 @@ use Rattle.fab_base.specs.declared.object.Stop.TheVariants.{Fuel, Reads, Writes}
 use Rattle.fab_base.specs.FlatMap.{FlatMap, get, put, is_same, ascends}
 use Rattle.fab_map.proofs.Order.{one_name, same_self}
 use Rattle.fab_map.proofs.Rows.{get-put_same, get-put_other, ascends-put}
-use Rattle.fab_tree.specs.declared.program.Sign.{Sign}
-use Rattle.fab_tree.specs.declared.resolved.Method.{Method}
-use Rattle.fab_tree.specs.declared.resolved.Resolved.{Resolved}
-use Rattle.fab_tree.specs.declared.resolved.Request.{Request}
-use Rattle.fab_tree.specs.declared.resolved.Expression.{Expression, ind-Expression, roll-Expression, fold-roll-Expression, map-Expression}
-use Rattle.fab_tree.specs.declared.resolved.Expression.TheOpen.{Expression-F, Number, Local, Read, Negative, Sum, Compared}
-use Rattle.fab_tree.specs.declared.resolved.Statement.{Statement, ind-Statement, roll-Statement, fold-roll-Statement, map-Statement}
-use Rattle.fab_tree.specs.declared.resolved.Statement.TheOpen.{Statement-F, Assign, Write, If}
-use Rattle.fab_tree.specs.Meaning.{State, failed, stopped, missing, Run, goes, ends, M, and_then, gives, ◌>>=◌, ◌>>◌, charge, local, assign, reached, access, replace, write, field_of, with_field, is_among, is_full, touched, noted, with_written, holds, added, summed, value, expression_step, in_order, statement, statement_step, block, called, requested, locals_at_start, Missing, meant_by, meaning, state_at_start}
+use Rattle.fab_plain.specs.declared.program.Sign.{Sign}
+use Rattle.fab_plain.specs.declared.resolved.Method.{Method}
+use Rattle.fab_plain.specs.declared.resolved.Resolved.{Resolved}
+use Rattle.fab_plain.specs.declared.resolved.Request.{Request}
+use Rattle.fab_plain.specs.declared.resolved.Expression.{Expression, ind-Expression, roll-Expression, fold-roll-Expression, map-Expression}
+use Rattle.fab_plain.specs.declared.resolved.Expression.TheOpen.{Expression-F, Number, Local, Read, Negative, Sum, Compared}
+use Rattle.fab_plain.specs.declared.resolved.Statement.{Statement, ind-Statement, roll-Statement, fold-roll-Statement, map-Statement}
+use Rattle.fab_plain.specs.declared.resolved.Statement.TheOpen.{Statement-F, Assign, Write, If}
+use Rattle.fab_plain.specs.Meaning.{State, failed, stopped, missing, Run, goes, ends, M, and_then, gives, ◌>>=◌, ◌>>◌, charge, local, assign, reached, access, replace, write, field_of, with_field, is_among, is_full, touched, noted, with_written, holds, added, summed, value, expression_step, in_order, statement, statement_step, block, called, requested, locals_at_start, Missing, meant_by, meaning, state_at_start}
 use Rattle.fab_eval.specs.Locality.{IsPart, LacksToo, IsSameOver}
 use Rattle.fab_eval.proofs.Few.{among_more}
 

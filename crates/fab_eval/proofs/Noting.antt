@@ -8,7 +8,7 @@ use Rattle.fab_base.specs.declared.object.Oid.{Oid}
 use Rattle.fab_base.specs.FlatMap.{is_same}
 use Rattle.fab_base.specs.contracts.object.OidPartialEq as oids
 use Rattle.std.specs.contracts.prelude.U16PartialEq as numbers
-use Rattle.fab_tree.specs.Meaning.{is_among, without, each_once, touched, noted, is_full}
+use Rattle.fab_plain.specs.Meaning.{is_among, without, each_once, touched, noted, is_full}
 
 -- the derived comparison of names is that of their parts
 pub eq_is : (o p : Oid) → oids.TheImpl.ghosts.eq o p ≡ is_same p o

@@ -15,22 +15,22 @@ use Rattle.fab_base.specs.declared.object.Stop.TheVariants.{Fuel, Reads, Writes}
 use Rattle.fab_base.specs.FlatMap.{FlatMap, get, put, is_same}
 use Rattle.fab_map.proofs.Order.{one_name}
 use Rattle.fab_map.proofs.Rows.{get-put_same, get-put_other}
-use Rattle.fab_tree.specs.declared.program.Sign.{Sign}
-use Rattle.fab_tree.specs.declared.program.Sign.TheVariants.{Plus, Minus}
-use Rattle.fab_tree.specs.declared.program.Comparison.{Comparison}
-use Rattle.fab_tree.specs.declared.resolved.Use.{Use}
-use Rattle.fab_tree.specs.declared.resolved.Class.{Class}
-use Rattle.fab_tree.specs.declared.resolved.Local.{Local}
-use Rattle.fab_tree.specs.declared.resolved.Method.{Method}
-use Rattle.fab_tree.specs.declared.resolved.Resolved.{Resolved}
-use Rattle.fab_tree.specs.declared.resolved.Request.{Request}
-use Rattle.fab_tree.specs.declared.resolved.Expression.{Expression, roll-Expression}
-use Rattle.fab_tree.specs.declared.resolved.Expression.TheOpen as ex
-use Rattle.fab_tree.specs.declared.resolved.Statement.{Statement, roll-Statement, fold-roll-Statement, map-Statement}
-use Rattle.fab_tree.specs.declared.resolved.Statement.TheOpen as st
-use Rattle.fab_tree.specs.Meaning as m
-use Rattle.fab_tree.specs.Meaning.{Ended, State, Run, goes, ends, stopped, M, and_then, gives, ◌>>=◌, ◌>>◌, charge, assign, reached, access, replaces, write, name_in, field_of, with_field, is_among, touched, noted, with_written, holds, int_of, compares, wrapped, added, value, statement, block, locals_at_start, meaning, meant_by, requested, called, state_at_start}
-use Rattle.fab_tree.proofs.Forms.{number_means, local_means, read_means, negative_means, sum_means, compared_means, assign_means, write_means, if_means}
+use Rattle.fab_plain.specs.declared.program.Sign.{Sign}
+use Rattle.fab_plain.specs.declared.program.Sign.TheVariants.{Plus, Minus}
+use Rattle.fab_plain.specs.declared.program.Comparison.{Comparison}
+use Rattle.fab_plain.specs.declared.resolved.Use.{Use}
+use Rattle.fab_plain.specs.declared.resolved.Class.{Class}
+use Rattle.fab_plain.specs.declared.resolved.Local.{Local}
+use Rattle.fab_plain.specs.declared.resolved.Method.{Method}
+use Rattle.fab_plain.specs.declared.resolved.Resolved.{Resolved}
+use Rattle.fab_plain.specs.declared.resolved.Request.{Request}
+use Rattle.fab_plain.specs.declared.resolved.Expression.{Expression, roll-Expression}
+use Rattle.fab_plain.specs.declared.resolved.Expression.TheOpen as ex
+use Rattle.fab_plain.specs.declared.resolved.Statement.{Statement, roll-Statement, fold-roll-Statement, map-Statement}
+use Rattle.fab_plain.specs.declared.resolved.Statement.TheOpen as st
+use Rattle.fab_plain.specs.Meaning as m
+use Rattle.fab_plain.specs.Meaning.{Ended, State, Run, goes, ends, stopped, M, and_then, gives, ◌>>=◌, ◌>>◌, charge, assign, reached, access, replaces, write, name_in, field_of, with_field, is_among, touched, noted, with_written, holds, int_of, compares, wrapped, added, value, statement, block, locals_at_start, meaning, meant_by, requested, called, state_at_start}
+use Rattle.fab_plain.proofs.Forms.{number_means, local_means, read_means, negative_means, sum_means, compared_means, assign_means, write_means, if_means}
 use Rattle.fab_eval.specs.Typed.{Kind, int, object, kind_of, local_kind, field_kind, is_in, below, Knows, HasKind, number, local, read, negative, summed, compared, same, AreNumbers, none, more, IsTyped, assign as assigns, write as writes, when, AreTyped, none as no_more, more as one_more, IsTypedMethod, size_step, size, size_of, IsObject, IsOf, AreGiven}
 use Rattle.fab_eval.proofs.Few.{Apart, Within, once_apart, has_room, touched_within, written_within, written_apart}
 

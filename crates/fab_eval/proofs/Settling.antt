@@ -4,7 +4,7 @@ use Rattle.std.specs.Map.{keys_of}
 use Rattle.std.specs.declared.alloc.AllocError.{AllocError}
 use Rattle.fab_base.specs.declared.object.Oid.{Oid}
 use Rattle.fab_base.specs.declared.object.Value.{Value}
-use Rattle.fab_tree.specs.Meaning.{Run, meant_by}
+use Rattle.fab_plain.specs.Meaning.{Run, meant_by}
 use Rattle.fab_eval.specs.declared.job.Outcome.{Outcome}
 use Rattle.fab_eval.specs.declared.state.State.{State}
 use Rattle.fab_eval.specs.declared.state.Halt.{Halt}

@@ -1,18 +1,18 @@
 -- Worked examples of methods that are well typed, and of expressions that aren't.
 use Rattle.std.proofs.Common.{◌≡◌, ℕ, pos, false, List, [], ◌∷◌, codes, refl, sym, ◌∙◌, subst, lit≤}
 use Rattle.std.proofs.lemmas.Bool.{true≢false}
-use Rattle.fab_tree.specs.declared.program.Sign.TheVariants.{Minus}
-use Rattle.fab_tree.specs.declared.program.Comparison.TheVariants.{Less}
-use Rattle.fab_tree.specs.declared.start.Name.{Name}
-use Rattle.fab_tree.specs.declared.resolved.Use.{Use}
-use Rattle.fab_tree.specs.declared.resolved.Sort.TheVariants as sorts
-use Rattle.fab_tree.specs.declared.resolved.Class.{Class}
-use Rattle.fab_tree.specs.declared.resolved.Local.{Local}
-use Rattle.fab_tree.specs.declared.resolved.Method.{Method}
-use Rattle.fab_tree.specs.declared.resolved.Expression.{Expression, roll-Expression, out-Expression, out-roll-Expression}
-use Rattle.fab_tree.specs.declared.resolved.Expression.TheOpen as ex
-use Rattle.fab_tree.specs.declared.resolved.Statement.{Statement, roll-Statement}
-use Rattle.fab_tree.specs.declared.resolved.Statement.TheOpen as st
+use Rattle.fab_plain.specs.declared.program.Sign.TheVariants.{Minus}
+use Rattle.fab_plain.specs.declared.program.Comparison.TheVariants.{Less}
+use Rattle.fab_plain.specs.declared.start.Name.{Name}
+use Rattle.fab_plain.specs.declared.resolved.Use.{Use}
+use Rattle.fab_plain.specs.declared.resolved.Sort.TheVariants as sorts
+use Rattle.fab_plain.specs.declared.resolved.Class.{Class}
+use Rattle.fab_plain.specs.declared.resolved.Local.{Local}
+use Rattle.fab_plain.specs.declared.resolved.Method.{Method}
+use Rattle.fab_plain.specs.declared.resolved.Expression.{Expression, roll-Expression, out-Expression, out-roll-Expression}
+use Rattle.fab_plain.specs.declared.resolved.Expression.TheOpen as ex
+use Rattle.fab_plain.specs.declared.resolved.Statement.{Statement, roll-Statement}
+use Rattle.fab_plain.specs.declared.resolved.Statement.TheOpen as st
 use Rattle.fab_eval.specs.Typed.{Kind, int, object, Knows, HasKind, number, local, read, negative, summed, compared, same, none, more, assign, write, when, none as no_more, more as one_more, IsTypedMethod}
 
 abbrev named : List ℕ → Name

@@ -1,8 +1,8 @@
 -- What a call of the evaluator gave, beside the meaning.
 use Rattle.std.specs.Prelude.{◌≡◌, ℕ, Result, Ok, Err}
 use Rattle.fab_base.specs.declared.object.Value.{Value}
-use Rattle.fab_tree.specs.Meaning as m
-use Rattle.fab_tree.specs.Meaning.{M, Run, goes, ends, gives, ◌>>=◌, access, field_of}
+use Rattle.fab_plain.specs.Meaning as m
+use Rattle.fab_plain.specs.Meaning.{M, Run, goes, ends, gives, ◌>>=◌, access, field_of}
 use Rattle.fab_eval.specs.declared.state.State.{State}
 use Rattle.fab_eval.specs.declared.state.End.{End}
 use Rattle.fab_eval.specs.declared.state.End.TheVariants.{Failed, Stopped, Missing}

@@ -3,7 +3,7 @@ use Rattle.std.specs.Prelude.{◌≡◌, ℕ, true, false, Some, None}
 use Rattle.fab_base.specs.declared.object.Oid.{Oid}
 use Rattle.fab_base.specs.declared.object.Object.{Object}
 use Rattle.fab_base.specs.FlatMap.{FlatMap, get}
-use Rattle.fab_tree.specs.Meaning.{Meant, Missing, is_among}
+use Rattle.fab_plain.specs.Meaning.{Meant, Missing, is_among}
 
 -- whatever this map has under a name, that one has, too
 abbrev pub IsPart : FlatMap → FlatMap → Type 0

@@ -4,8 +4,8 @@ use Rattle.fab_base.specs.declared.object.Oid.{Oid}
 use Rattle.fab_base.specs.declared.object.Tid.{Tid}
 use Rattle.fab_base.specs.declared.object.Object.{Object}
 use Rattle.fab_base.specs.FlatMap.{FlatMap, is_same, map_of}
-use Rattle.fab_tree.specs.Meaning as m
-use Rattle.fab_tree.specs.Meaning.{Meant, is_among, meaning}
+use Rattle.fab_plain.specs.Meaning as m
+use Rattle.fab_plain.specs.Meaning.{Meant, is_among, meaning}
 use Rattle.fab_eval.specs.declared.job.Job.{Job}
 use Rattle.fab_eval.specs.declared.job.Outcome.{Outcome}
 use Rattle.fab_eval.specs.declared.job.Outcome.TheVariants.{Need, Ended, Failed, Stopped}

@@ -1,5 +1,5 @@
 -- What a run leaves.
-use Rattle.fab_tree.specs.Meaning.{Run, goes, ends, State}
+use Rattle.fab_plain.specs.Meaning.{Run, goes, ends, State}
 
 -- the state behind a run, whether it went on or ended
 abbrev pub state_after : {A : Type 0} → Run A → State

@@ -2,8 +2,8 @@
 use Rattle.std.specs.Prelude.{◌≡◌, ℕ, List, Option, Result, Ok, Err}
 use Rattle.fab_base.specs.declared.object.Oid.{Oid}
 use Rattle.fab_base.specs.declared.object.Value.{Value}
-use Rattle.fab_tree.specs.Meaning as m
-use Rattle.fab_tree.specs.Meaning.{Meant, meant_at, ending_at}
+use Rattle.fab_plain.specs.Meaning as m
+use Rattle.fab_plain.specs.Meaning.{Meant, meant_at, ending_at}
 use Rattle.fab_eval.specs.declared.job.Outcome.{Outcome}
 use Rattle.fab_eval.specs.declared.state.State.{State}
 use Rattle.fab_eval.specs.declared.state.Halt.{Halt}

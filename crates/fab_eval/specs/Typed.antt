@@ -7,20 +7,20 @@ use Rattle.fab_base.specs.declared.object.Object.{Object}
 use Rattle.fab_base.specs.declared.object.Value.{Value}
 use Rattle.fab_base.specs.declared.object.Value.TheVariants.{Int, Ref}
 use Rattle.fab_base.specs.FlatMap.{FlatMap, get}
-use Rattle.fab_tree.specs.declared.program.Sign.{Sign}
-use Rattle.fab_tree.specs.declared.program.Comparison.{Comparison}
-use Rattle.fab_tree.specs.declared.program.Comparison.TheVariants.{Equal, NotEqual}
-use Rattle.fab_tree.specs.declared.resolved.Use.{Use}
-use Rattle.fab_tree.specs.declared.resolved.Sort.{Sort}
-use Rattle.fab_tree.specs.declared.resolved.Sort.TheVariants as sorts
-use Rattle.fab_tree.specs.declared.resolved.Class.{Class}
-use Rattle.fab_tree.specs.declared.resolved.Local.{Local}
-use Rattle.fab_tree.specs.declared.resolved.Method.{Method}
-use Rattle.fab_tree.specs.declared.resolved.Expression.{Expression, roll-Expression}
-use Rattle.fab_tree.specs.declared.resolved.Expression.TheOpen as e
-use Rattle.fab_tree.specs.declared.resolved.Statement.{Statement, roll-Statement, fold-Statement}
-use Rattle.fab_tree.specs.declared.resolved.Statement.TheOpen as s
-use Rattle.fab_tree.specs.Meaning.{is_among}
+use Rattle.fab_plain.specs.declared.program.Sign.{Sign}
+use Rattle.fab_plain.specs.declared.program.Comparison.{Comparison}
+use Rattle.fab_plain.specs.declared.program.Comparison.TheVariants.{Equal, NotEqual}
+use Rattle.fab_plain.specs.declared.resolved.Use.{Use}
+use Rattle.fab_plain.specs.declared.resolved.Sort.{Sort}
+use Rattle.fab_plain.specs.declared.resolved.Sort.TheVariants as sorts
+use Rattle.fab_plain.specs.declared.resolved.Class.{Class}
+use Rattle.fab_plain.specs.declared.resolved.Local.{Local}
+use Rattle.fab_plain.specs.declared.resolved.Method.{Method}
+use Rattle.fab_plain.specs.declared.resolved.Expression.{Expression, roll-Expression}
+use Rattle.fab_plain.specs.declared.resolved.Expression.TheOpen as e
+use Rattle.fab_plain.specs.declared.resolved.Statement.{Statement, roll-Statement, fold-Statement}
+use Rattle.fab_plain.specs.declared.resolved.Statement.TheOpen as s
+use Rattle.fab_plain.specs.Meaning.{is_among}
 
 -- a number, or an object of the class of this number
 pub data Kind : Type 0 where

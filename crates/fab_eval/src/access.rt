@@ -1,6 +1,6 @@
 //! Locals, and the objects behind values.
 ghost use Rattle.std.specs.Prelude.{◌≡◌, Ok, OnOk, ◌≤◌, ◌<◌};
-ghost use Rattle.fab_tree.specs.Meaning.{assign, charge, local, replace, write};
+ghost use Rattle.fab_plain.specs.Meaning.{assign, charge, local, replace, write};
 ghost use Rattle.fab_eval.specs.Gives.{Gives, read, shown};
 
 use crate::state::{End, Halt, State};

@@ -1,14 +1,14 @@
 //! Expressions and statements.
 ghost use Rattle.std.specs.Prelude.{◌≡◌, ◌≤◌, map};
-ghost use Rattle.fab_tree.specs.Meaning.{block, statement, summed, value};
+ghost use Rattle.fab_plain.specs.Meaning.{block, statement, summed, value};
 ghost use Rattle.fab_eval.specs.Gives.{Gives, shown};
 
 use crate::access::{assign, charge, local, read, write};
 use crate::state::{Halt, State};
 use crate::values::{added, compares, holds, int_of};
 use fab_base::{Value, java_sub};
-use fab_tree::Sign;
-use fab_tree::resolved::{Expression, Statement};
+use fab_plain::Sign;
+use fab_plain::resolved::{Expression, Statement};
 use std::alloc::Global;
 
 /// The value of an expression.

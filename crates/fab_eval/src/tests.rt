@@ -3,8 +3,8 @@ ghost use Rattle.std.specs.Prelude.{◌≡◌, [], ◌∷◌, IfOk, length};
 
 use crate::{Done, Job, Outcome, evaluate};
 use fab_base::{Boxed, NoMemory, Object, Oid, Seq, Text, Tid, Value};
-use fab_tree::resolved::{Expression, Method, Request, Resolved, Statement, Use};
-use fab_tree::{Name, Sign};
+use fab_plain::resolved::{Expression, Method, Request, Resolved, Statement, Use};
+use fab_plain::{Name, Sign};
 use std::alloc::Global;
 use std::sync::Arc;
 use std::test::Fail;

@@ -1,6 +1,6 @@
 //! The touches of an evaluation.
 ghost use Rattle.std.specs.Prelude.{◌≡◌, [], not, IfOk, if◌then◌else◌};
-ghost use Rattle.fab_tree.specs.Meaning.{is_among, is_full, noted, touched};
+ghost use Rattle.fab_plain.specs.Meaning.{is_among, is_full, noted, touched};
 
 use fab_base::{NoMemory, Oid};
 use indexmap::IndexSet;
@@ -20,7 +20,7 @@ pub(crate) struct Touches {
 impl Model for Touches {
     ghost use Rattle.std.specs.Prelude.{◌≡◌, ℕ, List};
     ghost use Rattle.fab_base.specs.declared.object.Oid.{Oid};
-    ghost use Rattle.fab_tree.specs.Meaning.{touched};
+    ghost use Rattle.fab_plain.specs.Meaning.{touched};
 
     ghost Value = { List (ℕ × Oid) };
 

@@ -1,9 +1,9 @@
 //! What is computed from values alone.
 ghost use Rattle.std.specs.Prelude.{◌≡◌, IfOk};
-ghost use Rattle.fab_tree.specs.Meaning.{added, compares, equals, field_of, holds, int_of, with_field};
+ghost use Rattle.fab_plain.specs.Meaning.{added, compares, equals, field_of, holds, int_of, with_field};
 
 use fab_base::{NoMemory, Object, Seq, Value, java_add, java_sub};
-use fab_tree::{Comparison, Sign};
+use fab_plain::{Comparison, Sign};
 use std::alloc::Global;
 
 /// The number that a value is; no other value is asked for one.

@@ -2,7 +2,7 @@
 ghost use Rattle.std.specs.Prelude.{◌≡◌, false, [], IfErr, IfOk, slice_get};
 ghost use Rattle.std.specs.List.{IsDistinct, list_any};
 ghost use Rattle.fab_base.specs.FlatMap.{is_same, map_of};
-ghost use Rattle.fab_tree.specs.Meaning.{called, ending_at, locals_at_start, requested, state_at_start};
+ghost use Rattle.fab_plain.specs.Meaning.{called, ending_at, locals_at_start, requested, state_at_start};
 ghost use Rattle.fab_eval.specs.Gives.{Gives, shown, end_of};
 ghost use Rattle.fab_eval.specs.Outcomes.{is_made_in, meant_of, names_of, objects_of, outcome_at, version_of, writes_in};
 ghost use Rattle.fab_eval.specs.Settles.{Comes, Settles};
@@ -14,8 +14,8 @@ use crate::state::{End, Halt, State};
 use crate::touches::{Touches, is_among};
 use fab_base::{NoMemory, Object, Oid, Seq, Tid, Value};
 use fab_map::ObjectMap;
-use fab_tree::Resolved;
-use fab_tree::resolved::{Method, Request};
+use fab_plain::Resolved;
+use fab_plain::resolved::{Method, Request};
 use std::alloc::{AllocError, Global};
 
 const FUEL: u32 = 1_000_000;

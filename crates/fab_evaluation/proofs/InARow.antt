@@ -1,13 +1,13 @@
 -- Requests behind others, and their lines.
 use Rattle.std.proofs.Common.{◌≡◌, List, [], ◌∷◌, ◌++◌, length, map, ℕ, refl, sym, ap, ◌∙◌, append_assoc, arith}
 use Rattle.fab_base.specs.FlatMap.{FlatMap}
-use Rattle.fab_tree.specs.declared.resolved.Request.{Request}
-use Rattle.fab_tree.specs.declared.resolved.Resolved.{Resolved}
-use Rattle.fab_tree.specs.Meaning.{Ending}
-use Rattle.fab_tree.specs.Requests.{Course, meant, map_behind, preceded, in_turn}
-use Rattle.fab_tree.specs.Evaluation.{outcome_line, outcomes_text}
+use Rattle.fab_plain.specs.declared.resolved.Request.{Request}
+use Rattle.fab_plain.specs.declared.resolved.Resolved.{Resolved}
+use Rattle.fab_plain.specs.Meaning.{Ending}
+use Rattle.fab_plain.specs.Requests.{Course, meant, map_behind, preceded, in_turn}
+use Rattle.fab_plain.specs.Evaluation.{outcome_line, outcomes_text}
 use Rattle.std.specs.List.{flat_map}
-use Rattle.fab_tree.specs.declared.resolved.Session.{Session}
+use Rattle.fab_plain.specs.declared.resolved.Session.{Session}
 use Rattle.fab_requests.specs.declared.ran.Ran.{Ran}
 use Rattle.fab_requests.specs.Turns.{ending_of, course_of}
 

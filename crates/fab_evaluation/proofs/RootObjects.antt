@@ -4,19 +4,19 @@ use Rattle.std.specs.List.{IsDistinct, AllByRecursion}
 use Rattle.std.specs.Map.{keys_of}
 use Rattle.fab_base.specs.declared.object.Oid.{Oid}
 use Rattle.fab_base.specs.FlatMap.{is_same}
-use Rattle.fab_tree.specs.declared.start.Root.{Root as WrittenRoot}
-use Rattle.fab_tree.specs.declared.start.Start.{Start}
-use Rattle.fab_tree.specs.declared.resolved.Root.{Root}
-use Rattle.fab_tree.specs.Resolution.{roots_from}
-use Rattle.fab_tree.specs.Numbering.{resolved}
+use Rattle.fab_plain.specs.declared.start.Root.{Root as WrittenRoot}
+use Rattle.fab_plain.specs.declared.start.Start.{Start}
+use Rattle.fab_plain.specs.declared.resolved.Root.{Root}
+use Rattle.fab_plain.specs.Resolution.{roots_from}
+use Rattle.fab_plain.specs.Numbering.{resolved}
 use Rattle.fab_forms.specs.Numbered.{AreNumbered}
 use Rattle.fab_forms.proofs.Roots.{NumberedFrom, behind_first, same_number, not_same}
-use Rattle.fab_tree.specs.Evaluation.{rows_of}
+use Rattle.fab_plain.specs.Evaluation.{rows_of}
 use Rattle.fab_base.specs.declared.object.Object.{Object}
 use Rattle.fab_base.specs.FlatMap.{get, map_of, parts_of}
 use Rattle.fab_map.proofs.Made.{get-map_of}
 use Rattle.fab_requests.specs.Answered.{AreOld}
-use Rattle.fab_tree.specs.declared.resolved.Resolved.{Resolved}
+use Rattle.fab_plain.specs.declared.resolved.Resolved.{Resolved}
 use Rattle.fab_evaluation.specs.Roots.{IsResolved, AreUnmade}
 use Rattle.std.proofs.lemmas.Slice.Eq.{bytes_eq-Decides}
 

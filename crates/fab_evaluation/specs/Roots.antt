@@ -1,9 +1,9 @@
 -- Bundles with numbers for names, and the names of their roots.
 use Rattle.std.specs.Prelude.{◌≡◌, List, All}
-use Rattle.fab_tree.specs.declared.start.Start.{Start}
-use Rattle.fab_tree.specs.declared.resolved.Resolved.{Resolved}
-use Rattle.fab_tree.specs.declared.resolved.Root.{Root}
-use Rattle.fab_tree.specs.Numbering.{resolved}
+use Rattle.fab_plain.specs.declared.start.Start.{Start}
+use Rattle.fab_plain.specs.declared.resolved.Resolved.{Resolved}
+use Rattle.fab_plain.specs.declared.resolved.Root.{Root}
+use Rattle.fab_plain.specs.Numbering.{resolved}
 
 -- these are the numbers of some bundle
 abbrev pub IsResolved : Resolved → Type 0

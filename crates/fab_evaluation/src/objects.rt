@@ -1,14 +1,14 @@
 //! The objects that there are from the start.
 ghost use Rattle.std.specs.Prelude.{◌≡◌, IfOk};
-ghost use Rattle.fab_tree.specs.Evaluation.{rows_of, map_at_start};
+ghost use Rattle.fab_plain.specs.Evaluation.{rows_of, map_at_start};
 ghost use Rattle.fab_forms.specs.Numbered.{AreNumbered};
 ghost use Rattle.fab_requests.specs.Answered.{AreOld};
 ghost use Rattle.fab_evaluation.specs.Roots.{AreUnmade};
 
 use fab_base::{NoMemory, Object, Oid, Seq};
 use fab_map::ObjectMap;
-use fab_tree::Resolved;
-use fab_tree::resolved::Root;
+use fab_plain::Resolved;
+use fab_plain::resolved::Root;
 use std::alloc::Global;
 
 /// The objects of the roots, in the order of the text.

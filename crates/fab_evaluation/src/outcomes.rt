@@ -1,13 +1,13 @@
 //! How requests ended, as lines at the end of a text.
 ghost use Rattle.std.specs.Prelude.{◌≡◌, ◌++◌, OnOk, map};
-ghost use Rattle.fab_tree.specs.Evaluation.{ending_words, outcome_line, outcomes_text, result_text, spaced, stop_text};
+ghost use Rattle.fab_plain.specs.Evaluation.{ending_words, outcome_line, outcomes_text, result_text, spaced, stop_text};
 ghost use Rattle.fab_forms.specs.Numbered.{AreNumbered};
 ghost use Rattle.fab_requests.specs.Turns.{ending_of};
 
 use fab_base::{NoMemory, Seq, Stop, Value};
 use fab_forms::{node_name, put_name, put_value, put_word};
+use fab_plain::resolved::{Request, Resolved};
 use fab_requests::Ending;
-use fab_tree::resolved::{Request, Resolved};
 use std::alloc::Global;
 
 /// A limit that was met.

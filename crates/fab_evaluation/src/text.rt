@@ -1,7 +1,7 @@
 //! The text of an evaluation.
 ghost use Rattle.std.specs.Prelude.{◌≡◌, ◌++◌, IfOk, OnOk};
-ghost use Rattle.fab_tree.specs.Evaluation.{evaluation_text, outcomes_text, requests_of};
-ghost use Rattle.fab_tree.specs.Requests.{in_turn};
+ghost use Rattle.fab_plain.specs.Evaluation.{evaluation_text, outcomes_text, requests_of};
+ghost use Rattle.fab_plain.specs.Requests.{in_turn};
 ghost use Rattle.fab_forms.specs.Numbered.{AreNumbered};
 ghost use Rattle.fab_requests.specs.Answered.{AreOld};
 ghost use Rattle.fab_evaluation.specs.Roots.{IsResolved};
@@ -11,8 +11,8 @@ use crate::outcomes::put_outcomes;
 use fab_base::{NoMemory, Seq};
 use fab_forms::put_objects;
 use fab_map::ObjectMap;
+use fab_plain::Resolved;
 use fab_requests::run;
-use fab_tree::Resolved;
 use std::alloc::Global;
 use std::sync::Arc;
 

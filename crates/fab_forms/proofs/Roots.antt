@@ -3,7 +3,7 @@ use Rattle.std.proofs.Common.{◌≡◌, ◌+◌, ◌<◌, ℕ, zero, suc, Bool,
 use Rattle.std.proofs.lemmas.Slice.Eq.{bytes_eq-Decides}
 use Rattle.fab_base.specs.declared.object.Oid.{Oid}
 use Rattle.fab_base.specs.FlatMap.{is_same, parts_of}
-use Rattle.fab_tree.specs.declared.resolved.Root.{Root}
+use Rattle.fab_plain.specs.declared.resolved.Root.{Root}
 use Rattle.fab_forms.specs.Numbered.{AreNumbered}
 
 same_parts : (a b : Oid) → parts_of a ≡ parts_of b → a.number ≡ b.number

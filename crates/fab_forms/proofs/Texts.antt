@@ -5,8 +5,8 @@ use Rattle.std.proofs.lemmas.Grind.{flat_map-append}
 use Rattle.fab_base.specs.declared.object.Oid.{Oid}
 use Rattle.fab_base.specs.FlatMap.{is_same}
 use Rattle.fab_base.specs.FieldSpelling.{oid_bytes}
-use Rattle.fab_tree.specs.declared.resolved.Resolved.{Resolved}
-use Rattle.fab_tree.specs.Evaluation.{hex, text_or, name_text}
+use Rattle.fab_plain.specs.declared.resolved.Resolved.{Resolved}
+use Rattle.fab_plain.specs.Evaluation.{hex, text_or, name_text}
 
 pub hex_then : (a b c xs ys : List ℕ) → b ≡ a ++ hex xs → c ≡ b ++ hex ys → c ≡ a ++ hex (xs ++ ys)
 hex_then a b c xs ys e f = f ∙ ap (λ z. z ++ hex ys) e ∙ append_assoc a (hex xs) (hex ys) ∙ ap (λ z. a ++ z) (sym (flat_map-append (λ x. digit_glyph false (x / 16) ∷ digit_glyph false (x % 16) ∷ []) xs ys))

@@ -5,11 +5,11 @@ ghost use Rattle.std.specs.Option.{option_copied};
 ghost use Rattle.std.specs.Prelude.{option_map};
 ghost use Rattle.fab_base.specs.FieldSpelling.{two_bytes, four_bytes, oid_bytes};
 ghost use Rattle.fab_base.specs.FlatMap.{is_same};
-ghost use Rattle.fab_tree.specs.Evaluation.{hex, has_number, name_text, node_text, class_text};
+ghost use Rattle.fab_plain.specs.Evaluation.{hex, has_number, name_text, node_text, class_text};
 ghost use Rattle.fab_forms.specs.Numbered.{AreNumbered};
 
 use fab_base::{NoMemory, Oid, Seq};
-use fab_tree::resolved::{Principal, Resolved, Root};
+use fab_plain::resolved::{Principal, Resolved, Root};
 
 /// A digit to the base 16.
 fn digit(number: u8) -> u8

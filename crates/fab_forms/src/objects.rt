@@ -1,12 +1,12 @@
 //! Values and objects.
 ghost use Rattle.std.specs.Prelude.{◌≡◌, ◌++◌, ◌∷◌, [], OnOk, IfOk, map};
 ghost use Rattle.std.specs.Fmt.{signed_decimal};
-ghost use Rattle.fab_tree.specs.Evaluation.{value_text, spaced, object_line, objects_text};
+ghost use Rattle.fab_plain.specs.Evaluation.{value_text, spaced, object_line, objects_text};
 ghost use Rattle.fab_forms.specs.Numbered.{AreNumbered};
 
 use crate::names::{class_name, node_name, put_name};
 use fab_base::{NoMemory, Object, Oid, Seq, Value};
-use fab_tree::resolved::Resolved;
+use fab_plain::resolved::Resolved;
 use std::alloc::Global;
 
 /// A number, `null`, or the name of an object.

@@ -1,18 +1,18 @@
 -- Statements and blocks: the rules, and the functions that decide them.
 use Rattle.std.proofs.Common.{◌≡◌, ◌-◌, Bool, true, false, List, [], ◌∷◌, ◌++◌, map, length, drop, Option, Some, None, is_some, refl, sym, ap, ◌∙◌, subst, arith, append_assoc, length-append}
 use Rattle.std.specs.Prelude.{◌&&◌, option_and_then}
-use Rattle.fab_tree.specs.declared.start.Name.{Name}
-use Rattle.fab_tree.specs.declared.start.Sort.{Sort}
-use Rattle.fab_tree.specs.declared.start.Sort.TheVariants as sorts
-use Rattle.fab_tree.specs.declared.start.Start.{Start}
-use Rattle.fab_tree.specs.declared.program.Expression.{Expression}
-use Rattle.fab_tree.specs.declared.program.Statement.{Statement, ind-Statement, roll-Statement, fold-roll-Statement, map-Statement}
-use Rattle.fab_tree.specs.declared.program.Statement.TheVariants as forms
-use Rattle.fab_tree.specs.declared.program.Statement.TheOpen as o
-use Rattle.fab_tree.specs.declared.program.Statement.TheOpen.{Statement-F}
-use Rattle.fab_tree.specs.Names.{label_name, KeepsNames}
-use Rattle.fab_tree.specs.Methods as rules
-use Rattle.fab_tree.specs.Methods.{Locals, sort_in, HasField, IsGivenTo, AreKnown, IsKnownOther}
+use Rattle.fab_plain.specs.declared.start.Name.{Name}
+use Rattle.fab_plain.specs.declared.start.Sort.{Sort}
+use Rattle.fab_plain.specs.declared.start.Sort.TheVariants as sorts
+use Rattle.fab_plain.specs.declared.start.Start.{Start}
+use Rattle.fab_plain.specs.declared.program.Expression.{Expression}
+use Rattle.fab_plain.specs.declared.program.Statement.{Statement, ind-Statement, roll-Statement, fold-roll-Statement, map-Statement}
+use Rattle.fab_plain.specs.declared.program.Statement.TheVariants as forms
+use Rattle.fab_plain.specs.declared.program.Statement.TheOpen as o
+use Rattle.fab_plain.specs.declared.program.Statement.TheOpen.{Statement-F}
+use Rattle.fab_plain.specs.Names.{label_name, KeepsNames}
+use Rattle.fab_plain.specs.Methods as rules
+use Rattle.fab_plain.specs.Methods.{Locals, sort_in, HasField, IsGivenTo, AreKnown, IsKnownOther}
 use Rattle.fab_names.specs.Known.{is_among, knows_sort}
 use Rattle.fab_names.proofs.Names.{both_true, first_true, second_true, is_among-to, is_among-from}
 use Rattle.fab_names.proofs.KeptRules.{sort_to, sort_from}

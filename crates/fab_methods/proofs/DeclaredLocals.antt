@@ -2,12 +2,12 @@
 use Rattle.std.proofs.Common.{◌≡◌, List, [], ◌∷◌, ◌++◌, map, Option, Some, None, refl, sym, ap, ◌∙◌, append_assoc}
 use Rattle.std.specs.List.{flat_map}
 use Rattle.std.proofs.lemmas.List.Concat.{flat_map-cons}
-use Rattle.fab_tree.specs.declared.program.Expression.{Expression}
-use Rattle.fab_tree.specs.declared.program.Parameter.{Parameter}
-use Rattle.fab_tree.specs.declared.program.Statement.{Statement, fold-roll-Statement}
-use Rattle.fab_tree.specs.declared.program.Statement.TheVariants as forms
-use Rattle.fab_tree.specs.declared.program.Statement.TheOpen as o
-use Rattle.fab_tree.specs.Methods.{declared_in, declared_step}
+use Rattle.fab_plain.specs.declared.program.Expression.{Expression}
+use Rattle.fab_plain.specs.declared.program.Parameter.{Parameter}
+use Rattle.fab_plain.specs.declared.program.Statement.{Statement, fold-roll-Statement}
+use Rattle.fab_plain.specs.declared.program.Statement.TheVariants as forms
+use Rattle.fab_plain.specs.declared.program.Statement.TheOpen as o
+use Rattle.fab_plain.specs.Methods.{declared_in, declared_step}
 
 pub flat : (xs : List Statement) → flat_map (λ ps. ps) (map declared_in xs) ≡ flat_map declared_in xs
 flat [] = refl

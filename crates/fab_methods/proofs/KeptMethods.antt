@@ -2,11 +2,11 @@
 use Rattle.std.proofs.Common.{◌≡◌, Bool, true, map, ◌∙◌, subst}
 use Rattle.std.specs.Prelude.{◌&&◌, IsTrue, ◌↔◌}
 use Rattle.std.specs.List.{list_all}
-use Rattle.fab_tree.specs.declared.start.Start.{Start}
-use Rattle.fab_tree.specs.declared.program.Parameter.{Parameter}
-use Rattle.fab_tree.specs.declared.program.Method.{Method}
-use Rattle.fab_tree.specs.Names.{label_name, Declares, IsKnownSort, KeepsNames}
-use Rattle.fab_tree.specs.Methods.{local_name, locals_of, IsKnownMethod}
+use Rattle.fab_plain.specs.declared.start.Start.{Start}
+use Rattle.fab_plain.specs.declared.program.Parameter.{Parameter}
+use Rattle.fab_plain.specs.declared.program.Method.{Method}
+use Rattle.fab_plain.specs.Names.{label_name, Declares, IsKnownSort, KeepsNames}
+use Rattle.fab_plain.specs.Methods.{local_name, locals_of, IsKnownMethod}
 use Rattle.fab_names.specs.Known.{is_among, is_distinct, knows_sort}
 use Rattle.fab_names.proofs.Names.{both_true, first_true, second_true, all_to, all_from, is_among-to, is_among-from, distinct_to, distinct_from}
 use Rattle.fab_names.proofs.KeptRules.{sort_to, sort_from}

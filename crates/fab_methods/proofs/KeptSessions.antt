@@ -3,19 +3,19 @@ use Rattle.std.proofs.Common.{◌≡◌, suc, Bool, true, false, nat_eq, List, [
 use Rattle.std.specs.Prelude.{Contains, ◌&&◌, IsTrue, ◌↔◌}
 use Rattle.std.specs.List.{list_all}
 use Rattle.std.specs.Str.{bytes_eq}
-use Rattle.fab_tree.specs.declared.start.Name.{Name}
-use Rattle.fab_tree.specs.declared.start.Node.{Node}
-use Rattle.fab_tree.specs.declared.start.Role.{Role}
-use Rattle.fab_tree.specs.declared.start.Role.TheVariants as roles
-use Rattle.fab_tree.specs.declared.start.Given.{Given}
-use Rattle.fab_tree.specs.declared.start.Start.{Start}
-use Rattle.fab_tree.specs.declared.program.Parameter.{Parameter}
-use Rattle.fab_tree.specs.declared.program.Method.{Method}
-use Rattle.fab_tree.specs.declared.program.RequestText.{RequestText}
-use Rattle.fab_tree.specs.declared.program.Session.{Session}
-use Rattle.fab_tree.specs.Names.{node_name, root_name, KeepsNames}
-use Rattle.fab_tree.specs.Methods as rules
-use Rattle.fab_tree.specs.Methods.{method_name, AreGivenTo, IsKnownRequest, IsKnownSession}
+use Rattle.fab_plain.specs.declared.start.Name.{Name}
+use Rattle.fab_plain.specs.declared.start.Node.{Node}
+use Rattle.fab_plain.specs.declared.start.Role.{Role}
+use Rattle.fab_plain.specs.declared.start.Role.TheVariants as roles
+use Rattle.fab_plain.specs.declared.start.Given.{Given}
+use Rattle.fab_plain.specs.declared.start.Start.{Start}
+use Rattle.fab_plain.specs.declared.program.Parameter.{Parameter}
+use Rattle.fab_plain.specs.declared.program.Method.{Method}
+use Rattle.fab_plain.specs.declared.program.RequestText.{RequestText}
+use Rattle.fab_plain.specs.declared.program.Session.{Session}
+use Rattle.fab_plain.specs.Names.{node_name, root_name, KeepsNames}
+use Rattle.fab_plain.specs.Methods as rules
+use Rattle.fab_plain.specs.Methods.{method_name, AreGivenTo, IsKnownRequest, IsKnownSession}
 use Rattle.fab_names.specs.Known.{fits, is_distinct}
 use Rattle.fab_names.proofs.Names.{both_true, first_true, second_true, all_to, all_from, any_to, any_from}
 use Rattle.fab_names.proofs.KeptRules.{same_text, text_same, fits_to, fits_from, once_from}

@@ -3,24 +3,24 @@ use Rattle.std.proofs.Common.{◌≡◌, ℕ, suc, Bool, true, false, cond, List
 use Rattle.std.specs.Prelude.{Contains, find, ◌&&◌, ◌||◌}
 use Rattle.std.specs.List.{list_all}
 use Rattle.std.specs.Str.{bytes_eq}
-use Rattle.fab_tree.specs.declared.start.Name.{Name}
-use Rattle.fab_tree.specs.declared.start.Sort.{Sort}
-use Rattle.fab_tree.specs.declared.start.Sort.TheVariants as sorts
-use Rattle.fab_tree.specs.declared.start.Field.{Field}
-use Rattle.fab_tree.specs.declared.start.Class.{Class}
-use Rattle.fab_tree.specs.declared.start.Start.{Start}
-use Rattle.fab_tree.specs.declared.program.Sign.{Sign}
-use Rattle.fab_tree.specs.declared.program.Comparison.{Comparison}
-use Rattle.fab_tree.specs.declared.program.Comparison.TheVariants as comparisons
-use Rattle.fab_tree.specs.declared.program.Expression.{Expression, ind-Expression, roll-Expression, fold-roll-Expression, map-Expression}
-use Rattle.fab_tree.specs.declared.program.Expression.TheVariants as e
-use Rattle.fab_tree.specs.declared.program.Expression.TheOpen as o
-use Rattle.fab_tree.specs.declared.program.Expression.TheOpen.{Expression-F}
-use Rattle.fab_tree.specs.Names.{class_name, field_name, IsKnownClass, KeepsNames}
-use Rattle.fab_tree.specs.Resolution.{number_of}
-use Rattle.fab_tree.specs.Numbering.{class_named}
-use Rattle.fab_tree.specs.Methods as rules
-use Rattle.fab_tree.specs.Methods.{Locals, sort_in, SameSort, HasField, AsksSame, HasSort, AreInts, IsGivenTo}
+use Rattle.fab_plain.specs.declared.start.Name.{Name}
+use Rattle.fab_plain.specs.declared.start.Sort.{Sort}
+use Rattle.fab_plain.specs.declared.start.Sort.TheVariants as sorts
+use Rattle.fab_plain.specs.declared.start.Field.{Field}
+use Rattle.fab_plain.specs.declared.start.Class.{Class}
+use Rattle.fab_plain.specs.declared.start.Start.{Start}
+use Rattle.fab_plain.specs.declared.program.Sign.{Sign}
+use Rattle.fab_plain.specs.declared.program.Comparison.{Comparison}
+use Rattle.fab_plain.specs.declared.program.Comparison.TheVariants as comparisons
+use Rattle.fab_plain.specs.declared.program.Expression.{Expression, ind-Expression, roll-Expression, fold-roll-Expression, map-Expression}
+use Rattle.fab_plain.specs.declared.program.Expression.TheVariants as e
+use Rattle.fab_plain.specs.declared.program.Expression.TheOpen as o
+use Rattle.fab_plain.specs.declared.program.Expression.TheOpen.{Expression-F}
+use Rattle.fab_plain.specs.Names.{class_name, field_name, IsKnownClass, KeepsNames}
+use Rattle.fab_plain.specs.Resolution.{number_of}
+use Rattle.fab_plain.specs.Numbering.{class_named}
+use Rattle.fab_plain.specs.Methods as rules
+use Rattle.fab_plain.specs.Methods.{Locals, sort_in, SameSort, HasField, AsksSame, HasSort, AreInts, IsGivenTo}
 use Rattle.fab_names.proofs.Names.{both_true, first_true, second_true, distinct_from, numbered, its_number}
 use Rattle.fab_names.proofs.KeptRules.{same_text, text_same}
 use Rattle.fab_methods.specs.Known.{sort_of_field, field_named, sort_behind, is_int, same_sort, fits_sort, asks_same, may_compare, int_if, sort_step, sort_over}

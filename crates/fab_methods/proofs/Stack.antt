@@ -1,7 +1,7 @@
 -- Locals as the list of them that grows at its end.
 use Rattle.std.proofs.Common.{◌≡◌, ℕ, ◌-◌, List, [], ◌∷◌, ◌++◌, map, reverse, take, drop, length, refl, sym, ap, ◌∙◌, Bor}
 use Rattle.std.proofs.lemmas.List.{reverse-append, length-reverse, take-append-drop, drop-map, length-map, length-drop}
-use Rattle.fab_tree.specs.declared.start.Sort.{Sort}
+use Rattle.fab_plain.specs.declared.start.Sort.{Sort}
 use Rattle.fab_methods.specs.Stack.{shown}
 
 drop_behind : {A : Type 0} (a b : List A) → drop (length a) (a ++ b) ≡ b

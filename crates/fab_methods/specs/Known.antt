@@ -2,23 +2,23 @@
 use Rattle.std.specs.Prelude.{Bool, true, false, ◌&&◌, ◌||◌, List, [], ◌∷◌, map, find, Option, Some, None, option_and_then, is_some}
 use Rattle.std.specs.List.{list_all}
 use Rattle.std.specs.Str.{bytes_eq}
-use Rattle.fab_tree.specs.declared.start.Name.{Name}
-use Rattle.fab_tree.specs.declared.start.Sort.{Sort}
-use Rattle.fab_tree.specs.declared.start.Sort.TheVariants as sorts
-use Rattle.fab_tree.specs.declared.start.Field.{Field}
-use Rattle.fab_tree.specs.declared.start.Class.{Class}
-use Rattle.fab_tree.specs.declared.start.Start.{Start}
-use Rattle.fab_tree.specs.declared.program.Comparison.{Comparison}
-use Rattle.fab_tree.specs.declared.program.Comparison.TheVariants as comparisons
-use Rattle.fab_tree.specs.declared.program.Expression.{Expression, fold-Expression}
-use Rattle.fab_tree.specs.declared.program.Expression.TheOpen as e
-use Rattle.fab_tree.specs.declared.program.Statement.{Statement, fold-Statement}
-use Rattle.fab_tree.specs.declared.program.Statement.TheOpen as forms
-use Rattle.fab_tree.specs.declared.program.Parameter.{Parameter}
-use Rattle.fab_tree.specs.declared.program.Method.{Method}
-use Rattle.fab_tree.specs.Names.{label_name, field_name}
-use Rattle.fab_tree.specs.Numbering.{class_named}
-use Rattle.fab_tree.specs.Methods.{Locals, sort_in, local_name, locals_of}
+use Rattle.fab_plain.specs.declared.start.Name.{Name}
+use Rattle.fab_plain.specs.declared.start.Sort.{Sort}
+use Rattle.fab_plain.specs.declared.start.Sort.TheVariants as sorts
+use Rattle.fab_plain.specs.declared.start.Field.{Field}
+use Rattle.fab_plain.specs.declared.start.Class.{Class}
+use Rattle.fab_plain.specs.declared.start.Start.{Start}
+use Rattle.fab_plain.specs.declared.program.Comparison.{Comparison}
+use Rattle.fab_plain.specs.declared.program.Comparison.TheVariants as comparisons
+use Rattle.fab_plain.specs.declared.program.Expression.{Expression, fold-Expression}
+use Rattle.fab_plain.specs.declared.program.Expression.TheOpen as e
+use Rattle.fab_plain.specs.declared.program.Statement.{Statement, fold-Statement}
+use Rattle.fab_plain.specs.declared.program.Statement.TheOpen as forms
+use Rattle.fab_plain.specs.declared.program.Parameter.{Parameter}
+use Rattle.fab_plain.specs.declared.program.Method.{Method}
+use Rattle.fab_plain.specs.Names.{label_name, field_name}
+use Rattle.fab_plain.specs.Numbering.{class_named}
+use Rattle.fab_plain.specs.Methods.{Locals, sort_in, local_name, locals_of}
 use Rattle.fab_names.specs.Known.{is_among, is_distinct, knows_sort}
 
 -- ---- types

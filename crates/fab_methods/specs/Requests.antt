@@ -2,19 +2,19 @@
 use Rattle.std.specs.Prelude.{Bool, false, not, ◌&&◌, List, length, zip, nat_eq}
 use Rattle.std.specs.List.{list_any, list_all}
 use Rattle.std.specs.Str.{bytes_eq}
-use Rattle.fab_tree.specs.declared.start.Name.{Name}
-use Rattle.fab_tree.specs.declared.start.Node.{Node}
-use Rattle.fab_tree.specs.declared.start.Role.{Role}
-use Rattle.fab_tree.specs.declared.start.Role.TheVariants as roles
-use Rattle.fab_tree.specs.declared.start.Root.{Root}
-use Rattle.fab_tree.specs.declared.start.Given.{Given}
-use Rattle.fab_tree.specs.declared.start.Start.{Start}
-use Rattle.fab_tree.specs.declared.program.Parameter.{Parameter}
-use Rattle.fab_tree.specs.declared.program.Method.{Method}
-use Rattle.fab_tree.specs.declared.program.RequestText.{RequestText}
-use Rattle.fab_tree.specs.declared.program.Session.{Session}
-use Rattle.fab_tree.specs.Names.{node_name}
-use Rattle.fab_tree.specs.Methods.{method_name}
+use Rattle.fab_plain.specs.declared.start.Name.{Name}
+use Rattle.fab_plain.specs.declared.start.Node.{Node}
+use Rattle.fab_plain.specs.declared.start.Role.{Role}
+use Rattle.fab_plain.specs.declared.start.Role.TheVariants as roles
+use Rattle.fab_plain.specs.declared.start.Root.{Root}
+use Rattle.fab_plain.specs.declared.start.Given.{Given}
+use Rattle.fab_plain.specs.declared.start.Start.{Start}
+use Rattle.fab_plain.specs.declared.program.Parameter.{Parameter}
+use Rattle.fab_plain.specs.declared.program.Method.{Method}
+use Rattle.fab_plain.specs.declared.program.RequestText.{RequestText}
+use Rattle.fab_plain.specs.declared.program.Session.{Session}
+use Rattle.fab_plain.specs.Names.{node_name}
+use Rattle.fab_plain.specs.Methods.{method_name}
 use Rattle.fab_names.specs.Known.{fits}
 
 -- each argument is of the type of the parameter that it stands beside

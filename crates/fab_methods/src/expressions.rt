@@ -4,7 +4,7 @@ ghost use Rattle.fab_methods.specs.Known.{int_if, sort_over};
 
 use crate::known::Known;
 use crate::types::{Types, asks_same, fits, is_int};
-use fab_tree::{Expression, Sort};
+use fab_plain::{Expression, Sort};
 
 /// The type of an expression, if it has one.
 pub(crate) fn sort_of<'a>(

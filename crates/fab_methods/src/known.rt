@@ -1,10 +1,10 @@
 //! The locals that are known at a place.
 ghost use Rattle.std.specs.Prelude.{◌≡◌, ◌-◌, ◌∷◌, [], length, drop, option_copied, OnOk};
-ghost use Rattle.fab_tree.specs.Methods.{sort_in};
+ghost use Rattle.fab_plain.specs.Methods.{sort_in};
 ghost use Rattle.fab_methods.specs.Stack.{shown};
 
 use fab_base::NoMemory;
-use fab_tree::{Name, Sort};
+use fab_plain::{Name, Sort};
 use std::alloc::Global;
 use std::marker::Model;
 
@@ -16,7 +16,7 @@ pub(crate) struct Known<'a> {
 }
 
 impl<'a> Model for Known<'a> {
-    ghost use Rattle.fab_tree.specs.Methods.{Locals};
+    ghost use Rattle.fab_plain.specs.Methods.{Locals};
     ghost use Rattle.fab_methods.specs.Stack.{shown};
 
     ghost Value = { Locals };

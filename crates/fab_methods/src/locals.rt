@@ -1,10 +1,10 @@
 //! The locals of a method.
 ghost use Rattle.std.specs.Prelude.{◌≡◌, ◌++◌, IfOk, OnOk, flat_map};
-ghost use Rattle.fab_tree.specs.Methods.{declared_in, local_name, locals_of};
+ghost use Rattle.fab_plain.specs.Methods.{declared_in, local_name, locals_of};
 
 use fab_base::NoMemory;
 use fab_names::Named;
-use fab_tree::{Method, Name, Parameter, Sort, Statement};
+use fab_plain::{Method, Name, Parameter, Sort, Statement};
 use std::alloc::Global;
 use std::marker::Model;
 
@@ -17,7 +17,7 @@ pub struct Declaration<'a> {
 }
 
 impl<'a> Model for Declaration<'a> {
-    ghost use Rattle.fab_tree.specs.declared.program.Parameter.{Parameter as Written};
+    ghost use Rattle.fab_plain.specs.declared.program.Parameter.{Parameter as Written};
 
     ghost Value = { Written };
 
@@ -25,7 +25,7 @@ impl<'a> Model for Declaration<'a> {
 }
 
 impl Named for Declaration<'_> {
-    ghost use Rattle.fab_tree.specs.Methods.{local_name};
+    ghost use Rattle.fab_plain.specs.Methods.{local_name};
 
     ghost text = { local_name };
 

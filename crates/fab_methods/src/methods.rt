@@ -1,9 +1,9 @@
 //! Whether methods keep the rules of names and types.
 ghost use Rattle.std.specs.Prelude.{◌≡◌, ◌↔◌, IfOk, IsTrue, OnOk, map};
 ghost use Rattle.std.specs.List.{list_all};
-ghost use Rattle.fab_tree.specs.declared.start.Sort.TheVariants.{Int};
-ghost use Rattle.fab_tree.specs.Methods.{IsKnownMethod, local_name, locals_of};
-ghost use Rattle.fab_tree.specs.Names.{KeepsNames};
+ghost use Rattle.fab_plain.specs.declared.start.Sort.TheVariants.{Int};
+ghost use Rattle.fab_plain.specs.Methods.{IsKnownMethod, local_name, locals_of};
+ghost use Rattle.fab_plain.specs.Names.{KeepsNames};
 ghost use Rattle.fab_names.specs.Known.{is_distinct};
 ghost use Rattle.fab_methods.specs.Known.{given_locals, keeps, keeps_block, knows_method, knows_parameter};
 
@@ -13,7 +13,7 @@ use crate::statements::in_order;
 use crate::types::Types;
 use fab_base::NoMemory;
 use fab_names::{are_distinct, is_known_sort, is_named};
-use fab_tree::{Method, Parameter, Sort, Start};
+use fab_plain::{Method, Parameter, Sort, Start};
 use std::alloc::Global;
 
 /// Whether a method keeps the rules of names and types.

@@ -1,12 +1,12 @@
 //! Whether sessions keep the rules of names and types.
 ghost use Rattle.std.specs.Prelude.{◌≡◌, ◌↔◌, IsTrue};
 ghost use Rattle.std.specs.List.{list_all};
-ghost use Rattle.fab_tree.specs.Methods.{IsKnownSession};
-ghost use Rattle.fab_tree.specs.Names.{KeepsNames};
+ghost use Rattle.fab_plain.specs.Methods.{IsKnownSession};
+ghost use Rattle.fab_plain.specs.Names.{KeepsNames};
 ghost use Rattle.fab_methods.specs.Requests.{is_honest_worker, knows_request, knows_session, knows_worker, suit_all, suit_each};
 
 use fab_names::{Declared, are_same};
-use fab_tree::{Given, Method, Name, Node, Parameter, RequestText, Role, Session};
+use fab_plain::{Given, Method, Name, Node, Parameter, RequestText, Role, Session};
 
 /// Whether a session keeps the rules of names and types.
 ///

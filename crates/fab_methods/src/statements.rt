@@ -1,6 +1,6 @@
 //! Whether statements keep the rules of names and types.
 ghost use Rattle.std.specs.Prelude.{◌≡◌, ◌&&◌, IfOk, Some, map};
-ghost use Rattle.fab_tree.specs.Names.{label_name};
+ghost use Rattle.fab_plain.specs.Names.{label_name};
 ghost use Rattle.fab_names.specs.Known.{is_among, knows_sort};
 ghost use Rattle.fab_methods.specs.Known.{fits_sort, in_order, keeps, keeps_block, keeps_if, sort_over};
 
@@ -9,7 +9,7 @@ use crate::known::Known;
 use crate::types::{Types, fits, is_int};
 use fab_base::NoMemory;
 use fab_names::{is_known_sort, is_named};
-use fab_tree::{Expression, Name, Sort, Statement};
+use fab_plain::{Expression, Name, Sort, Statement};
 
 /// Whether the statements of a block keep the rules. If so, what is known behind them is known.
 #[cycle(run)]

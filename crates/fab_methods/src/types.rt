@@ -1,11 +1,11 @@
 //! The types of locals, fields and expressions.
 ghost use Rattle.std.specs.Prelude.{◌≡◌, option_copied};
-ghost use Rattle.fab_tree.specs.declared.start.Sort.TheVariants.{Int};
+ghost use Rattle.fab_plain.specs.declared.start.Sort.TheVariants.{Int};
 ghost use Rattle.fab_methods.specs.Known.{asks_same, field_named, fits_sort, is_int, same_sort, sort_behind, sort_of_field};
-ghost use Rattle.fab_tree.specs.Numbering.{class_named};
+ghost use Rattle.fab_plain.specs.Numbering.{class_named};
 
 use fab_names::{are_same, first_named};
-use fab_tree::{Class, Comparison, Field, Name, Sort, Start};
+use fab_plain::{Class, Comparison, Field, Name, Sort, Start};
 use std::marker::Model;
 
 /// What a bundle declares, beside the type of numbers. Contracts see it as the bundle.
@@ -17,9 +17,9 @@ pub(crate) struct Types<'a> {
 
 impl<'a> Model for Types<'a> {
     ghost use Rattle.std.specs.Prelude.{◌≡◌};
-    ghost use Rattle.fab_tree.specs.contracts.start.Start as bundle;
-    ghost use Rattle.fab_tree.specs.declared.start.Start.{Start as Bundle};
-    ghost use Rattle.fab_tree.specs.declared.start.Sort.TheVariants as sorts;
+    ghost use Rattle.fab_plain.specs.contracts.start.Start as bundle;
+    ghost use Rattle.fab_plain.specs.declared.start.Start.{Start as Bundle};
+    ghost use Rattle.fab_plain.specs.declared.start.Sort.TheVariants as sorts;
 
     ghost Value = { Bundle };
 

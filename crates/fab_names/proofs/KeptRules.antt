@@ -4,24 +4,24 @@ use Rattle.std.specs.Prelude.{All, Contains, ◌&&◌, IsTrue, ◌↔◌, MatchO
 use Rattle.std.specs.List.{list_all}
 use Rattle.std.specs.Str.{bytes_eq}
 use Rattle.std.proofs.lemmas.Slice.Eq.{bytes_eq-Decides}
-use Rattle.fab_tree.specs.declared.start.Name.{Name}
-use Rattle.fab_tree.specs.declared.start.Delegation.{Delegation}
-use Rattle.fab_tree.specs.declared.start.LabelText.{LabelText}
-use Rattle.fab_tree.specs.declared.start.Node.{Node}
-use Rattle.fab_tree.specs.declared.start.PolicyText.{PolicyText}
-use Rattle.fab_tree.specs.declared.start.Sort.{Sort}
-use Rattle.fab_tree.specs.declared.start.Sort.TheVariants as sorts
-use Rattle.fab_tree.specs.declared.start.Field.{Field}
-use Rattle.fab_tree.specs.declared.start.Class.{Class}
-use Rattle.fab_tree.specs.declared.start.Literal.{Literal}
-use Rattle.fab_tree.specs.declared.start.Literal.TheVariants as literals
-use Rattle.fab_tree.specs.declared.start.Given.{Given}
-use Rattle.fab_tree.specs.declared.start.Root.{Root}
-use Rattle.fab_tree.specs.declared.start.Start.{Start}
-use Rattle.fab_tree.specs.Limits.{is_store}
-use Rattle.fab_tree.specs.Names as rules
-use Rattle.fab_tree.specs.Names.{node_name, label_name, class_name, field_name, root_name, names_of, Declares, IsKnown, IsKnownPolicy, IsKnownSort, IsKnownClass, Fits, FitAll, IsKnownRoot, KeepsNames}
-use Rattle.fab_tree.specs.Resolution.{number_of}
+use Rattle.fab_plain.specs.declared.start.Name.{Name}
+use Rattle.fab_plain.specs.declared.start.Delegation.{Delegation}
+use Rattle.fab_plain.specs.declared.start.LabelText.{LabelText}
+use Rattle.fab_plain.specs.declared.start.Node.{Node}
+use Rattle.fab_plain.specs.declared.start.PolicyText.{PolicyText}
+use Rattle.fab_plain.specs.declared.start.Sort.{Sort}
+use Rattle.fab_plain.specs.declared.start.Sort.TheVariants as sorts
+use Rattle.fab_plain.specs.declared.start.Field.{Field}
+use Rattle.fab_plain.specs.declared.start.Class.{Class}
+use Rattle.fab_plain.specs.declared.start.Literal.{Literal}
+use Rattle.fab_plain.specs.declared.start.Literal.TheVariants as literals
+use Rattle.fab_plain.specs.declared.start.Given.{Given}
+use Rattle.fab_plain.specs.declared.start.Root.{Root}
+use Rattle.fab_plain.specs.declared.start.Start.{Start}
+use Rattle.fab_plain.specs.Limits.{is_store}
+use Rattle.fab_plain.specs.Names as rules
+use Rattle.fab_plain.specs.Names.{node_name, label_name, class_name, field_name, root_name, names_of, Declares, IsKnown, IsKnownPolicy, IsKnownSort, IsKnownClass, Fits, FitAll, IsKnownRoot, KeepsNames}
+use Rattle.fab_plain.specs.Resolution.{number_of}
 use Rattle.fab_names.specs.Known.{is_among, is_distinct, knows, knows_policy, knows_label, knows_sort, knows_class, is_root_of, is_of, fits, fit_each, fit_all, knows_store, are_of_class, knows_root, declares_once, knows_all}
 use Rattle.fab_names.proofs.Names.{both_true, first_true, second_true, all_to, all_from, any_to, any_from, is_among-to, is_among-from, distinct_to, distinct_from, numbered, its_number}
 

@@ -8,8 +8,8 @@ use Rattle.std.proofs.lemmas.Slice.Eq.{bytes_eq-Decides}
 use Rattle.std.proofs.lemmas.List.Kept.{AllPairs-cons}
 use Rattle.std.proofs.lemmas.List.Sums.{length-filter}
 use Rattle.std.proofs.lemmas.List.Recursion.{is_position_or_len}
-use Rattle.fab_tree.specs.Names.{Distinct}
-use Rattle.fab_tree.specs.Resolution.{number_of}
+use Rattle.fab_plain.specs.Names.{Distinct}
+use Rattle.fab_plain.specs.Resolution.{number_of}
 use Rattle.fab_names.specs.Known.{is_among, is_distinct}
 
 -- ---- tests

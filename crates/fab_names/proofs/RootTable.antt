@@ -11,9 +11,9 @@ use Rattle.std.proofs.lemmas.Bool.Decides.{nat_tests}
 use Rattle.std.proofs.lemmas.List.{take_more, take-append-drop, take_all, length-take}
 use Rattle.std.proofs.lemmas.Map.Text.{btree_map_updates_str}
 use Rattle.std.proofs.lemmas.Slice.Eq.{bytes_eq-Decides}
-use Rattle.fab_tree.specs.declared.start.Root.{Root}
-use Rattle.fab_tree.specs.Names.{root_name}
-use Rattle.fab_tree.specs.Resolution.{number_of}
+use Rattle.fab_plain.specs.declared.start.Root.{Root}
+use Rattle.fab_plain.specs.Names.{root_name}
+use Rattle.fab_plain.specs.Resolution.{number_of}
 use Rattle.fab_names.specs.Known.{is_among, is_distinct}
 use Rattle.fab_names.proofs.Names.{or_first, or_second, first_place, distinct_push, doubled, number_within, place_or_length}
 

@@ -2,23 +2,23 @@
 use Rattle.std.specs.Prelude.{ℕ, Bool, true, false, not, ◌&&◌, List, [], ◌∷◌, length, Option, Some, None, slice_get, zip, nat_eq}
 use Rattle.std.specs.List.{list_any, list_all}
 use Rattle.std.specs.Str.{bytes_eq}
-use Rattle.fab_tree.specs.declared.start.Name.{Name}
-use Rattle.fab_tree.specs.declared.start.Delegation.{Delegation}
-use Rattle.fab_tree.specs.declared.start.LabelText.{LabelText}
-use Rattle.fab_tree.specs.declared.start.Node.{Node}
-use Rattle.fab_tree.specs.declared.start.PolicyText.{PolicyText}
-use Rattle.fab_tree.specs.declared.start.Sort.{Sort}
-use Rattle.fab_tree.specs.declared.start.Sort.TheVariants as sorts
-use Rattle.fab_tree.specs.declared.start.Field.{Field}
-use Rattle.fab_tree.specs.declared.start.Class.{Class}
-use Rattle.fab_tree.specs.declared.start.Literal.{Literal}
-use Rattle.fab_tree.specs.declared.start.Literal.TheVariants as literals
-use Rattle.fab_tree.specs.declared.start.Given.{Given}
-use Rattle.fab_tree.specs.declared.start.Root.{Root}
-use Rattle.fab_tree.specs.declared.start.Start.{Start}
-use Rattle.fab_tree.specs.Limits.{is_store}
-use Rattle.fab_tree.specs.Names.{node_name, label_name, class_name, field_name, root_name}
-use Rattle.fab_tree.specs.Resolution.{number_of}
+use Rattle.fab_plain.specs.declared.start.Name.{Name}
+use Rattle.fab_plain.specs.declared.start.Delegation.{Delegation}
+use Rattle.fab_plain.specs.declared.start.LabelText.{LabelText}
+use Rattle.fab_plain.specs.declared.start.Node.{Node}
+use Rattle.fab_plain.specs.declared.start.PolicyText.{PolicyText}
+use Rattle.fab_plain.specs.declared.start.Sort.{Sort}
+use Rattle.fab_plain.specs.declared.start.Sort.TheVariants as sorts
+use Rattle.fab_plain.specs.declared.start.Field.{Field}
+use Rattle.fab_plain.specs.declared.start.Class.{Class}
+use Rattle.fab_plain.specs.declared.start.Literal.{Literal}
+use Rattle.fab_plain.specs.declared.start.Literal.TheVariants as literals
+use Rattle.fab_plain.specs.declared.start.Given.{Given}
+use Rattle.fab_plain.specs.declared.start.Root.{Root}
+use Rattle.fab_plain.specs.declared.start.Start.{Start}
+use Rattle.fab_plain.specs.Limits.{is_store}
+use Rattle.fab_plain.specs.Names.{node_name, label_name, class_name, field_name, root_name}
+use Rattle.fab_plain.specs.Resolution.{number_of}
 
 -- one of these has this name
 abbrev pub is_among : {A : Type 0} → (A → List ℕ) → List ℕ → List A → Bool

@@ -1,16 +1,16 @@
 -- The parts of a bundle with numbers for names.
 use Rattle.std.specs.Prelude.{ℕ, not, List, filter, Some, None, map, if◌then◌else◌}
-use Rattle.fab_tree.specs.declared.start.Node.{Node}
-use Rattle.fab_tree.specs.declared.start.Field.{Field}
-use Rattle.fab_tree.specs.declared.start.Root.{Root}
-use Rattle.fab_tree.specs.declared.start.Start.{Start}
-use Rattle.fab_tree.specs.declared.resolved.Principal.{Principal}
-use Rattle.fab_tree.specs.declared.resolved.Field.{Field as NumberedField}
-use Rattle.fab_tree.specs.declared.resolved.Root.{Root as NumberedRoot}
-use Rattle.fab_tree.specs.Limits.{is_node}
+use Rattle.fab_plain.specs.declared.start.Node.{Node}
+use Rattle.fab_plain.specs.declared.start.Field.{Field}
+use Rattle.fab_plain.specs.declared.start.Root.{Root}
+use Rattle.fab_plain.specs.declared.start.Start.{Start}
+use Rattle.fab_plain.specs.declared.resolved.Principal.{Principal}
+use Rattle.fab_plain.specs.declared.resolved.Field.{Field as NumberedField}
+use Rattle.fab_plain.specs.declared.resolved.Root.{Root as NumberedRoot}
+use Rattle.fab_plain.specs.Limits.{is_node}
 use Rattle.fab_base.specs.declared.label.Label.{Label}
-use Rattle.fab_tree.specs.declared.start.PolicyText.{PolicyText}
-use Rattle.fab_tree.specs.Resolution.{policy_of, is_of_readers, sort_of, oid_of, value_of}
+use Rattle.fab_plain.specs.declared.start.PolicyText.{PolicyText}
+use Rattle.fab_plain.specs.Resolution.{policy_of, is_of_readers, sort_of, oid_of, value_of}
 
 -- a principal that has this number if it is a worker or a store
 abbrev pub principal_of : ℕ → Node → Principal

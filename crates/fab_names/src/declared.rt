@@ -1,11 +1,11 @@
 //! What a bundle declares, with the names of its roots in a table.
 ghost use Rattle.std.specs.Prelude.{◌≡◌, ◌≤◌, true, false, length, IfOk, MatchOption, option_copied, slice_get};
-ghost use Rattle.fab_tree.specs.Names.{root_name};
-ghost use Rattle.fab_tree.specs.Resolution.{number_of};
+ghost use Rattle.fab_plain.specs.Names.{root_name};
+ghost use Rattle.fab_plain.specs.Resolution.{number_of};
 ghost use Rattle.fab_names.specs.Known.{is_distinct};
 
 use fab_base::NoMemory;
-use fab_tree::{Name, Root, Start};
+use fab_plain::{Name, Root, Start};
 use std::alloc::Global;
 use std::collections::BTreeMap;
 use std::marker::Model;
@@ -26,9 +26,9 @@ impl<'a> Model for Declared<'a> {
     ghost use Rattle.std.specs.List.{position};
     ghost use Rattle.std.specs.Ordering.{nat_cmp};
     ghost use Rattle.std.specs.Str.{bytes_eq};
-    ghost use Rattle.fab_tree.specs.contracts.start.Start as bundle;
-    ghost use Rattle.fab_tree.specs.declared.start.Start.{Start as Bundle};
-    ghost use Rattle.fab_tree.specs.Names.{root_name};
+    ghost use Rattle.fab_plain.specs.contracts.start.Start as bundle;
+    ghost use Rattle.fab_plain.specs.declared.start.Start.{Start as Bundle};
+    ghost use Rattle.fab_plain.specs.Names.{root_name};
 
     ghost Value = { Bundle };
 

@@ -2,11 +2,11 @@
 ghost use Rattle.std.specs.Prelude.{◌≡◌, ◌↔◌, ◌≤◌, ◌<◌, ◌∷◌, [], true, length, find, option_copied, IfOk, MatchOption};
 ghost use Rattle.std.specs.List.{position};
 ghost use Rattle.std.specs.Str.{bytes_eq};
-ghost use Rattle.fab_tree.specs.Resolution.{number_of};
+ghost use Rattle.fab_plain.specs.Resolution.{number_of};
 ghost use Rattle.fab_names.specs.Known.{is_among, is_distinct};
 
 use fab_base::NoMemory;
-use fab_tree::{Class, Field, LabelText, Method, Name, Node, Parameter, Session};
+use fab_plain::{Class, Field, LabelText, Method, Name, Node, Parameter, Session};
 use std::alloc::Global;
 
 /// What is declared with a name.
@@ -21,7 +21,7 @@ pub trait Named {
 }
 
 impl Named for Node {
-    ghost use Rattle.fab_tree.specs.Names.{node_name};
+    ghost use Rattle.fab_plain.specs.Names.{node_name};
 
     ghost text = { node_name };
 
@@ -31,7 +31,7 @@ impl Named for Node {
 }
 
 impl Named for LabelText {
-    ghost use Rattle.fab_tree.specs.Names.{label_name};
+    ghost use Rattle.fab_plain.specs.Names.{label_name};
 
     ghost text = { label_name };
 
@@ -41,7 +41,7 @@ impl Named for LabelText {
 }
 
 impl Named for Class {
-    ghost use Rattle.fab_tree.specs.Names.{class_name};
+    ghost use Rattle.fab_plain.specs.Names.{class_name};
 
     ghost text = { class_name };
 
@@ -51,7 +51,7 @@ impl Named for Class {
 }
 
 impl Named for Field {
-    ghost use Rattle.fab_tree.specs.Names.{field_name};
+    ghost use Rattle.fab_plain.specs.Names.{field_name};
 
     ghost text = { field_name };
 
@@ -61,7 +61,7 @@ impl Named for Field {
 }
 
 impl Named for Parameter {
-    ghost use Rattle.fab_tree.specs.Methods.{local_name};
+    ghost use Rattle.fab_plain.specs.Methods.{local_name};
 
     ghost text = { local_name };
 
@@ -71,7 +71,7 @@ impl Named for Parameter {
 }
 
 impl Named for Method {
-    ghost use Rattle.fab_tree.specs.Methods.{method_name};
+    ghost use Rattle.fab_plain.specs.Methods.{method_name};
 
     ghost text = { method_name };
 
@@ -81,7 +81,7 @@ impl Named for Method {
 }
 
 impl Named for Session {
-    ghost use Rattle.fab_tree.specs.Methods.{session_name};
+    ghost use Rattle.fab_plain.specs.Methods.{session_name};
 
     ghost text = { session_name };
 

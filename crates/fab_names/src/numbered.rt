@@ -1,19 +1,19 @@
 //! What a declaration becomes where numbers stand for names.
 ghost use Rattle.std.specs.Prelude.{◌≡◌, map, IfOk};
-ghost use Rattle.fab_tree.specs.Limits.{KeepsLimits};
+ghost use Rattle.fab_plain.specs.Limits.{KeepsLimits};
 
 use crate::declared::Declared;
 use crate::named::copied;
 use fab_base::{NoMemory, Seq};
-use fab_tree::resolved::{Class as NumberedClass, Field as NumberedField, NamedLabel};
-use fab_tree::{Class, Field, LabelText};
+use fab_plain::resolved::{Class as NumberedClass, Field as NumberedField, NamedLabel};
+use fab_plain::{Class, Field, LabelText};
 use std::alloc::Global;
 
 /// A declaration of a bundle.
 pub(crate) trait Numbered {
     ghost use Rattle.std.specs.Prelude.{◌≡◌, IfOk};
-    ghost use Rattle.fab_tree.specs.declared.start.Start.{Start as Bundle};
-    ghost use Rattle.fab_tree.specs.Limits.{KeepsLimits};
+    ghost use Rattle.fab_plain.specs.declared.start.Start.{Start as Bundle};
+    ghost use Rattle.fab_plain.specs.Limits.{KeepsLimits};
 
     /// What it becomes.
     type Made: Drop;
@@ -43,7 +43,7 @@ pub(crate) fn each_numbered<T: Numbered>(
 }
 
 impl Numbered for LabelText {
-    ghost use Rattle.fab_tree.specs.Resolution.{label_of};
+    ghost use Rattle.fab_plain.specs.Resolution.{label_of};
 
     type Made = NamedLabel;
 
@@ -58,7 +58,7 @@ impl Numbered for LabelText {
 }
 
 impl Numbered for Class {
-    ghost use Rattle.fab_tree.specs.Resolution.{class_of};
+    ghost use Rattle.fab_plain.specs.Resolution.{class_of};
 
     type Made = NumberedClass;
 

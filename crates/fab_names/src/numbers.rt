@@ -2,16 +2,16 @@
 ghost use Rattle.std.specs.Prelude.{◌≡◌, ◌≤◌, length, map, filter, count_by, slice_get, IfOk};
 ghost use Rattle.std.specs.List.{position};
 ghost use Rattle.std.specs.Str.{bytes_eq};
-ghost use Rattle.fab_tree.specs.Limits.{KeepsLimits, is_node};
+ghost use Rattle.fab_plain.specs.Limits.{KeepsLimits, is_node};
 ghost use Rattle.fab_names.specs.Numbered.{said_by};
-ghost use Rattle.fab_tree.specs.Names.{node_name, label_name, root_name};
-ghost use Rattle.fab_tree.specs.Resolution.{number_of, use_of, principal_number, node_number, pair_of, policy_of, sort_of, oid_of, root_value, value_of};
+ghost use Rattle.fab_plain.specs.Names.{node_name, label_name, root_name};
+ghost use Rattle.fab_plain.specs.Resolution.{number_of, use_of, principal_number, node_number, pair_of, policy_of, sort_of, oid_of, root_value, value_of};
 
 use crate::declared::Declared;
 use crate::named::{Named, number_of};
 use fab_base::{Label, NoMemory, Oid, Policy, Seq, Value};
-use fab_tree::resolved::{Sort as NumberedSort, Use};
-use fab_tree::{Aspect, Delegation, Given, Literal, Name, Node, PolicyText, Role, Root, Sort};
+use fab_plain::resolved::{Sort as NumberedSort, Use};
+use fab_plain::{Aspect, Delegation, Given, Literal, Name, Node, PolicyText, Role, Root, Sort};
 use std::alloc::Global;
 
 impl Declared<'_> {

@@ -1,7 +1,7 @@
 //! What a bundle declares, with numbers for names.
 ghost use Rattle.std.specs.Prelude.{◌≡◌, ◌≤◌, length, count_by, IfOk};
-ghost use Rattle.fab_tree.specs.Limits.{KeepsLimits, is_node};
-ghost use Rattle.fab_tree.specs.Resolution.{principals_from, roots_from, declarations};
+ghost use Rattle.fab_plain.specs.Limits.{KeepsLimits, is_node};
+ghost use Rattle.fab_plain.specs.Resolution.{principals_from, roots_from, declarations};
 ghost use Rattle.fab_names.specs.Numbered.{principal_of, root_of};
 
 use crate::declared::Declared;
@@ -9,8 +9,8 @@ use crate::named::copied;
 use crate::numbered::each_numbered;
 use crate::numbers::is_node;
 use fab_base::{NoMemory, Seq};
-use fab_tree::resolved::{Principal, Resolved, Root as NumberedRoot};
-use fab_tree::{Node, Root};
+use fab_plain::resolved::{Principal, Resolved, Root as NumberedRoot};
+use fab_plain::{Node, Root};
 use std::alloc::Global;
 
 impl Declared<'_> {

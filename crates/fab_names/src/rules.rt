@@ -1,13 +1,13 @@
 //! The rules of names.
 ghost use Rattle.std.specs.Prelude.{◌≡◌, ◌&&◌, IfOk, MatchOption};
 ghost use Rattle.std.specs.List.{list_all};
-ghost use Rattle.fab_tree.specs.Names.{KeepsNames, node_name};
+ghost use Rattle.fab_plain.specs.Names.{KeepsNames, node_name};
 ghost use Rattle.fab_names.specs.Known.{is_among, knows, knows_policy, knows_label, declares_once, knows_all};
 
 use crate::declared::Declared;
 use crate::named::{are_distinct, is_named};
 use fab_base::NoMemory;
-use fab_tree::{Delegation, LabelText, Name, PolicyText, Start};
+use fab_plain::{Delegation, LabelText, Name, PolicyText, Start};
 use std::alloc::Global;
 
 impl<'a> Declared<'a> {

@@ -2,13 +2,13 @@
 ghost use Rattle.std.specs.Prelude.{◌≡◌};
 ghost use Rattle.std.specs.List.{list_all};
 ghost use Rattle.std.specs.Str.{bytes_eq};
-ghost use Rattle.fab_tree.specs.Limits.{is_store};
-ghost use Rattle.fab_tree.specs.Names.{label_name};
+ghost use Rattle.fab_plain.specs.Limits.{is_store};
+ghost use Rattle.fab_plain.specs.Names.{label_name};
 ghost use Rattle.fab_names.specs.Known.{is_among, knows_sort, knows_class, knows_root, knows_store, is_of, are_of_class, fits, fit_each, fit_all};
 
 use crate::declared::Declared;
 use crate::named::{are_distinct, is_named};
-use fab_tree::{Class, Field, Given, Literal, Name, Role, Root, Sort};
+use fab_plain::{Class, Field, Given, Literal, Name, Role, Root, Sort};
 
 impl Declared<'_> {
     /// Whether each class has declared labels, and fields of known types with a name each.

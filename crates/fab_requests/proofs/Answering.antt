@@ -12,7 +12,7 @@ use Rattle.fab_base.specs.declared.object.Value.TheVariants.{Int, Null, Ref}
 use Rattle.fab_base.specs.FlatMap.{FlatMap, is_same, get, map_of}
 use Rattle.fab_map.proofs.Order.{one_name, same_flips}
 use Rattle.fab_map.proofs.Made.{get-map_of}
-use Rattle.fab_tree.specs.Meaning.{is_among}
+use Rattle.fab_plain.specs.Meaning.{is_among}
 use Rattle.fab_eval.specs.Outcomes.{Answers, names_of, objects_of, is_made_in}
 use Rattle.fab_eval.specs.Locality.{IsPart}
 use Rattle.fab_eval.proofs.Few.{Apart, Within, few, among_more}

@@ -10,11 +10,11 @@ use Rattle.fab_base.specs.FlatMap.{FlatMap, is_same, get, put, put_all, map_of, 
 use Rattle.fab_map.proofs.Order.{one_name}
 use Rattle.fab_map.proofs.Rows.{leads, leads_from, ascends_leads, ascends_rest, ascends_cons, ascends-put_all, same_from_get}
 use Rattle.fab_map.proofs.Made.{first_of, get-put_all, distinct_from_ascends}
-use Rattle.fab_tree.specs.declared.resolved.Resolved.{Resolved}
-use Rattle.fab_tree.specs.declared.resolved.Request.{Request}
-use Rattle.fab_tree.specs.Meaning as m
-use Rattle.fab_tree.specs.Meaning.{Meant, is_among, meaning}
-use Rattle.fab_tree.specs.Requests.{Course, meant, if_ended, map_behind, in_turn, preceded, tid_of}
+use Rattle.fab_plain.specs.declared.resolved.Resolved.{Resolved}
+use Rattle.fab_plain.specs.declared.resolved.Request.{Request}
+use Rattle.fab_plain.specs.Meaning as m
+use Rattle.fab_plain.specs.Meaning.{Meant, is_among, meaning}
+use Rattle.fab_plain.specs.Requests.{Course, meant, if_ended, map_behind, in_turn, preceded, tid_of}
 use Rattle.fab_eval.specs.Outcomes.{Answers, names_of, objects_of, version_of, writes_in, outcome_at, outcome_of}
 use Rattle.fab_eval.specs.Locality.{LacksToo, IsSameOver}
 use Rattle.fab_eval.specs.declared.job.Job.{Job}

@@ -1,10 +1,10 @@
 -- Requests for well typed methods all end.
 use Rattle.std.proofs.Common.{◌≡◌, List, [], ◌∷◌, None, refl, sym, ap, ◌∙◌, length, replicate, subst}
 use Rattle.fab_base.specs.FlatMap.{FlatMap}
-use Rattle.fab_tree.specs.declared.resolved.Request.{Request}
-use Rattle.fab_tree.specs.declared.resolved.Resolved.{Resolved}
-use Rattle.fab_tree.specs.Meaning.{Ending, Ended}
-use Rattle.fab_tree.specs.Requests.{tid_of, meant, if_ended, map_behind, in_turn}
+use Rattle.fab_plain.specs.declared.resolved.Request.{Request}
+use Rattle.fab_plain.specs.declared.resolved.Resolved.{Resolved}
+use Rattle.fab_plain.specs.Meaning.{Ending, Ended}
+use Rattle.fab_plain.specs.Requests.{tid_of, meant, if_ended, map_behind, in_turn}
 use Rattle.fab_eval.proofs.Progress.{StayObjects, request_ends, request_stays, given_after}
 use Rattle.fab_requests.specs.TypedRequests.{AreTypedRequests}
 

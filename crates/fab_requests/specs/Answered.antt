@@ -5,8 +5,8 @@ use Rattle.fab_base.specs.declared.object.Object.{Object}
 use Rattle.fab_base.specs.declared.object.Value.{Value}
 use Rattle.fab_base.specs.declared.object.Value.TheVariants.{Int, Null, Ref}
 use Rattle.fab_base.specs.FlatMap.{FlatMap, get, ascends}
-use Rattle.fab_tree.specs.Meaning.{is_among}
-use Rattle.fab_tree.specs.Requests.{tid_of}
+use Rattle.fab_plain.specs.Meaning.{is_among}
+use Rattle.fab_plain.specs.Requests.{tid_of}
 use Rattle.fab_eval.specs.Outcomes.{Answers, names_of}
 use Rattle.fab_eval.specs.declared.job.Job.{Job}
 

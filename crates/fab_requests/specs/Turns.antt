@@ -1,10 +1,10 @@
 -- What a request comes to over a map.
 use Rattle.std.specs.Prelude.{◌≡◌, ◌+◌, map, length}
 use Rattle.fab_base.specs.FlatMap.{FlatMap, put_all}
-use Rattle.fab_tree.specs.declared.resolved.Resolved.{Resolved}
-use Rattle.fab_tree.specs.declared.resolved.Request.{Request}
-use Rattle.fab_tree.specs.Meaning as m
-use Rattle.fab_tree.specs.Requests.{Course, meant, map_behind}
+use Rattle.fab_plain.specs.declared.resolved.Resolved.{Resolved}
+use Rattle.fab_plain.specs.declared.resolved.Request.{Request}
+use Rattle.fab_plain.specs.Meaning as m
+use Rattle.fab_plain.specs.Requests.{Course, meant, map_behind}
 use Rattle.fab_eval.specs.Outcomes.{objects_of}
 use Rattle.fab_eval.specs.declared.job.Job.{Job}
 use Rattle.fab_requests.specs.declared.ran.Ending.{Ending}

@@ -2,9 +2,9 @@
 use Rattle.std.specs.Prelude.{◌≡◌, ◌≤◌, List, [], ◌∷◌, Some, length, slice_get}
 use Rattle.fab_base.specs.declared.object.Oid.{Oid}
 use Rattle.fab_base.specs.FlatMap.{FlatMap}
-use Rattle.fab_tree.specs.declared.resolved.Method.{Method}
-use Rattle.fab_tree.specs.declared.resolved.Request.{Request}
-use Rattle.fab_tree.specs.declared.resolved.Resolved.{Resolved}
+use Rattle.fab_plain.specs.declared.resolved.Method.{Method}
+use Rattle.fab_plain.specs.declared.resolved.Request.{Request}
+use Rattle.fab_plain.specs.declared.resolved.Resolved.{Resolved}
 use Rattle.fab_eval.specs.Typed.{AreGiven, IsTypedMethod, size_of}
 
 -- its method is well typed and not too long, and it gives this method values of its parameters' types, with at most 256 objects, which are there

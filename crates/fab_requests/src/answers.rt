@@ -1,6 +1,6 @@
 //! Objects of a map as answers, each with version 1.
 ghost use Rattle.std.specs.Prelude.{◌≡◌, [], IfOk, OnOk};
-ghost use Rattle.fab_tree.specs.Meaning.{is_among};
+ghost use Rattle.fab_plain.specs.Meaning.{is_among};
 ghost use Rattle.fab_eval.specs.Outcomes.{names_of};
 ghost use Rattle.fab_requests.specs.Answered.{IsAnswered, with_argument, with_arguments};
 

@@ -1,7 +1,7 @@
 //! Requests one after the other.
 ghost use Rattle.std.specs.Prelude.{◌≡◌, IfOk, OnOk};
 ghost use Rattle.fab_base.specs.FlatMap.{put_all};
-ghost use Rattle.fab_tree.specs.Requests.{in_turn};
+ghost use Rattle.fab_plain.specs.Requests.{in_turn};
 ghost use Rattle.fab_eval.specs.Outcomes.{objects_of};
 ghost use Rattle.fab_requests.specs.Answered.{AreOld};
 ghost use Rattle.fab_requests.specs.Turns.{course_of};
@@ -10,8 +10,8 @@ use crate::ran::Ran;
 use crate::single::{Single, run_one};
 use fab_base::{NoMemory, Object, Oid, Seq};
 use fab_map::ObjectMap;
-use fab_tree::Resolved;
-use fab_tree::resolved::Request;
+use fab_plain::Resolved;
+use fab_plain::resolved::Request;
 use std::alloc::Global;
 use std::sync::Arc;
 

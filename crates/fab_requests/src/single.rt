@@ -10,8 +10,8 @@ use crate::ran::Ending;
 use fab_base::{NoMemory, Object, Oid, Seq, Tid};
 use fab_eval::{Done, Job, Outcome, evaluate};
 use fab_map::ObjectMap;
-use fab_tree::Resolved;
-use fab_tree::resolved::Request;
+use fab_plain::Resolved;
+use fab_plain::resolved::Request;
 use std::alloc::{AllocError, Global};
 use std::sync::Arc;
 

@@ -1,11 +1,11 @@
 -- All rules together.
 use Rattle.std.proofs.Common.{◌≡◌, ℕ, Bool, List, sym, ◌∙◌, subst}
 use Rattle.std.specs.Prelude.{All, IsTrue, ◌↔◌}
-use Rattle.fab_tree.specs.declared.start.Start.{Start}
-use Rattle.fab_tree.specs.declared.program.Method.{Method}
-use Rattle.fab_tree.specs.declared.program.Session.{Session}
-use Rattle.fab_tree.specs.Names.{Distinct, KeepsNames}
-use Rattle.fab_tree.specs.Methods.{method_name, session_name, IsKnownMethod, IsKnownSession, KeepsRules}
+use Rattle.fab_plain.specs.declared.start.Start.{Start}
+use Rattle.fab_plain.specs.declared.program.Method.{Method}
+use Rattle.fab_plain.specs.declared.program.Session.{Session}
+use Rattle.fab_plain.specs.Names.{Distinct, KeepsNames}
+use Rattle.fab_plain.specs.Methods.{method_name, session_name, IsKnownMethod, IsKnownSession, KeepsRules}
 use Rattle.fab_names.specs.Known.{is_distinct}
 use Rattle.fab_names.proofs.Names.{distinct_to, distinct_from}
 

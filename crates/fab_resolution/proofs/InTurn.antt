@@ -1,7 +1,7 @@
 -- What is numbered in turn: one more, or a refusal.
 use Rattle.std.proofs.Common.{◌≡◌, ℕ, suc, ◌+◌, ◌<◌, ◌≤◌, List, [], ◌∷◌, ◌++◌, map, length, get_or, drop, Result, Ok, Err, sym, ap, ◌∙◌, subst, arith, add-one, drop-cons, append_assoc}
 use Rattle.std.specs.Result.{IsErrAnd}
-use Rattle.fab_tree.specs.Numbering.{Numbered, in_turn}
+use Rattle.fab_plain.specs.Numbering.{Numbered, in_turn}
 use Rattle.fab_resolution.specs.declared.sites.Refusal.{Refusal}
 use Rattle.fab_resolution.specs.declared.sites.Refusal.TheVariants.{Memory, Sites}
 use Rattle.fab_resolution.specs.Gives.{Gives}

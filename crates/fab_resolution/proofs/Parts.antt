@@ -1,19 +1,19 @@
 -- The parts of what is numbered, of which each ends no later than the whole.
 use Rattle.std.proofs.Common.{◌≡◌, ℕ, ◌≤◌, List, [], ◌∷◌, map, Option, Some, None, refl, sym, ap, ◌∙◌, arith}
-use Rattle.fab_tree.specs.declared.start.Start.{Start}
-use Rattle.fab_tree.specs.declared.program.Sign.{Sign}
-use Rattle.fab_tree.specs.declared.program.Comparison.{Comparison}
-use Rattle.fab_tree.specs.declared.program.Parameter.{Parameter}
-use Rattle.fab_tree.specs.declared.program.Expression.{Expression, fold-roll-Expression}
-use Rattle.fab_tree.specs.declared.program.Expression.TheVariants as e
-use Rattle.fab_tree.specs.declared.program.Expression.TheOpen as o
-use Rattle.fab_tree.specs.declared.program.Statement.{Statement, fold-roll-Statement}
-use Rattle.fab_tree.specs.declared.program.Statement.TheVariants as forms
-use Rattle.fab_tree.specs.declared.program.Statement.TheOpen as layers
-use Rattle.fab_tree.specs.declared.resolved.Expression.{Expression as NumberedExpression}
-use Rattle.fab_tree.specs.declared.resolved.Expression.TheVariants as ne
-use Rattle.fab_tree.specs.declared.resolved.Statement.{Statement as NumberedStatement}
-use Rattle.fab_tree.specs.Numbering.{Numbered, in_turn, terms_in_turn, other_in_turn, expression_step, expression_of, statement_step, statement_of}
+use Rattle.fab_plain.specs.declared.start.Start.{Start}
+use Rattle.fab_plain.specs.declared.program.Sign.{Sign}
+use Rattle.fab_plain.specs.declared.program.Comparison.{Comparison}
+use Rattle.fab_plain.specs.declared.program.Parameter.{Parameter}
+use Rattle.fab_plain.specs.declared.program.Expression.{Expression, fold-roll-Expression}
+use Rattle.fab_plain.specs.declared.program.Expression.TheVariants as e
+use Rattle.fab_plain.specs.declared.program.Expression.TheOpen as o
+use Rattle.fab_plain.specs.declared.program.Statement.{Statement, fold-roll-Statement}
+use Rattle.fab_plain.specs.declared.program.Statement.TheVariants as forms
+use Rattle.fab_plain.specs.declared.program.Statement.TheOpen as layers
+use Rattle.fab_plain.specs.declared.resolved.Expression.{Expression as NumberedExpression}
+use Rattle.fab_plain.specs.declared.resolved.Expression.TheVariants as ne
+use Rattle.fab_plain.specs.declared.resolved.Statement.{Statement as NumberedStatement}
+use Rattle.fab_plain.specs.Numbering.{Numbered, in_turn, terms_in_turn, other_in_turn, expression_step, expression_of, statement_step, statement_of}
 use Rattle.fab_resolution.proofs.SiteCounts.{numbered_term, expression_grows, terms_grow, block_grows}
 
 module _ (start : Start) (locals : List Parameter) where

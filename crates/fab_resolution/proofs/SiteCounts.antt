@@ -1,20 +1,20 @@
 -- The number of the next site behind what is numbered: so many sites further.
 use Rattle.std.proofs.Common.{◌≡◌, ℕ, suc, ◌+◌, ◌≤◌, List, [], ◌∷◌, map, Some, None, sym, ap, ◌∙◌, subst, arith}
-use Rattle.fab_tree.specs.declared.start.Start.{Start}
-use Rattle.fab_tree.specs.declared.program.Sign.{Sign}
-use Rattle.fab_tree.specs.declared.program.Expression.{Expression, ind-Expression, roll-Expression, fold-roll-Expression, map-Expression}
-use Rattle.fab_tree.specs.declared.program.Expression.TheOpen as o
-use Rattle.fab_tree.specs.declared.program.Expression.TheOpen.{Expression-F}
-use Rattle.fab_tree.specs.declared.program.Statement.{Statement, ind-Statement, roll-Statement, fold-roll-Statement, map-Statement}
-use Rattle.fab_tree.specs.declared.program.Statement.TheOpen as layers
-use Rattle.fab_tree.specs.declared.program.Statement.TheOpen.{Statement-F}
-use Rattle.fab_tree.specs.declared.program.Parameter.{Parameter}
-use Rattle.fab_tree.specs.declared.program.Method.{Method}
-use Rattle.fab_tree.specs.declared.resolved.Expression.{Expression as NumberedExpression}
-use Rattle.fab_tree.specs.declared.resolved.Statement.{Statement as NumberedStatement}
-use Rattle.fab_tree.specs.Counts.{total, total_of_terms, sites_step, sites, sites_of_step, sites_of, sites_of_block, sites_of_methods}
-use Rattle.fab_tree.specs.Methods.{locals_of}
-use Rattle.fab_tree.specs.Numbering.{Numbered, in_turn, terms_in_turn, expression_step, expression_of, statement_step, statement_of, method_of}
+use Rattle.fab_plain.specs.declared.start.Start.{Start}
+use Rattle.fab_plain.specs.declared.program.Sign.{Sign}
+use Rattle.fab_plain.specs.declared.program.Expression.{Expression, ind-Expression, roll-Expression, fold-roll-Expression, map-Expression}
+use Rattle.fab_plain.specs.declared.program.Expression.TheOpen as o
+use Rattle.fab_plain.specs.declared.program.Expression.TheOpen.{Expression-F}
+use Rattle.fab_plain.specs.declared.program.Statement.{Statement, ind-Statement, roll-Statement, fold-roll-Statement, map-Statement}
+use Rattle.fab_plain.specs.declared.program.Statement.TheOpen as layers
+use Rattle.fab_plain.specs.declared.program.Statement.TheOpen.{Statement-F}
+use Rattle.fab_plain.specs.declared.program.Parameter.{Parameter}
+use Rattle.fab_plain.specs.declared.program.Method.{Method}
+use Rattle.fab_plain.specs.declared.resolved.Expression.{Expression as NumberedExpression}
+use Rattle.fab_plain.specs.declared.resolved.Statement.{Statement as NumberedStatement}
+use Rattle.fab_plain.specs.Counts.{total, total_of_terms, sites_step, sites, sites_of_step, sites_of, sites_of_block, sites_of_methods}
+use Rattle.fab_plain.specs.Methods.{locals_of}
+use Rattle.fab_plain.specs.Numbering.{Numbered, in_turn, terms_in_turn, expression_step, expression_of, statement_step, statement_of, method_of}
 
 module _ (start : Start) (locals : List Parameter) where
   -- ---- expressions

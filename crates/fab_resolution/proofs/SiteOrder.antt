@@ -1,27 +1,27 @@
 -- The sites of what is numbered, in the order of the text: those from the first number on.
 use Rattle.std.proofs.Common.{◌≡◌, ℕ, zero, suc, ◌+◌, List, [], ◌∷◌, ◌++◌, map, flat_map, Some, None, refl, sym, ap, ◌∙◌, subst, arith}
 use Rattle.std.specs.List.{range_with_len}
-use Rattle.fab_tree.specs.declared.start.Start.{Start}
-use Rattle.fab_tree.specs.declared.program.Sign.{Sign}
-use Rattle.fab_tree.specs.declared.program.Comparison.{Comparison}
-use Rattle.fab_tree.specs.declared.program.Expression.{Expression, ind-Expression, roll-Expression, fold-roll-Expression, map-Expression}
-use Rattle.fab_tree.specs.declared.program.Expression.TheOpen as o
-use Rattle.fab_tree.specs.declared.program.Expression.TheOpen.{Expression-F}
-use Rattle.fab_tree.specs.declared.program.Statement.{Statement, ind-Statement, roll-Statement, fold-roll-Statement, map-Statement}
-use Rattle.fab_tree.specs.declared.program.Statement.TheOpen as layers
-use Rattle.fab_tree.specs.declared.program.Statement.TheOpen.{Statement-F}
-use Rattle.fab_tree.specs.declared.program.Parameter.{Parameter}
-use Rattle.fab_tree.specs.declared.program.Method.{Method}
-use Rattle.fab_tree.specs.declared.resolved.Use.{Use}
-use Rattle.fab_tree.specs.declared.resolved.Expression.{Expression as NumberedExpression, fold-roll-Expression as fold-roll-Value}
-use Rattle.fab_tree.specs.declared.resolved.Expression.TheVariants as ne
-use Rattle.fab_tree.specs.declared.resolved.Expression.TheOpen as nl
-use Rattle.fab_tree.specs.declared.resolved.Statement.{Statement as NumberedStatement, fold-roll-Statement as fold-roll-Numbered}
-use Rattle.fab_tree.specs.declared.resolved.Statement.TheVariants as ns
-use Rattle.fab_tree.specs.declared.resolved.Statement.TheOpen as nlayers
-use Rattle.fab_tree.specs.Counts.{total_of_terms, sites_step, sites, sites_of_step, sites_of, sites_of_block, sites_of_methods}
-use Rattle.fab_tree.specs.Methods.{locals_of}
-use Rattle.fab_tree.specs.Numbering.{Numbered, in_turn, terms_in_turn, expression_step, expression_of, statement_step, statement_of, method_of}
+use Rattle.fab_plain.specs.declared.start.Start.{Start}
+use Rattle.fab_plain.specs.declared.program.Sign.{Sign}
+use Rattle.fab_plain.specs.declared.program.Comparison.{Comparison}
+use Rattle.fab_plain.specs.declared.program.Expression.{Expression, ind-Expression, roll-Expression, fold-roll-Expression, map-Expression}
+use Rattle.fab_plain.specs.declared.program.Expression.TheOpen as o
+use Rattle.fab_plain.specs.declared.program.Expression.TheOpen.{Expression-F}
+use Rattle.fab_plain.specs.declared.program.Statement.{Statement, ind-Statement, roll-Statement, fold-roll-Statement, map-Statement}
+use Rattle.fab_plain.specs.declared.program.Statement.TheOpen as layers
+use Rattle.fab_plain.specs.declared.program.Statement.TheOpen.{Statement-F}
+use Rattle.fab_plain.specs.declared.program.Parameter.{Parameter}
+use Rattle.fab_plain.specs.declared.program.Method.{Method}
+use Rattle.fab_plain.specs.declared.resolved.Use.{Use}
+use Rattle.fab_plain.specs.declared.resolved.Expression.{Expression as NumberedExpression, fold-roll-Expression as fold-roll-Value}
+use Rattle.fab_plain.specs.declared.resolved.Expression.TheVariants as ne
+use Rattle.fab_plain.specs.declared.resolved.Expression.TheOpen as nl
+use Rattle.fab_plain.specs.declared.resolved.Statement.{Statement as NumberedStatement, fold-roll-Statement as fold-roll-Numbered}
+use Rattle.fab_plain.specs.declared.resolved.Statement.TheVariants as ns
+use Rattle.fab_plain.specs.declared.resolved.Statement.TheOpen as nlayers
+use Rattle.fab_plain.specs.Counts.{total_of_terms, sites_step, sites, sites_of_step, sites_of, sites_of_block, sites_of_methods}
+use Rattle.fab_plain.specs.Methods.{locals_of}
+use Rattle.fab_plain.specs.Numbering.{Numbered, in_turn, terms_in_turn, expression_step, expression_of, statement_step, statement_of, method_of}
 use Rattle.fab_resolution.specs.SiteOrder.{sites_in_step, sites_in, sites_in_statement_step, sites_in_statement, sites_in_methods}
 use Rattle.fab_resolution.proofs.SiteCounts.{numbered_term, expression_counts, statement_counts, block_counts}
 

@@ -1,10 +1,10 @@
 -- The parts of a session with numbers for names.
 use Rattle.std.specs.Prelude.{ℕ, map}
-use Rattle.fab_tree.specs.declared.start.Start.{Start}
-use Rattle.fab_tree.specs.declared.program.RequestText.{RequestText}
-use Rattle.fab_tree.specs.declared.resolved.Request.{Request}
-use Rattle.fab_tree.specs.Methods.{method_name}
-use Rattle.fab_tree.specs.Resolution.{number_of, value_of}
+use Rattle.fab_plain.specs.declared.start.Start.{Start}
+use Rattle.fab_plain.specs.declared.program.RequestText.{RequestText}
+use Rattle.fab_plain.specs.declared.resolved.Request.{Request}
+use Rattle.fab_plain.specs.Methods.{method_name}
+use Rattle.fab_plain.specs.Resolution.{number_of, value_of}
 
 -- the request of this number
 abbrev pub request_of : Start → ℕ → ℕ → RequestText → Request

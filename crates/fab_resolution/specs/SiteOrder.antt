@@ -1,10 +1,10 @@
 -- The numbers of the sites, in the order of the text.
 use Rattle.std.specs.Prelude.{ℕ, List, [], ◌∷◌, ◌++◌, flat_map}
-use Rattle.fab_tree.specs.declared.resolved.Expression.{Expression, fold-Expression}
-use Rattle.fab_tree.specs.declared.resolved.Expression.TheOpen as e
-use Rattle.fab_tree.specs.declared.resolved.Statement.{Statement, fold-Statement}
-use Rattle.fab_tree.specs.declared.resolved.Statement.TheOpen as s
-use Rattle.fab_tree.specs.declared.resolved.Method.{Method}
+use Rattle.fab_plain.specs.declared.resolved.Expression.{Expression, fold-Expression}
+use Rattle.fab_plain.specs.declared.resolved.Expression.TheOpen as e
+use Rattle.fab_plain.specs.declared.resolved.Statement.{Statement, fold-Statement}
+use Rattle.fab_plain.specs.declared.resolved.Statement.TheOpen as s
+use Rattle.fab_plain.specs.declared.resolved.Method.{Method}
 
 abbrev pub sites_in_step : e.Expression-F (List ℕ) → List ℕ
 sites_in_step (e.Number k) = []

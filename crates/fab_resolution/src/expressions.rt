@@ -1,13 +1,13 @@
 //! Expressions with numbers for names.
 ghost use Rattle.std.specs.Prelude.{map};
-ghost use Rattle.fab_tree.specs.Numbering.{expression_of, terms_in_turn};
+ghost use Rattle.fab_plain.specs.Numbering.{expression_of, terms_in_turn};
 ghost use Rattle.fab_resolution.specs.Gives.{Gives};
 
 use crate::scope::Scope;
 use crate::sites::{Refusal, next_site};
 use fab_base::{Boxed, Seq};
-use fab_tree::resolved::Expression as Numbered;
-use fab_tree::{Expression, Sign};
+use fab_plain::resolved::Expression as Numbered;
+use fab_plain::{Expression, Sign};
 use std::alloc::Global;
 
 /// An expression with numbers for names.

@@ -1,9 +1,9 @@
 //! Methods with numbers for names.
 ghost use Rattle.std.specs.Prelude.{◌≡◌, ◌≤◌, map, length, All, IfOk};
-ghost use Rattle.fab_tree.specs.Counts.{sites_of_methods};
-ghost use Rattle.fab_tree.specs.Limits.{KeepsLimits};
-ghost use Rattle.fab_tree.specs.Methods.{locals_of};
-ghost use Rattle.fab_tree.specs.Numbering.{in_turn, method_of, methods_of, numbered_local};
+ghost use Rattle.fab_plain.specs.Counts.{sites_of_methods};
+ghost use Rattle.fab_plain.specs.Limits.{KeepsLimits};
+ghost use Rattle.fab_plain.specs.Methods.{locals_of};
+ghost use Rattle.fab_plain.specs.Numbering.{in_turn, method_of, methods_of, numbered_local};
 ghost use Rattle.fab_resolution.specs.Gives.{Gives};
 
 use crate::scope::Scope;
@@ -12,8 +12,8 @@ use crate::statements::numbered_block;
 use fab_base::{NoMemory, Seq};
 use fab_methods::{Declaration, locals_of};
 use fab_names::{Declared, copied};
-use fab_tree::Method;
-use fab_tree::resolved::{Local, Method as Numbered};
+use fab_plain::Method;
+use fab_plain::resolved::{Local, Method as Numbered};
 use std::alloc::{AllocError, Global};
 
 /// The methods of a bundle, with sites from 0.

@@ -1,12 +1,12 @@
 //! The rules of names and types in methods and sessions.
 ghost use Rattle.std.specs.Prelude.{◌↔◌, All, IfOk, IsTrue};
-ghost use Rattle.fab_tree.specs.Methods.{KeepsRules, IsKnownMethod, IsKnownSession, method_name, session_name};
-ghost use Rattle.fab_tree.specs.Names.{Distinct, KeepsNames};
+ghost use Rattle.fab_plain.specs.Methods.{KeepsRules, IsKnownMethod, IsKnownSession, method_name, session_name};
+ghost use Rattle.fab_plain.specs.Names.{Distinct, KeepsNames};
 
 use fab_base::NoMemory;
 use fab_methods::{keeps_method, keeps_session};
 use fab_names::{Declared, are_distinct};
-use fab_tree::{Method, Session, Start};
+use fab_plain::{Method, Session, Start};
 use std::alloc::Global;
 
 /// Whether methods and sessions keep the rules, too.

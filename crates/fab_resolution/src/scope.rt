@@ -1,13 +1,13 @@
 //! Where the names in a method's body are looked up.
 ghost use Rattle.std.specs.Prelude.{◌≡◌, ◌≤◌, length, All};
-ghost use Rattle.fab_tree.specs.Methods.{local_name};
-ghost use Rattle.fab_tree.specs.Numbering.{class_named, field_in, field_number, field_of_sort};
-ghost use Rattle.fab_tree.specs.Resolution.{number_of, use_of};
+ghost use Rattle.fab_plain.specs.Methods.{local_name};
+ghost use Rattle.fab_plain.specs.Numbering.{class_named, field_in, field_number, field_of_sort};
+ghost use Rattle.fab_plain.specs.Resolution.{number_of, use_of};
 
 use fab_methods::Declaration;
 use fab_names::{first_named, number_of, use_of};
-use fab_tree::resolved::Use;
-use fab_tree::{Name, Sort, Start};
+use fab_plain::resolved::Use;
+use fab_plain::{Name, Sort, Start};
 
 /// A bundle and the locals of one of its methods, so few that their numbers fit.
 #[derive(Drop)]

@@ -1,13 +1,13 @@
 //! Sessions with numbers for names.
 ghost use Rattle.std.specs.Prelude.{◌≡◌, ◌≤◌, map, length, All, IfOk};
-ghost use Rattle.fab_tree.specs.Limits.{KeepsLimits};
-ghost use Rattle.fab_tree.specs.Numbering.{requests_from, session_of};
+ghost use Rattle.fab_plain.specs.Limits.{KeepsLimits};
+ghost use Rattle.fab_plain.specs.Numbering.{requests_from, session_of};
 ghost use Rattle.fab_resolution.specs.Requests.{request_of};
 
 use fab_base::{NoMemory, Seq};
 use fab_names::{Declared, number_of};
-use fab_tree::resolved::{Request, Session as Numbered, Use};
-use fab_tree::{RequestText, Session};
+use fab_plain::resolved::{Request, Session as Numbered, Use};
+use fab_plain::{RequestText, Session};
 use std::alloc::Global;
 
 /// The sessions of a bundle with numbers for names.

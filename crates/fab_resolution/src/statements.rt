@@ -1,17 +1,17 @@
 //! Statements with numbers for names.
 ghost use Rattle.std.specs.Prelude.{map, suc};
-ghost use Rattle.fab_tree.specs.declared.resolved.Statement.TheVariants.{Assign, Write};
-ghost use Rattle.fab_tree.specs.Methods.{local_name};
-ghost use Rattle.fab_tree.specs.Numbering.{expression_of, field_number, in_turn, local_number, statement_of};
-ghost use Rattle.fab_tree.specs.Resolution.{use_of};
+ghost use Rattle.fab_plain.specs.declared.resolved.Statement.TheVariants.{Assign, Write};
+ghost use Rattle.fab_plain.specs.Methods.{local_name};
+ghost use Rattle.fab_plain.specs.Numbering.{expression_of, field_number, in_turn, local_number, statement_of};
+ghost use Rattle.fab_plain.specs.Resolution.{use_of};
 ghost use Rattle.fab_resolution.specs.Gives.{Gives};
 
 use crate::expressions::numbered;
 use crate::scope::Scope;
 use crate::sites::{Refusal, next_site};
 use fab_base::Seq;
-use fab_tree::resolved::Statement as Numbered;
-use fab_tree::{Expression, Name, Statement};
+use fab_plain::resolved::Statement as Numbered;
+use fab_plain::{Expression, Name, Statement};
 use std::alloc::Global;
 
 /// The statements of a block with numbers for names.

@@ -1,16 +1,16 @@
 //! The whole bundle with numbers for names.
 ghost use Rattle.std.specs.Prelude.{◌≡◌, IfOk, MatchOption};
-ghost use Rattle.fab_tree.specs.Counts.{KeepsCounts};
-ghost use Rattle.fab_tree.specs.Limits.{KeepsLimits};
-ghost use Rattle.fab_tree.specs.Methods.{KeepsRules};
-ghost use Rattle.fab_tree.specs.Numbering.{resolved};
+ghost use Rattle.fab_plain.specs.Counts.{KeepsCounts};
+ghost use Rattle.fab_plain.specs.Limits.{KeepsLimits};
+ghost use Rattle.fab_plain.specs.Methods.{KeepsRules};
+ghost use Rattle.fab_plain.specs.Numbering.{resolved};
 
 use crate::methods::numbered_methods;
 use crate::rules::keeps_others;
 use crate::sessions::numbered_sessions;
 use fab_base::NoMemory;
 use fab_names::Declared;
-use fab_tree::{Resolved, Start};
+use fab_plain::{Resolved, Start};
 use std::alloc::Global;
 
 /// The bundle with numbers for names, or `None` where it doesn't keep the rules of names and types.

@@ -2,9 +2,9 @@
 use Rattle.std.proofs.Common.{◌≡◌, ◌≢◌, ◌⊎◌, inl, inr, ℕ, ◌≤◌, List, ◌++◌, length, Option, Some, None, IfSome, refl, sym, ap, ◌∙◌, subst, arith, append-nil, length-append, codes, String}
 use Rattle.std.specs.Io.KnownBytes.{Appends, IsAtEnd, Consumes}
 use Rattle.std.specs.declared.alloc.Global.{Global}
-use Rattle.fab_tree.specs.declared.start.Start.{Start}
-use Rattle.fab_tree.specs.Numbering.{resolved}
-use Rattle.fab_tree.specs.Evaluation.{Spells, evaluation_text, line}
+use Rattle.fab_plain.specs.declared.start.Start.{Start}
+use Rattle.fab_plain.specs.Numbering.{resolved}
+use Rattle.fab_plain.specs.Evaluation.{Spells, evaluation_text, line}
 use Rattle.fab_typing.proofs.KnownRequests.{requests_end}
 use Rattle.fab_typing.proofs.ShortTexts.{short_text}
 use Rattle.fab_top.specs.Reply.{AllEnd, AskEvaluation, SpellsOne, SpellsSome, SpellsNone, Replies, usage, evaluated, not_built, RepliesWith, Ends, Exactly, WritesEvaluation}

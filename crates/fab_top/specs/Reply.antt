@@ -2,11 +2,11 @@
 use Rattle.std.specs.Prelude.{◌≡◌, ◌⊎◌, ℕ, List, [], ◌∷◌, map, length, replicate, Option, None, codes, String, string_bytes}
 use Rattle.std.specs.Io.KnownBytes.{Appends, Keeps}
 use Rattle.std.specs.declared.alloc.Global.{Global}
-use Rattle.fab_tree.specs.declared.start.Start.{Start}
-use Rattle.fab_tree.specs.declared.resolved.Resolved.{Resolved}
-use Rattle.fab_tree.specs.Numbering.{resolved}
-use Rattle.fab_tree.specs.Meaning.{Ended}
-use Rattle.fab_tree.specs.Evaluation.{Spells, course_of, evaluation_text, line, requests_of}
+use Rattle.fab_plain.specs.declared.start.Start.{Start}
+use Rattle.fab_plain.specs.declared.resolved.Resolved.{Resolved}
+use Rattle.fab_plain.specs.Numbering.{resolved}
+use Rattle.fab_plain.specs.Meaning.{Ended}
+use Rattle.fab_plain.specs.Evaluation.{Spells, course_of, evaluation_text, line, requests_of}
 use Rattle.fab_top.specs.Reading.{ReadsText, WritesFront}
 use Rattle.fab_top.specs.declared.status.Status.{Status}
 use Rattle.fab_top.specs.declared.status.Status.TheVariants.{Ok, Usage, ReadFault, WriteFault, Memory, NotBuilt}

@@ -1,7 +1,7 @@
 //! What the words ask for, and the reply.
 ghost use Rattle.std.specs.Prelude.{◌≡◌, ◌≢◌, ◌⊎◌, ◌↔◌, ◌≤◌, IsTrue, List, ℕ, length, codes, IfOk, IfSome, IsErrOf};
 ghost use Rattle.std.specs.Io.KnownBytes.{Appends, Keeps, IsAtEnd};
-ghost use Rattle.fab_tree.specs.Evaluation.{line};
+ghost use Rattle.fab_plain.specs.Evaluation.{line};
 ghost use Rattle.fab_base.specs.Faults.{Rose};
 ghost use Rattle.fab_top.specs.Reply.{AskEvaluation, Replies, IsInput, Ends, Exactly, SpellsSome, SpellsNone, WritesEvaluation, RepliesInPart, RepliesWith};
 ghost use Rattle.fab_top.specs.Reading.{TakesAtMost};

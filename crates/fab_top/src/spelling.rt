@@ -3,10 +3,10 @@ ghost use Rattle.std.specs.Prelude.{IfOk, MatchOption};
 ghost use Rattle.fab_top.specs.Reply.{SpellsNone, SpellsResolved};
 
 use fab_base::NoMemory;
-use fab_bundle::{ParseError, bundle, is_evaluated, keeps_counts, keeps_limits};
 use fab_lexer::{LexError, tokens};
+use fab_plain::Resolved;
+use fab_plain_bundle::{ParseError, bundle, is_evaluated, keeps_counts, keeps_limits};
 use fab_resolution::resolve;
-use fab_tree::Resolved;
 use std::alloc::{AllocError, Global};
 
 /// The most bytes that a text has.

@@ -6,31 +6,31 @@ use Rattle.std.proofs.lemmas.List.{length-map}
 use Rattle.std.proofs.lemmas.List.Folds.{flat_map-map}
 use Rattle.std.proofs.lemmas.List.Concat.{flat_map-cons}
 use Rattle.std.proofs.lemmas.List.Elements.{Contains-append_left, Contains-append_right}
-use Rattle.fab_tree.specs.declared.start.Sort.{Sort}
-use Rattle.fab_tree.specs.declared.start.Sort.TheVariants as sorts
-use Rattle.fab_tree.specs.declared.start.Start.{Start}
-use Rattle.fab_tree.specs.declared.program.Sign.{Sign}
-use Rattle.fab_tree.specs.declared.program.Comparison.{Comparison}
-use Rattle.fab_tree.specs.declared.program.Expression.{Expression, roll-Expression, fold-roll-Expression, map-Expression}
-use Rattle.fab_tree.specs.declared.program.Expression.TheVariants as e
-use Rattle.fab_tree.specs.declared.program.Expression.TheOpen as eo
-use Rattle.fab_tree.specs.declared.program.Statement.{Statement, roll-Statement, fold-roll-Statement, map-Statement}
-use Rattle.fab_tree.specs.declared.program.Statement.TheVariants as forms
-use Rattle.fab_tree.specs.declared.program.Statement.TheOpen as so
-use Rattle.fab_tree.specs.declared.program.Parameter.{Parameter}
-use Rattle.fab_tree.specs.declared.program.Method.{Method}
-use Rattle.fab_tree.specs.declared.resolved.Expression.{Expression as NumberedExpression, roll-Expression as roll-Numbered}
-use Rattle.fab_tree.specs.declared.resolved.Expression.TheVariants as ne
-use Rattle.fab_tree.specs.declared.resolved.Expression.TheOpen as no
-use Rattle.fab_tree.specs.declared.resolved.Statement.{Statement as NumberedStatement, roll-Statement as roll-Step}
-use Rattle.fab_tree.specs.declared.resolved.Statement.TheVariants as ns
-use Rattle.fab_tree.specs.declared.resolved.Statement.TheOpen as nso
-use Rattle.fab_tree.specs.declared.resolved.Local.{Local as NumberedLocal}
-use Rattle.fab_tree.specs.Names.{class_name, KeepsNames, Distinct}
-use Rattle.fab_tree.specs.Methods as rules
-use Rattle.fab_tree.specs.Methods.{Locals, sort_in, SameSort, HasField, HasSort, AreInts, IsGivenTo, AreKnown, IsKnownOther, declared_step, declared_in, locals_of, local_name, IsKnownMethod}
-use Rattle.fab_tree.specs.Resolution.{number_of, use_of, class_of}
-use Rattle.fab_tree.specs.Numbering.{Numbered, in_turn, terms_in_turn, local_number, field_number, expression_step, expression_of, statement_step, statement_of, numbered_local, method_of}
+use Rattle.fab_plain.specs.declared.start.Sort.{Sort}
+use Rattle.fab_plain.specs.declared.start.Sort.TheVariants as sorts
+use Rattle.fab_plain.specs.declared.start.Start.{Start}
+use Rattle.fab_plain.specs.declared.program.Sign.{Sign}
+use Rattle.fab_plain.specs.declared.program.Comparison.{Comparison}
+use Rattle.fab_plain.specs.declared.program.Expression.{Expression, roll-Expression, fold-roll-Expression, map-Expression}
+use Rattle.fab_plain.specs.declared.program.Expression.TheVariants as e
+use Rattle.fab_plain.specs.declared.program.Expression.TheOpen as eo
+use Rattle.fab_plain.specs.declared.program.Statement.{Statement, roll-Statement, fold-roll-Statement, map-Statement}
+use Rattle.fab_plain.specs.declared.program.Statement.TheVariants as forms
+use Rattle.fab_plain.specs.declared.program.Statement.TheOpen as so
+use Rattle.fab_plain.specs.declared.program.Parameter.{Parameter}
+use Rattle.fab_plain.specs.declared.program.Method.{Method}
+use Rattle.fab_plain.specs.declared.resolved.Expression.{Expression as NumberedExpression, roll-Expression as roll-Numbered}
+use Rattle.fab_plain.specs.declared.resolved.Expression.TheVariants as ne
+use Rattle.fab_plain.specs.declared.resolved.Expression.TheOpen as no
+use Rattle.fab_plain.specs.declared.resolved.Statement.{Statement as NumberedStatement, roll-Statement as roll-Step}
+use Rattle.fab_plain.specs.declared.resolved.Statement.TheVariants as ns
+use Rattle.fab_plain.specs.declared.resolved.Statement.TheOpen as nso
+use Rattle.fab_plain.specs.declared.resolved.Local.{Local as NumberedLocal}
+use Rattle.fab_plain.specs.Names.{class_name, KeepsNames, Distinct}
+use Rattle.fab_plain.specs.Methods as rules
+use Rattle.fab_plain.specs.Methods.{Locals, sort_in, SameSort, HasField, HasSort, AreInts, IsGivenTo, AreKnown, IsKnownOther, declared_step, declared_in, locals_of, local_name, IsKnownMethod}
+use Rattle.fab_plain.specs.Resolution.{number_of, use_of, class_of}
+use Rattle.fab_plain.specs.Numbering.{Numbered, in_turn, terms_in_turn, local_number, field_number, expression_step, expression_of, statement_step, statement_of, numbered_local, method_of}
 use Rattle.fab_names.proofs.Names.{distinct_from, its_number}
 use Rattle.fab_eval.specs.Typed as types
 use Rattle.fab_eval.specs.Typed.{Kind, int, object, kind_of, local_kind, field_kind, below, asks_same, HasKind, AreNumbers, IsTyped, AreTyped, IsTypedMethod}

@@ -4,20 +4,20 @@ use Rattle.std.specs.Prelude.{Contains, option_and_then, All}
 use Rattle.std.specs.Str.{bytes_eq}
 use Rattle.std.proofs.lemmas.Option.{slice_get-map}
 use Rattle.std.proofs.lemmas.List.Elements.{All-contains}
-use Rattle.fab_tree.specs.declared.start.Name.{Name}
-use Rattle.fab_tree.specs.declared.start.Sort.{Sort}
-use Rattle.fab_tree.specs.declared.start.Sort.TheVariants as sorts
-use Rattle.fab_tree.specs.declared.start.Field.{Field}
-use Rattle.fab_tree.specs.declared.start.Class.{Class}
-use Rattle.fab_tree.specs.declared.start.Start.{Start}
-use Rattle.fab_tree.specs.declared.program.Parameter.{Parameter}
-use Rattle.fab_tree.specs.declared.resolved.Class.{Class as NumberedClass}
-use Rattle.fab_tree.specs.declared.resolved.Field.{Field as NumberedField}
-use Rattle.fab_tree.specs.declared.resolved.Local.{Local as NumberedLocal}
-use Rattle.fab_tree.specs.Names.{class_name, field_name, IsKnownClass, KeepsNames}
-use Rattle.fab_tree.specs.Resolution.{number_of, sort_of, class_of}
-use Rattle.fab_tree.specs.Numbering.{class_named, field_in, field_of_sort, field_of_local, field_number, numbered_local}
-use Rattle.fab_tree.specs.Methods.{Locals, sort_in, HasField, local_name}
+use Rattle.fab_plain.specs.declared.start.Name.{Name}
+use Rattle.fab_plain.specs.declared.start.Sort.{Sort}
+use Rattle.fab_plain.specs.declared.start.Sort.TheVariants as sorts
+use Rattle.fab_plain.specs.declared.start.Field.{Field}
+use Rattle.fab_plain.specs.declared.start.Class.{Class}
+use Rattle.fab_plain.specs.declared.start.Start.{Start}
+use Rattle.fab_plain.specs.declared.program.Parameter.{Parameter}
+use Rattle.fab_plain.specs.declared.resolved.Class.{Class as NumberedClass}
+use Rattle.fab_plain.specs.declared.resolved.Field.{Field as NumberedField}
+use Rattle.fab_plain.specs.declared.resolved.Local.{Local as NumberedLocal}
+use Rattle.fab_plain.specs.Names.{class_name, field_name, IsKnownClass, KeepsNames}
+use Rattle.fab_plain.specs.Resolution.{number_of, sort_of, class_of}
+use Rattle.fab_plain.specs.Numbering.{class_named, field_in, field_of_sort, field_of_local, field_number, numbered_local}
+use Rattle.fab_plain.specs.Methods.{Locals, sort_in, HasField, local_name}
 use Rattle.fab_names.specs.Numbered.{field_of}
 use Rattle.fab_names.proofs.Names.{distinct_from, its_number, or_left, or_right}
 use Rattle.fab_names.proofs.KeptRules.{same_text}

@@ -9,27 +9,27 @@ use Rattle.fab_base.specs.declared.object.Oid.{Oid}
 use Rattle.fab_base.specs.declared.object.Value.{Value}
 use Rattle.fab_base.specs.declared.object.Value.TheVariants as values
 use Rattle.fab_base.specs.FlatMap.{FlatMap, is_same}
-use Rattle.fab_tree.specs.declared.start.Sort.{Sort}
-use Rattle.fab_tree.specs.declared.start.Sort.TheVariants as sorts
-use Rattle.fab_tree.specs.declared.start.Literal.{Literal}
-use Rattle.fab_tree.specs.declared.start.Literal.TheVariants as literals
-use Rattle.fab_tree.specs.declared.start.Given.{Given}
-use Rattle.fab_tree.specs.declared.start.Start.{Start}
-use Rattle.fab_tree.specs.declared.program.Parameter.{Parameter}
-use Rattle.fab_tree.specs.declared.program.RequestText.{RequestText}
-use Rattle.fab_tree.specs.declared.program.Session.{Session}
-use Rattle.fab_tree.specs.declared.resolved.Method.{Method as NumberedMethod}
-use Rattle.fab_tree.specs.declared.resolved.Request.{Request}
-use Rattle.fab_tree.specs.declared.resolved.Resolved.{Resolved}
-use Rattle.fab_tree.specs.Counts.{KeepsCounts}
-use Rattle.fab_tree.specs.Evaluation.{HasNoNull, IsEvaluated, map_at_start, requests_of, course_of}
-use Rattle.fab_tree.specs.Meaning.{is_among, Ended}
-use Rattle.fab_tree.specs.Names as names
-use Rattle.fab_tree.specs.Names.{class_name, root_name, Fits}
-use Rattle.fab_tree.specs.Methods as rules
-use Rattle.fab_tree.specs.Methods.{locals_of, declared_in, method_name, AreGivenTo, IsKnownMethod, IsKnownRequest, IsKnownSession, KeepsRules}
-use Rattle.fab_tree.specs.Resolution.{number_of, oid_of, root_value, value_of, node_number}
-use Rattle.fab_tree.specs.Numbering.{Numbered, in_turn, numbered_local, method_of, methods_of, requests_from, session_of, resolved}
+use Rattle.fab_plain.specs.declared.start.Sort.{Sort}
+use Rattle.fab_plain.specs.declared.start.Sort.TheVariants as sorts
+use Rattle.fab_plain.specs.declared.start.Literal.{Literal}
+use Rattle.fab_plain.specs.declared.start.Literal.TheVariants as literals
+use Rattle.fab_plain.specs.declared.start.Given.{Given}
+use Rattle.fab_plain.specs.declared.start.Start.{Start}
+use Rattle.fab_plain.specs.declared.program.Parameter.{Parameter}
+use Rattle.fab_plain.specs.declared.program.RequestText.{RequestText}
+use Rattle.fab_plain.specs.declared.program.Session.{Session}
+use Rattle.fab_plain.specs.declared.resolved.Method.{Method as NumberedMethod}
+use Rattle.fab_plain.specs.declared.resolved.Request.{Request}
+use Rattle.fab_plain.specs.declared.resolved.Resolved.{Resolved}
+use Rattle.fab_plain.specs.Counts.{KeepsCounts}
+use Rattle.fab_plain.specs.Evaluation.{HasNoNull, IsEvaluated, map_at_start, requests_of, course_of}
+use Rattle.fab_plain.specs.Meaning.{is_among, Ended}
+use Rattle.fab_plain.specs.Names as names
+use Rattle.fab_plain.specs.Names.{class_name, root_name, Fits}
+use Rattle.fab_plain.specs.Methods as rules
+use Rattle.fab_plain.specs.Methods.{locals_of, declared_in, method_name, AreGivenTo, IsKnownMethod, IsKnownRequest, IsKnownSession, KeepsRules}
+use Rattle.fab_plain.specs.Resolution.{number_of, oid_of, root_value, value_of, node_number}
+use Rattle.fab_plain.specs.Numbering.{Numbered, in_turn, numbered_local, method_of, methods_of, requests_from, session_of, resolved}
 use Rattle.fab_names.proofs.Names.{distinct_from, its_number, or_left, or_right}
 use Rattle.fab_map.proofs.Order.{same_self}
 use Rattle.fab_eval.specs.Typed.{Kind, local_kind, size_of, IsOf}

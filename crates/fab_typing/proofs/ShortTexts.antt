@@ -8,30 +8,30 @@ use Rattle.fab_base.specs.declared.token.Piece.TheVariants as p
 use Rattle.fab_base.specs.declared.token.Mark.{Mark}
 use Rattle.fab_base.specs.Tokens.{Lexes, over, blank, token}
 use Rattle.fab_lexer.proofs.PieceLemmas.{piece_takes}
-use Rattle.fab_tree.specs.Lists.{Is, is, IsName, name, Repeated, no_more, one_more, Behind, behind, Separated, none, some}
-use Rattle.fab_tree.specs.Declarations as d
-use Rattle.fab_tree.specs.Declarations.{IsPlace, IsRole, IsNode, IsDelegation, IsAspect, IsPolicy, IsLabel, IsSort, IsField, IsClass, IsNumeral, IsNegated, IsLiteral, IsGiven}
-use Rattle.fab_tree.specs.Programs as g
-use Rattle.fab_tree.specs.Programs.{IsComparison, IsSign, IsExpression, IsSum, IsTerms, IsTerm, IsUnary, IsPrimary, IsStatement, IsOtherwise, IsBlock, IsStatements, IsParameter, IsFails, IsMethod}
-use Rattle.fab_tree.specs.Syntax.{IsStart, start}
-use Rattle.fab_tree.specs.declared.start.Name.{Name}
-use Rattle.fab_tree.specs.declared.start.Sort.{Sort}
-use Rattle.fab_tree.specs.declared.start.Start.{Start}
-use Rattle.fab_tree.specs.declared.program.Sign.{Sign}
-use Rattle.fab_tree.specs.declared.program.Comparison.{Comparison}
-use Rattle.fab_tree.specs.declared.program.Expression.{Expression}
-use Rattle.fab_tree.specs.declared.program.Statement.{Statement, roll-Statement, fold-roll-Statement, map-Statement}
-use Rattle.fab_tree.specs.declared.program.Statement.TheVariants as w
-use Rattle.fab_tree.specs.declared.program.Statement.TheOpen as o
-use Rattle.fab_tree.specs.declared.program.Parameter.{Parameter}
-use Rattle.fab_tree.specs.declared.program.Method.{Method}
-use Rattle.fab_tree.specs.declared.resolved.Method.{Method as NumberedMethod}
-use Rattle.fab_tree.specs.declared.resolved.Statement.{Statement as NumberedStatement, fold-roll-Statement as fold-roll-Numbered}
-use Rattle.fab_tree.specs.declared.resolved.Statement.TheVariants as nw
-use Rattle.fab_tree.specs.declared.resolved.Statement.TheOpen as no
-use Rattle.fab_tree.specs.Methods.{locals_of}
-use Rattle.fab_tree.specs.Numbering.{Numbered, in_turn, statement_of, statement_step, expression_of, method_of, methods_of}
-use Rattle.fab_tree.specs.Evaluation.{Spells}
+use Rattle.fab_plain.specs.Lists.{Is, is, IsName, name, Repeated, no_more, one_more, Behind, behind, Separated, none, some}
+use Rattle.fab_plain.specs.Declarations as d
+use Rattle.fab_plain.specs.Declarations.{IsPlace, IsRole, IsNode, IsDelegation, IsAspect, IsPolicy, IsLabel, IsSort, IsField, IsClass, IsNumeral, IsNegated, IsLiteral, IsGiven}
+use Rattle.fab_plain.specs.Programs as g
+use Rattle.fab_plain.specs.Programs.{IsComparison, IsSign, IsExpression, IsSum, IsTerms, IsTerm, IsUnary, IsPrimary, IsStatement, IsOtherwise, IsBlock, IsStatements, IsParameter, IsFails, IsMethod}
+use Rattle.fab_plain.specs.Syntax.{IsStart, start}
+use Rattle.fab_plain.specs.declared.start.Name.{Name}
+use Rattle.fab_plain.specs.declared.start.Sort.{Sort}
+use Rattle.fab_plain.specs.declared.start.Start.{Start}
+use Rattle.fab_plain.specs.declared.program.Sign.{Sign}
+use Rattle.fab_plain.specs.declared.program.Comparison.{Comparison}
+use Rattle.fab_plain.specs.declared.program.Expression.{Expression}
+use Rattle.fab_plain.specs.declared.program.Statement.{Statement, roll-Statement, fold-roll-Statement, map-Statement}
+use Rattle.fab_plain.specs.declared.program.Statement.TheVariants as w
+use Rattle.fab_plain.specs.declared.program.Statement.TheOpen as o
+use Rattle.fab_plain.specs.declared.program.Parameter.{Parameter}
+use Rattle.fab_plain.specs.declared.program.Method.{Method}
+use Rattle.fab_plain.specs.declared.resolved.Method.{Method as NumberedMethod}
+use Rattle.fab_plain.specs.declared.resolved.Statement.{Statement as NumberedStatement, fold-roll-Statement as fold-roll-Numbered}
+use Rattle.fab_plain.specs.declared.resolved.Statement.TheVariants as nw
+use Rattle.fab_plain.specs.declared.resolved.Statement.TheOpen as no
+use Rattle.fab_plain.specs.Methods.{locals_of}
+use Rattle.fab_plain.specs.Numbering.{Numbered, in_turn, statement_of, statement_step, expression_of, method_of, methods_of}
+use Rattle.fab_plain.specs.Evaluation.{Spells}
 use Rattle.fab_eval.specs.Typed.{size, size_of, size_step}
 use Rattle.fab_typing.specs.Short.{AreShort}
 

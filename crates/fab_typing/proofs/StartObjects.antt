@@ -9,19 +9,19 @@ use Rattle.fab_base.specs.declared.object.Object.{Object}
 use Rattle.fab_base.specs.declared.object.Value.{Value}
 use Rattle.fab_base.specs.declared.object.Value.TheVariants.{Int}
 use Rattle.fab_base.specs.FlatMap.{FlatMap, is_same, get}
-use Rattle.fab_tree.specs.declared.start.Sort.TheVariants as sorts
-use Rattle.fab_tree.specs.declared.start.Field.{Field}
-use Rattle.fab_tree.specs.declared.start.Class.{Class}
-use Rattle.fab_tree.specs.declared.start.Literal.{Literal}
-use Rattle.fab_tree.specs.declared.start.Literal.TheVariants as literals
-use Rattle.fab_tree.specs.declared.start.Given.{Given}
-use Rattle.fab_tree.specs.declared.start.Root.{Root}
-use Rattle.fab_tree.specs.declared.start.Start.{Start}
-use Rattle.fab_tree.specs.Names as rules
-use Rattle.fab_tree.specs.Names.{class_name, root_name, Fits, FitAll, IsKnownRoot, KeepsNames}
-use Rattle.fab_tree.specs.Resolution.{number_of, oid_of, value_of, roots_from}
-use Rattle.fab_tree.specs.Numbering.{resolved}
-use Rattle.fab_tree.specs.Evaluation.{rows_of, map_at_start}
+use Rattle.fab_plain.specs.declared.start.Sort.TheVariants as sorts
+use Rattle.fab_plain.specs.declared.start.Field.{Field}
+use Rattle.fab_plain.specs.declared.start.Class.{Class}
+use Rattle.fab_plain.specs.declared.start.Literal.{Literal}
+use Rattle.fab_plain.specs.declared.start.Literal.TheVariants as literals
+use Rattle.fab_plain.specs.declared.start.Given.{Given}
+use Rattle.fab_plain.specs.declared.start.Root.{Root}
+use Rattle.fab_plain.specs.declared.start.Start.{Start}
+use Rattle.fab_plain.specs.Names as rules
+use Rattle.fab_plain.specs.Names.{class_name, root_name, Fits, FitAll, IsKnownRoot, KeepsNames}
+use Rattle.fab_plain.specs.Resolution.{number_of, oid_of, value_of, roots_from}
+use Rattle.fab_plain.specs.Numbering.{resolved}
+use Rattle.fab_plain.specs.Evaluation.{rows_of, map_at_start}
 use Rattle.fab_names.proofs.Names.{distinct_from, its_number}
 use Rattle.fab_map.proofs.Order.{same_self, apart_names}
 use Rattle.fab_map.proofs.Rows.{get_here, get_past}

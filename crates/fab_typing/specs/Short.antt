@@ -1,7 +1,7 @@
 -- Bodies that are short.
 use Rattle.std.specs.Prelude.{◌≤◌, All}
-use Rattle.fab_tree.specs.declared.start.Start.{Start}
-use Rattle.fab_tree.specs.Numbering.{methods_of}
+use Rattle.fab_plain.specs.declared.start.Start.{Start}
+use Rattle.fab_plain.specs.Numbering.{methods_of}
 use Rattle.fab_eval.specs.Typed.{size_of}
 
 -- no body has more statements than a request has fuel

@@ -1,15 +1,15 @@
 //! Laws of bundles that keep the rules of names and types.
 ghost use Rattle.std.specs.Prelude.{◌≡◌, ℕ, All, List, None, length, map, replicate};
-ghost use Rattle.fab_tree.specs.Counts.{KeepsCounts};
-ghost use Rattle.fab_tree.specs.Evaluation.{IsEvaluated, Spells, course_of, map_at_start, requests_of};
-ghost use Rattle.fab_tree.specs.Meaning.{Ended};
-ghost use Rattle.fab_tree.specs.Methods.{IsKnownMethod, KeepsRules};
-ghost use Rattle.fab_tree.specs.Names.{KeepsNames};
-ghost use Rattle.fab_tree.specs.Numbering.{method_of, resolved};
-ghost use Rattle.fab_tree.specs.Resolution.{class_of};
-ghost use Rattle.fab_tree.specs.declared.program.Method.{Method};
-ghost use Rattle.fab_tree.specs.declared.start.Sort.TheVariants as sorts;
-ghost use Rattle.fab_tree.specs.declared.start.Start.{Start};
+ghost use Rattle.fab_plain.specs.Counts.{KeepsCounts};
+ghost use Rattle.fab_plain.specs.Evaluation.{IsEvaluated, Spells, course_of, map_at_start, requests_of};
+ghost use Rattle.fab_plain.specs.Meaning.{Ended};
+ghost use Rattle.fab_plain.specs.Methods.{IsKnownMethod, KeepsRules};
+ghost use Rattle.fab_plain.specs.Names.{KeepsNames};
+ghost use Rattle.fab_plain.specs.Numbering.{method_of, resolved};
+ghost use Rattle.fab_plain.specs.Resolution.{class_of};
+ghost use Rattle.fab_plain.specs.declared.program.Method.{Method};
+ghost use Rattle.fab_plain.specs.declared.start.Sort.TheVariants as sorts;
+ghost use Rattle.fab_plain.specs.declared.start.Start.{Start};
 ghost use Rattle.fab_eval.specs.Typed.{IsTypedMethod};
 ghost use Rattle.fab_requests.specs.TypedRequests.{AreTypedRequests};
 ghost use Rattle.fab_typing.specs.Short.{AreShort};

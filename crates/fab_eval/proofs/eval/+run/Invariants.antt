@@ -1,5 +1,5 @@
 use Rattle.std.proofs.Common.{◌≡◌, ◌≤◌, drop}
-use Rattle.fab_tree.specs.Meaning.{block}
+use Rattle.fab_plain.specs.Meaning.{block}
 use Rattle.fab_eval.specs.Gives.{shown}
 use Rattle.fab_eval.proofs.eval.+run.Given as goal
 

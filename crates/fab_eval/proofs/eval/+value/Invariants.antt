@@ -1,7 +1,7 @@
 use Rattle.std.proofs.Common.{◌≡◌, drop, map}
-use Rattle.fab_tree.specs.declared.resolved.Expression.{Expression}
-use Rattle.fab_tree.specs.declared.program.Sign.{Sign}
-use Rattle.fab_tree.specs.Meaning.{summed, value}
+use Rattle.fab_plain.specs.declared.resolved.Expression.{Expression}
+use Rattle.fab_plain.specs.declared.program.Sign.{Sign}
+use Rattle.fab_plain.specs.Meaning.{summed, value}
 use Rattle.fab_eval.specs.Gives.{shown}
 use Rattle.fab_eval.proofs.eval.+value.Given as goal
 

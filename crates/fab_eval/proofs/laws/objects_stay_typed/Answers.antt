@@ -1,4 +1,4 @@
-use Rattle.fab_tree.specs.Meaning.{meaning}
+use Rattle.fab_plain.specs.Meaning.{meaning}
 use Rattle.fab_eval.proofs.Progress.{request_stays, given_after}
 use Rattle.fab_eval.proofs.laws.objects_stay_typed.Goals as goal
 

@@ -1,6 +1,6 @@
 use Rattle.std.proofs.Common.{ap, sym, subst, ◌∙◌}
 use Rattle.fab_base.specs.FlatMap.{map_of}
-use Rattle.fab_tree.specs.Evaluation.{rows_of}
+use Rattle.fab_plain.specs.Evaluation.{rows_of}
 use Rattle.fab_requests.specs.Answered.{AreOld}
 use Rattle.fab_evaluation.proofs.RootObjects.{distinct, old_at_start}
 use Rattle.fab_evaluation.proofs.objects.at_start.Goals as goal

@@ -1,5 +1,5 @@
 use Rattle.std.proofs.Common.{◌≡◌, ◌++◌, length, map}
-use Rattle.fab_tree.specs.Evaluation.{outcomes_text}
+use Rattle.fab_plain.specs.Evaluation.{outcomes_text}
 use Rattle.fab_requests.specs.Turns.{ending_of}
 use Rattle.fab_evaluation.proofs.outcomes.put_outcomes.Given as goal
 

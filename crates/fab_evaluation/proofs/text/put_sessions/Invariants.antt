@@ -1,7 +1,7 @@
 use Rattle.std.proofs.Common.{◌≡◌, ◌++◌, length}
 use Rattle.std.specs.List.{flat_map}
-use Rattle.fab_tree.specs.Requests.{in_turn}
-use Rattle.fab_tree.specs.Evaluation.{outcomes_text, requests_of}
+use Rattle.fab_plain.specs.Requests.{in_turn}
+use Rattle.fab_plain.specs.Evaluation.{outcomes_text, requests_of}
 use Rattle.fab_requests.specs.Answered.{AreOld}
 use Rattle.fab_evaluation.proofs.text.put_sessions.Given as goal
 

@@ -1,5 +1,5 @@
 use Rattle.std.proofs.Common.{◌≡◌, ◌++◌, length}
-use Rattle.fab_tree.specs.Evaluation.{hex}
+use Rattle.fab_plain.specs.Evaluation.{hex}
 use Rattle.fab_forms.proofs.names.put_hex.Given as goal
 
 abbrev pub invariant-digits : goal.invariant-digits

@@ -1,5 +1,5 @@
 use Rattle.std.proofs.Common.{◌≡◌, ◌++◌, length}
-use Rattle.fab_tree.specs.Evaluation.{objects_text}
+use Rattle.fab_plain.specs.Evaluation.{objects_text}
 use Rattle.fab_forms.proofs.objects.put_objects.Given as goal
 
 abbrev pub invariant-rows : goal.invariant-rows

@@ -1,5 +1,5 @@
 use Rattle.std.proofs.Common.{◌≡◌, ◌++◌, map, length}
-use Rattle.fab_tree.specs.Evaluation.{value_text, spaced}
+use Rattle.fab_plain.specs.Evaluation.{value_text, spaced}
 use Rattle.fab_forms.proofs.objects.put_values.Given as goal
 
 abbrev pub invariant-values : goal.invariant-values

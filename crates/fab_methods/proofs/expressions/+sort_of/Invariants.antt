@@ -1,8 +1,8 @@
 use Rattle.std.proofs.Common.{◌≡◌, drop, map, Option}
-use Rattle.fab_tree.specs.declared.start.Sort.{Sort}
+use Rattle.fab_plain.specs.declared.start.Sort.{Sort}
 use Rattle.std.specs.List.{list_all}
-use Rattle.fab_tree.specs.declared.program.Expression.{Expression}
-use Rattle.fab_tree.specs.declared.program.Sign.{Sign}
+use Rattle.fab_plain.specs.declared.program.Expression.{Expression}
+use Rattle.fab_plain.specs.declared.program.Sign.{Sign}
 use Rattle.fab_methods.specs.Known.{is_int, sort_over}
 use Rattle.fab_methods.proofs.expressions.+sort_of.Given as goal
 

@@ -1,5 +1,5 @@
 use Rattle.std.proofs.Common.{◌≡◌, ◌≤◌, length, take}
-use Rattle.fab_tree.specs.Methods.{sort_in}
+use Rattle.fab_plain.specs.Methods.{sort_in}
 use Rattle.fab_methods.specs.Stack.{shown}
 use Rattle.fab_methods.proofs.known.last_named.Given as goal
 

@@ -1,6 +1,6 @@
 use Rattle.std.proofs.Common.{◌≡◌, ◌++◌, drop}
 use Rattle.std.specs.List.{flat_map}
-use Rattle.fab_tree.specs.Methods.{declared_in}
+use Rattle.fab_plain.specs.Methods.{declared_in}
 use Rattle.fab_methods.proofs.locals.+gather.Given as goal
 
 abbrev pub invariant-gather_block-loop-statement : goal.invariant-gather_block-loop-statement

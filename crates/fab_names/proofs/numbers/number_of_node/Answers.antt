@@ -1,10 +1,10 @@
 use Rattle.std.proofs.Common.{◌≡◌, ℕ, ◌≤◌, List, sym, ap, ◌∙◌, arith, filter, count_by}
 use Rattle.std.specs.Option.{unwrap_or}
 use Rattle.std.proofs.lemmas.List.Sums.{length-filter}
-use Rattle.fab_tree.specs.declared.start.Node.{Node}
-use Rattle.fab_tree.specs.Limits.{is_node}
-use Rattle.fab_tree.specs.Names.{node_name}
-use Rattle.fab_tree.specs.Resolution.{number_of}
+use Rattle.fab_plain.specs.declared.start.Node.{Node}
+use Rattle.fab_plain.specs.Limits.{is_node}
+use Rattle.fab_plain.specs.Names.{node_name}
+use Rattle.fab_plain.specs.Resolution.{number_of}
 use Rattle.fab_names.proofs.Names.{place_among, number_within}
 use Rattle.fab_names.proofs.numbers.number_of_node.Goals as goal
 

@@ -1,6 +1,6 @@
 use Rattle.std.proofs.Common.{◌≡◌, ◌+◌, ◌++◌, drop, count_by}
-use Rattle.fab_tree.specs.Limits.{is_node}
-use Rattle.fab_tree.specs.Resolution.{principals_from}
+use Rattle.fab_plain.specs.Limits.{is_node}
+use Rattle.fab_plain.specs.Resolution.{principals_from}
 use Rattle.fab_names.proofs.resolution.principals.Given as goal
 
 abbrev pub invariant-loop-node : goal.invariant-loop-node

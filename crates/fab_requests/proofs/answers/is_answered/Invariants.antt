@@ -1,5 +1,5 @@
 use Rattle.std.proofs.Common.{◌≡◌, drop}
-use Rattle.fab_tree.specs.Meaning.{is_among}
+use Rattle.fab_plain.specs.Meaning.{is_among}
 use Rattle.fab_eval.specs.Outcomes.{names_of}
 use Rattle.fab_requests.proofs.answers.is_answered.Given as goal
 

@@ -1,6 +1,6 @@
 use Rattle.std.proofs.Common.{◌≡◌, [], ◌∷◌, ◌++◌, sym, ap, ◌∙◌, map, subst, take, ◌+◌}
 use Rattle.std.proofs.lemmas.List.{take_more}
-use Rattle.fab_tree.specs.Requests.{in_turn}
+use Rattle.fab_plain.specs.Requests.{in_turn}
 use Rattle.fab_requests.specs.Answered.{AreOld}
 use Rattle.fab_requests.specs.Turns.{ending_of}
 use Rattle.fab_requests.proofs.Meeting.{course_more, stays_old}

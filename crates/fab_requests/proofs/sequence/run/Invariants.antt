@@ -1,5 +1,5 @@
 use Rattle.std.proofs.Common.{◌≡◌, map, take}
-use Rattle.fab_tree.specs.Requests.{in_turn}
+use Rattle.fab_plain.specs.Requests.{in_turn}
 use Rattle.fab_requests.specs.Answered.{AreOld}
 use Rattle.fab_requests.specs.Turns.{ending_of}
 use Rattle.fab_requests.proofs.sequence.run.Given as goal

@@ -1,6 +1,6 @@
 use Rattle.std.proofs.Common.{refl, sym, ap, ◌∙◌, subst, length}
 use Rattle.std.proofs.lemmas.List.{length_push}
-use Rattle.fab_tree.specs.Meaning.{Missing}
+use Rattle.fab_plain.specs.Meaning.{Missing}
 use Rattle.fab_requests.specs.Answered.{AreAnswers}
 use Rattle.fab_requests.proofs.Answering.{one_more}
 use Rattle.fab_requests.proofs.Meeting.{needed, missed, behind_same}

@@ -1,5 +1,5 @@
 use Rattle.std.proofs.Common.{refl, sym, ap, ◌∙◌}
-use Rattle.fab_tree.specs.Meaning as m
+use Rattle.fab_plain.specs.Meaning as m
 use Rattle.fab_eval.specs.Outcomes.{outcome_of}
 use Rattle.fab_requests.proofs.Answering.{distinct_answers, made_before}
 use Rattle.fab_requests.proofs.Meeting.{failed, stopped, ended, map_put, behind_same}

@@ -1,7 +1,7 @@
 use Rattle.std.proofs.Common.{ℕ, List, ◌++◌, ap, ◌∙◌, map, sym}
-use Rattle.fab_tree.specs.declared.program.Sign.{Sign}
-use Rattle.fab_tree.specs.declared.resolved.Expression.{Expression as NumberedExpression}
-use Rattle.fab_tree.specs.Numbering.{expression_of, in_turn, terms_in_turn}
+use Rattle.fab_plain.specs.declared.program.Sign.{Sign}
+use Rattle.fab_plain.specs.declared.resolved.Expression.{Expression as NumberedExpression}
+use Rattle.fab_plain.specs.Numbering.{expression_of, in_turn, terms_in_turn}
 use Rattle.fab_resolution.proofs.InTurn.{refused, ends_within, goes_on}
 use Rattle.fab_resolution.proofs.Parts.{signed, signed_in_turn, signed_grow, first_within, terms_within, sum_of, left_within}
 use Rattle.fab_resolution.proofs.SiteCounts.{numbered_term}

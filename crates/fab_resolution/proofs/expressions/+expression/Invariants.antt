@@ -1,5 +1,5 @@
 use Rattle.std.proofs.Common.{◌≡◌, ◌++◌, drop, map}
-use Rattle.fab_tree.specs.Numbering.{in_turn, terms_in_turn}
+use Rattle.fab_plain.specs.Numbering.{in_turn, terms_in_turn}
 use Rattle.fab_resolution.proofs.Parts.{signed}
 use Rattle.fab_resolution.proofs.SiteCounts.{numbered_term}
 use Rattle.fab_resolution.proofs.expressions.+expression.Given as goal

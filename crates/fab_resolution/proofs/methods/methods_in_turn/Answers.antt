@@ -1,5 +1,5 @@
 use Rattle.std.proofs.Common.{map}
-use Rattle.fab_tree.specs.Numbering.{method_of, in_turn}
+use Rattle.fab_plain.specs.Numbering.{method_of, in_turn}
 use Rattle.fab_resolution.proofs.InTurn.{refused, ends_within, goes_on}
 use Rattle.fab_resolution.proofs.SiteCounts.{methods_grow}
 use Rattle.fab_resolution.proofs.methods.methods_in_turn.Goals as goal

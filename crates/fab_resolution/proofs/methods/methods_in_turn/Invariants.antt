@@ -1,5 +1,5 @@
 use Rattle.std.proofs.Common.{◌≡◌, ◌++◌, drop, map}
-use Rattle.fab_tree.specs.Numbering.{method_of, in_turn}
+use Rattle.fab_plain.specs.Numbering.{method_of, in_turn}
 use Rattle.fab_resolution.proofs.methods.methods_in_turn.Given as goal
 
 abbrev pub invariant-loop-method : goal.invariant-loop-method

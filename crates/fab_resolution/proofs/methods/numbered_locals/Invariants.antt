@@ -1,5 +1,5 @@
 use Rattle.std.proofs.Common.{◌≡◌, map, take}
-use Rattle.fab_tree.specs.Numbering.{numbered_local}
+use Rattle.fab_plain.specs.Numbering.{numbered_local}
 use Rattle.fab_resolution.proofs.methods.numbered_locals.Given as goal
 
 abbrev pub invariant-loop-local : goal.invariant-loop-local

@@ -1,4 +1,4 @@
-use Rattle.fab_tree.specs.Methods.{IsKnownMethod}
+use Rattle.fab_plain.specs.Methods.{IsKnownMethod}
 use Rattle.fab_resolution.proofs.Tests.{one_passed}
 use Rattle.fab_resolution.proofs.rules.are_known_methods.Goals as goal
 

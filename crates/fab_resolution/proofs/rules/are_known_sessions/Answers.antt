@@ -1,4 +1,4 @@
-use Rattle.fab_tree.specs.Methods.{IsKnownSession}
+use Rattle.fab_plain.specs.Methods.{IsKnownSession}
 use Rattle.fab_resolution.proofs.Tests.{one_passed, not_all}
 use Rattle.fab_resolution.proofs.rules.are_known_sessions.Goals as goal
 

@@ -1,7 +1,7 @@
 use Rattle.std.specs.Prelude.{All, IsTrue, ◌↔◌}
 use Rattle.std.proofs.lemmas.Result.{IfOk-weaker}
-use Rattle.fab_tree.specs.Names.{Distinct}
-use Rattle.fab_tree.specs.Methods.{method_name, IsKnownMethod}
+use Rattle.fab_plain.specs.Names.{Distinct}
+use Rattle.fab_plain.specs.Methods.{method_name, IsKnownMethod}
 use Rattle.fab_resolution.proofs.AllRules.{once}
 use Rattle.fab_resolution.proofs.Tests.{first_fails, first_passes}
 use Rattle.fab_resolution.proofs.rules.keep_methods.Goals as goal

@@ -1,4 +1,4 @@
-use Rattle.fab_tree.specs.Methods.{session_name}
+use Rattle.fab_plain.specs.Methods.{session_name}
 use Rattle.fab_resolution.proofs.AllRules.{once}
 use Rattle.fab_resolution.proofs.Tests.{first_passes}
 use Rattle.fab_resolution.proofs.rules.keep_sessions.Goals as goal

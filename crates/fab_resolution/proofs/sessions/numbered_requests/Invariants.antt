@@ -1,5 +1,5 @@
 use Rattle.std.proofs.Common.{◌≡◌, suc, ◌++◌, drop}
-use Rattle.fab_tree.specs.Numbering.{requests_from}
+use Rattle.fab_plain.specs.Numbering.{requests_from}
 use Rattle.fab_resolution.proofs.sessions.numbered_requests.Given as goal
 
 abbrev pub invariant-loop-index : goal.invariant-loop-index

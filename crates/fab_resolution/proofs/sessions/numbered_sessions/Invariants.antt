@@ -1,5 +1,5 @@
 use Rattle.std.proofs.Common.{◌≡◌, map, take}
-use Rattle.fab_tree.specs.Numbering.{session_of}
+use Rattle.fab_plain.specs.Numbering.{session_of}
 use Rattle.fab_resolution.proofs.sessions.numbered_sessions.Given as goal
 
 abbrev pub invariant-loop-session : goal.invariant-loop-session

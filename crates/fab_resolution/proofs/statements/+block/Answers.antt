@@ -1,5 +1,5 @@
 use Rattle.std.proofs.Common.{map}
-use Rattle.fab_tree.specs.Numbering.{expression_of, statement_of, in_turn}
+use Rattle.fab_plain.specs.Numbering.{expression_of, statement_of, in_turn}
 use Rattle.fab_resolution.proofs.InTurn.{refused, ends_within, goes_on}
 use Rattle.fab_resolution.proofs.Parts.{block_within, condition_within}
 use Rattle.fab_resolution.proofs.SiteCounts.{block_grows}

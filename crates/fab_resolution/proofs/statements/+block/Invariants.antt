@@ -1,5 +1,5 @@
 use Rattle.std.proofs.Common.{◌≡◌, ◌++◌, drop, map}
-use Rattle.fab_tree.specs.Numbering.{statement_of, in_turn}
+use Rattle.fab_plain.specs.Numbering.{statement_of, in_turn}
 use Rattle.fab_resolution.proofs.statements.+block.Given as goal
 
 abbrev pub invariant-numbered_block-loop-statement : goal.invariant-numbered_block-loop-statement

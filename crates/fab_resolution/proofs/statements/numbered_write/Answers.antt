@@ -1,8 +1,8 @@
 use Rattle.std.proofs.Common.{suc}
-use Rattle.fab_tree.specs.declared.resolved.Statement.TheVariants.{Write}
-use Rattle.fab_tree.specs.Methods.{local_name}
-use Rattle.fab_tree.specs.Numbering.{expression_of, field_number}
-use Rattle.fab_tree.specs.Resolution.{use_of}
+use Rattle.fab_plain.specs.declared.resolved.Statement.TheVariants.{Write}
+use Rattle.fab_plain.specs.Methods.{local_name}
+use Rattle.fab_plain.specs.Numbering.{expression_of, field_number}
+use Rattle.fab_plain.specs.Resolution.{use_of}
 use Rattle.fab_resolution.proofs.InTurn.{refused}
 use Rattle.fab_resolution.proofs.SiteCounts.{expression_grows}
 use Rattle.fab_resolution.proofs.statements.numbered_write.Goals as goal

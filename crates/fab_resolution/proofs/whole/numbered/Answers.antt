@@ -1,7 +1,7 @@
 use Rattle.std.proofs.Common.{ℕ, zero, suc, ◌≤◌, List, [], ◌∷◌, length, sym, ap, ◌∙◌, subst, arith}
 use Rattle.std.specs.Prelude.{All}
-use Rattle.fab_tree.specs.declared.program.Session.{Session}
-use Rattle.fab_tree.specs.Counts.{requests_in}
+use Rattle.fab_plain.specs.declared.program.Session.{Session}
+use Rattle.fab_plain.specs.Counts.{requests_in}
 use Rattle.fab_resolution.proofs.whole.numbered.Goals as goal
 
 -- where all requests are so many at most, so are those of each session

@@ -1,7 +1,7 @@
 use Rattle.std.proofs.Common.{◌≡◌, ℕ, List, [], Option, Some, MatchOption, subst, false, IsTrue}
 use Rattle.std.proofs.KnownBytes.{Keeps-refl}
 use Rattle.fab_top.specs.Reply.{AskEvaluation, usage, evaluated, not_built, SpellsNone, SpellsResolved}
-use Rattle.fab_tree.specs.declared.resolved.Resolved.{Resolved}
+use Rattle.fab_plain.specs.declared.resolved.Resolved.{Resolved}
 use Rattle.fab_top.proofs.command.reply.Goals as goal
 
 not_so : {b : _} → b ≡ false → IsTrue b → ⊥

@@ -1,6 +1,6 @@
 use Rattle.std.proofs.Common.{ap, ◌∙◌, ◌++◌, ◌∷◌, [], List}
 use Rattle.fab_base.specs.declared.object.Oid.{Oid}
-use Rattle.fab_tree.specs.Meaning.{is_among}
+use Rattle.fab_plain.specs.Meaning.{is_among}
 use Rattle.fab_eval.proofs.Noting.{found_fits, found_noted, noted_in, kept, grown}
 use Rattle.fab_eval.proofs.touches.Touches.reach.Goals as goal
 

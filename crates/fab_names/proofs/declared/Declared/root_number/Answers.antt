@@ -1,6 +1,6 @@
 use Rattle.std.proofs.Common.{arith, ap, ◌∙◌, length}
 use Rattle.std.specs.Option.{unwrap_or}
-use Rattle.fab_tree.specs.Names.{root_name}
+use Rattle.fab_plain.specs.Names.{root_name}
 use Rattle.fab_names.proofs.Names.{number_within}
 use Rattle.fab_names.proofs.RootTable.{place}
 use Rattle.fab_names.proofs.declared.Declared.root_number.Goals as goal

@@ -1,5 +1,5 @@
 use Rattle.std.proofs.Common.{◌≡◌, ◌++◌, drop}
-use Rattle.fab_tree.specs.Resolution.{roots_from}
+use Rattle.fab_plain.specs.Resolution.{roots_from}
 use Rattle.fab_names.proofs.declared.Declared.roots.Given as goal
 
 abbrev pub invariant-loop-number : goal.invariant-loop-number

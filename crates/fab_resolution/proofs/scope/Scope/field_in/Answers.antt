@@ -1,8 +1,8 @@
 use Rattle.std.proofs.Common.{◌≡◌, ◌≤◌, suc, Bool, true, false, cond, List, [], ◌∷◌, length, Some, arith, sym, ap, subst}
 use Rattle.std.specs.Prelude.{All, find}
 use Rattle.std.specs.Str.{bytes_eq}
-use Rattle.fab_tree.specs.declared.start.Class.{Class}
-use Rattle.fab_tree.specs.Names.{class_name}
+use Rattle.fab_plain.specs.declared.start.Class.{Class}
+use Rattle.fab_plain.specs.Names.{class_name}
 use Rattle.fab_resolution.proofs.scope.Scope.field_in.Goals as goal
 
 -- what is found is one of the list
