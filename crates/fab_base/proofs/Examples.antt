@@ -1,7 +1,7 @@
 -- Worked examples of the definitions.
 use Rattle.std.proofs.Common.{◌≡◌, [], ◌∷◌, Some, None, refl, codes, pos, negsuc}
 use Rattle.fab_base.specs.Arith.{java_quotient}
-use Rattle.fab_base.specs.Tokens.{word_kind, piece_at, sign_at, Lexes, over, blank, token}
+use Rattle.fab_base.specs.Tokens.{word_kind, front_at, sign_at, Front, stands, unfit, Lexes, over, blank, token}
 use Rattle.fab_base.specs.declared.token.Mark.TheVariants as m
 use Rattle.fab_base.specs.declared.token.Kind.TheVariants as k
 use Rattle.fab_base.specs.declared.token.Piece.TheVariants as p
@@ -55,20 +55,38 @@ longest_sign = refl
 less_and_blank : sign_at (codes "< -1") ≡ Some m.Less
 less_and_blank = refl
 
-slash_alone : piece_at (codes "/ 2") ≡ Some (p.Spelled (k.Fixed m.Slash) 1)
+slash_alone : front_at (codes "/ 2") ≡ stands (p.Spelled (k.Fixed m.Slash) 1)
 slash_alone = refl
 
-comment_to_the_line's_end : piece_at (codes "// x\nrun") ≡ Some (p.Blank 4)
+comment_to_the_line's_end : front_at (codes "// x\nrun") ≡ stands (p.Blank 4)
 comment_to_the_line's_end = refl
 
-comment_to_the_end : piece_at (codes "//") ≡ Some (p.Blank 2)
+comment_to_the_end : front_at (codes "//") ≡ stands (p.Blank 2)
 comment_to_the_end = refl
 
-dollar_is_none : piece_at (codes "$") ≡ None
+dollar_is_none : front_at (codes "$") ≡ unfit 0
 dollar_is_none = refl
 
-longest_word : piece_at (codes "w1;") ≡ Some (p.Spelled (k.Name (codes "w1")) 2)
+longest_word : front_at (codes "w1;") ≡ stands (p.Spelled (k.Name (codes "w1")) 2)
 longest_word = refl
+
+capital_digit : front_at (codes "\"00fF") ≡ unfit 4
+capital_digit = refl
+
+bytes_in_marks : front_at (codes "\"00ff\";") ≡ stands (p.Spelled (k.Bytes (0 ∷ 255 ∷ [])) 6)
+bytes_in_marks = refl
+
+no_bytes : front_at (codes "\"\"") ≡ stands (p.Spelled (k.Bytes []) 2)
+no_bytes = refl
+
+odd_digits : front_at (codes "\"0\"") ≡ unfit 2
+odd_digits = refl
+
+wrong_digit : front_at (codes "\"0g\"") ≡ unfit 2
+wrong_digit = refl
+
+never_closed : front_at (codes "\"0") ≡ unfit 2
+never_closed = refl
 
 -- ---- texts
 

@@ -1,5 +1,5 @@
 -- The tokens of a text.
-use Rattle.std.specs.Prelude.{◌≡◌, ℕ, ◌+◌, ◌-◌, ◌*◌, Bool, false, ◌&&◌, ◌||◌, not, ◌==◌, nat_le, nat_lt, nat_eq, slice_index, List, [], ◌∷◌, length, drop, Option, Some, None, if◌then◌else◌, codes}
+use Rattle.std.specs.Prelude.{◌≡◌, ℕ, ◌+◌, ◌-◌, ◌*◌, ◌%◌, Bool, false, ◌&&◌, ◌||◌, not, ◌==◌, nat_le, nat_lt, nat_eq, slice_index, List, [], ◌∷◌, length, drop, Option, Some, None, if◌then◌else◌, codes}
 use Rattle.std.specs.List.{starts_with, list_all}
 use Rattle.std.specs.Str.{bytes_eq}
 use Rattle.std.specs.Char.{is_ascii_alphanumeric, is_ascii_digit}
@@ -144,17 +144,55 @@ sign_piece None = None
 abbrev pub word_at : List ℕ → List ℕ
 word_at bytes = take_while is_word_byte bytes
 
--- What stands at the front: a space, a comment from `//` to before the next line feed, a word, or a sign. A run of word bytes is one word or none.
-abbrev pub piece_at : List ℕ → Option Piece
-piece_at [] = None
-piece_at (b ∷ bs) =
-    if is_space b then Some (p.Blank 1) else
-    (if starts_with nat_eq (b ∷ bs) (codes "//") then Some (p.Blank (line_len (b ∷ bs))) else
-    (if is_word_byte b then spelled (word_kind (word_at (b ∷ bs))) (length (word_at (b ∷ bs))) else
-    sign_piece (sign_at (b ∷ bs))))
+-- the digits of bytes: 0 to 9 and a to f
+abbrev pub is_hex_digit : ℕ → Bool
+is_hex_digit b = is_ascii_digit b || (nat_le 97 b && nat_le b 102)
+
+abbrev pub hex_value : ℕ → ℕ
+hex_value b = if is_ascii_digit b then b - 48 else b - 87
+
+-- the longest run of such digits at the front
+abbrev pub digits_at : List ℕ → List ℕ
+digits_at bytes = take_while is_hex_digit bytes
+
+-- the bytes that digits stand for, two for each
+abbrev pub bytes_of : List ℕ → List ℕ
+bytes_of [] = []
+bytes_of (a ∷ []) = []
+bytes_of (a ∷ b ∷ rest) = (16 * hex_value a + hex_value b) ∷ bytes_of rest
+
+-- What stands at the front of a text: a piece, or none, and then so many bytes fit before the first that doesn't.
+pub data Front : Type 0 where
+  stands : Piece → Front
+  unfit : ℕ → Front
+
+abbrev pub front_of : Option Piece → Front
+front_of (Some x) = stands x
+front_of None = unfit 0
+
+-- What stands behind a quotation mark: an even number of digits and another mark. The first byte that doesn't fit is the one behind the digits.
+abbrev pub quoted_at : List ℕ → Front
+quoted_at bytes =
+    let digits = digits_at bytes in
+    if length digits % 2 == 0 && starts_with nat_eq (drop (length digits) bytes) (34 ∷ [])
+    then stands (p.Spelled (k.Bytes (bytes_of digits)) (length digits + 2))
+    else unfit (length digits + 1)
+
+-- What stands at the front: a space, a comment from `//` to before the next line feed, bytes in quotation marks, a word, or a sign. A run of word bytes is one word or none.
+abbrev pub front_at : List ℕ → Front
+front_at [] = unfit 0
+front_at (b ∷ bs) =
+    if is_space b then stands (p.Blank 1) else
+    (if starts_with nat_eq (b ∷ bs) (codes "//") then stands (p.Blank (line_len (b ∷ bs))) else
+    (if b == 34 then quoted_at bs else
+    (if is_word_byte b then front_of (spelled (word_kind (word_at (b ∷ bs))) (length (word_at (b ∷ bs)))) else
+    front_of (sign_piece (sign_at (b ∷ bs))))))
 
 -- Lexes at bytes tokens: the bytes, of which the first is at this place, are cut into these tokens and what is no token.
 pub data Lexes : ℕ → List ℕ → List Token → Type 0 where
   over : {at : ℕ} → Lexes at [] []
-  blank : {at len : ℕ} {bytes : List ℕ} {tokens : List Token} → piece_at bytes ≡ Some (p.Blank len) → Lexes (at + len) (drop len bytes) tokens → Lexes at bytes tokens
-  token : {at len : ℕ} {bytes : List ℕ} {kind : Kind} {tokens : List Token} → piece_at bytes ≡ Some (p.Spelled kind len) → Lexes (at + len) (drop len bytes) tokens → Lexes at bytes (record { kind = kind; at = at; end = at + len } ∷ tokens)
+  blank : {at len : ℕ} {bytes : List ℕ} {tokens : List Token}
+      → front_at bytes ≡ stands (p.Blank len) → Lexes (at + len) (drop len bytes) tokens → Lexes at bytes tokens
+  token : {at len : ℕ} {bytes : List ℕ} {kind : Kind} {tokens : List Token}
+      → front_at bytes ≡ stands (p.Spelled kind len) → Lexes (at + len) (drop len bytes) tokens
+      → Lexes at bytes (record { kind = kind; at = at; end = at + len } ∷ tokens)

@@ -6,6 +6,7 @@ mod arith;
 mod boxed;
 mod entry;
 mod label;
+mod limit;
 mod message;
 mod object;
 mod outside;
@@ -17,6 +18,7 @@ pub use arith::{java_add, java_div, java_mul, java_sub};
 pub use boxed::Boxed;
 pub use entry::Entry;
 pub use label::{Label, Policy};
+pub use limit::What;
 pub use message::{Answer, Items, Message, Why};
 pub use object::{Object, Oid, Stop, Tid, Value};
 pub use outside::{

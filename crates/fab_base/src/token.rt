@@ -1,5 +1,6 @@
 //! Tokens of a source text.
 
+use crate::seq::Seq;
 use crate::text::Text;
 
 /// A sign or a keyword.
@@ -71,12 +72,14 @@ pub enum Mark {
     Worker,
 }
 
-/// What a token is. `Least` is the number 2147483648, which stands only behind a minus sign.
+/// What a token is. `Least` is the number 2147483648, which stands only behind a minus sign. `Bytes`
+/// stands in quotation marks, two digits of base 16 for each byte.
 #[derive(Debug, Drop)]
 pub enum Kind {
     Name(Text),
     Number(u32),
     Least,
+    Bytes(Seq<u8>),
     Fixed(Mark),
 }
 

@@ -1,0 +1,12 @@
+pub mod Declarations
+pub mod Depth
+pub mod Expressions
+pub mod Limits
+pub mod Lists
+pub mod Print
+pub mod Programs
+pub mod Runs
+pub mod Sites
+pub mod Statements
+pub mod Syntax
+pub mod Unplaced

@@ -1,0 +1,20 @@
+//! A bundle as a tree, as it is written.
+#![tactic(auto)]
+
+mod declaration;
+mod event;
+mod expression;
+mod name;
+mod program;
+mod start;
+mod statement;
+
+pub use declaration::{
+    Aspect, Class, Delegation, Field, LabelText, Node, PolicyText, Role, Sort,
+};
+pub use event::{CrashLine, Event, PostLine, Step};
+pub use expression::{Comparison, Expression, Form, Level, Operand, Operator};
+pub use name::Name;
+pub use program::{Method, Parameter, Program, Return, Returns};
+pub use start::{Given, Literal, RequestText, Root, Session, Start};
+pub use statement::{Downgrade, Right, Statement};
