@@ -1,3 +1,4 @@
+pub mod Names
 pub mod Quotient
 pub mod Torn
 mod Examples

@@ -3,7 +3,7 @@ use Rattle.std.specs.Prelude.{◌≡◌, ℕ, ◌+◌, ◌-◌, ◌*◌, ◌%◌
 use Rattle.std.specs.List.{starts_with, list_all}
 use Rattle.std.specs.Str.{bytes_eq}
 use Rattle.std.specs.Char.{is_ascii_alphanumeric, is_ascii_digit}
-use Rattle.std.specs.Prelude.{find, take_while}
+use Rattle.std.specs.Prelude.{slice_index, List, [], ◌∷◌, length, drop, find, take_while, codes}
 use Rattle.fab_base.specs.declared.token.Mark.{Mark}
 use Rattle.fab_base.specs.declared.token.Mark.TheVariants as m
 use Rattle.fab_base.specs.declared.token.Kind.{Kind}
@@ -81,10 +81,17 @@ mark_text m.Worker = codes "worker"
 
 -- the signs, the longer ones first
 abbrev pub signs : List Mark
-signs = m.Arrow ∷ m.BackArrow ∷ m.EqualEqual ∷ m.NotEqual ∷ m.LessEqual ∷ m.GreaterEqual ∷ m.Less ∷ m.Greater ∷ m.Equal ∷ m.Plus ∷ m.Minus ∷ m.Star ∷ m.Slash ∷ m.Bang ∷ m.And ∷ m.Bar ∷ m.LeftParen ∷ m.RightParen ∷ m.LeftBrace ∷ m.RightBrace ∷ m.Comma ∷ m.Semicolon ∷ m.Colon ∷ m.Dot ∷ m.At ∷ []
+signs =
+    m.Arrow ∷ m.BackArrow ∷ m.EqualEqual ∷ m.NotEqual ∷ m.LessEqual ∷ m.GreaterEqual ∷ m.Less ∷ m.Greater ∷ m.Equal
+    ∷ m.Plus ∷ m.Minus ∷ m.Star ∷ m.Slash ∷ m.Bang ∷ m.And ∷ m.Bar ∷ m.LeftParen ∷ m.RightParen ∷ m.LeftBrace
+    ∷ m.RightBrace ∷ m.Comma ∷ m.Semicolon ∷ m.Colon ∷ m.Dot ∷ m.At ∷ []
 
 abbrev pub keywords : List Mark
-keywords = m.Access ∷ m.ActsFor ∷ m.After ∷ m.Atomic ∷ m.Authority ∷ m.Begin ∷ m.Cache ∷ m.Class ∷ m.Crash ∷ m.CrashIn ∷ m.Declassify ∷ m.Deliver ∷ m.Else ∷ m.Endorse ∷ m.Fail ∷ m.Fails ∷ m.Hostile ∷ m.Idle ∷ m.If ∷ m.Int ∷ m.Keep ∷ m.Label ∷ m.Method ∷ m.New ∷ m.Null ∷ m.Post ∷ m.Principal ∷ m.Recover ∷ m.Resume ∷ m.Return ∷ m.Returns ∷ m.Root ∷ m.Run ∷ m.Schedule ∷ m.Session ∷ m.Store ∷ m.To ∷ m.While ∷ m.Worker ∷ []
+keywords =
+    m.Access ∷ m.ActsFor ∷ m.After ∷ m.Atomic ∷ m.Authority ∷ m.Begin ∷ m.Cache ∷ m.Class ∷ m.Crash ∷ m.CrashIn
+    ∷ m.Declassify ∷ m.Deliver ∷ m.Else ∷ m.Endorse ∷ m.Fail ∷ m.Fails ∷ m.Hostile ∷ m.Idle ∷ m.If ∷ m.Int ∷ m.Keep
+    ∷ m.Label ∷ m.Method ∷ m.New ∷ m.Null ∷ m.Post ∷ m.Principal ∷ m.Recover ∷ m.Resume ∷ m.Return ∷ m.Returns
+    ∷ m.Root ∷ m.Run ∷ m.Schedule ∷ m.Session ∷ m.Store ∷ m.To ∷ m.While ∷ m.Worker ∷ []
 
 -- space, tab, line feed and carriage return
 abbrev pub is_space : ℕ → Bool
@@ -122,7 +129,9 @@ keyword_or None other = other
 
 -- What a whole word is: a keyword, a name or a number, or nothing.
 abbrev pub word_kind : List ℕ → Option Kind
-word_kind word = keyword_or (keyword_of word) (if is_name_text word then Some (k.Name word) else (if is_numeral word then number_kind (value_from 0 word) else None))
+word_kind word =
+    keyword_or (keyword_of word)
+    (if is_name_text word then Some (k.Name word) else (if is_numeral word then number_kind (value_from 0 word) else None))
 
 -- the longest sign at the front
 abbrev pub sign_at : List ℕ → Option Mark

@@ -1,14 +1,15 @@
 -- The order of names: that it is total, and that names which it doesn't tell apart are one.
 use Rattle.std.proofs.Common.{◌≡◌, ◌≢◌, ℕ, Bool, true, false, nat_eq, List, [], ◌∷◌, length, get_or, refl, sym, ◌∙◌, ap, inl, inr, ◌⊎◌, arith}
-use Rattle.std.specs.Cmp.{IsTotalOrder, IsEquivalence}
+use Rattle.std.specs.Cmp.{IsTotalOrder}
 use Rattle.std.specs.Cmp.Lexicographic.{slice_cmp, lists_ties, bytes_decides}
 use Rattle.std.specs.Ordering.{nat_cmp, is_lt, is_eq, ordering_reverse, ordering_then, eq_by_cmp}
 use Rattle.std.specs.declared.cmp.Ordering.{Ordering}
 use Rattle.std.specs.declared.cmp.Ordering.TheVariants.{Less, Equal, Greater}
-use Rattle.std.proofs.lemmas.Cmp.{nat_list_cmp_total, on_total, eq_by_cmp_equiv, tied_itself}
+use Rattle.std.proofs.lemmas.Cmp.{nat_list_cmp_total, on_total, tied_itself}
 use Rattle.std.proofs.lemmas.Bool.Decides.{nat_tests}
 use Rattle.fab_base.specs.declared.object.Oid.{Oid}
 use Rattle.fab_base.specs.FlatMap.{parts_of, precedes, is_before, is_same}
+pub use Rattle.fab_base.proofs.Names.{same_self, same_flips}
 
 -- names by their parts
 abbrev pub name_cmp : Oid → Oid → Ordering
@@ -38,19 +39,6 @@ of_parts xs = record { store = get_or xs 0 0; class = get_or xs 1 0; worker = ge
 -- names that are alike are one
 pub one_name : (o p : Oid) → is_same o p ≡ true → o ≡ p
 one_name o p h = ap of_parts ((bytes_decides (parts_of o) (parts_of p)).0 h)
-
-pub same_self : (o : Oid) → is_same o o ≡ true
-same_self o = same_is o o ∙ (eq_by_cmp_equiv name_cmp_total).refl o
-
-pub same_flips : (o p : Oid) → is_same o p ≡ is_same p o
-same_flips o p = same_is o p ∙ (eq_by_cmp_equiv name_cmp_total).symm o p ∙ sym (same_is p o)
-
-pub same_is_equivalence : IsEquivalence is_same
-same_is_equivalence = record {
-  refl = same_self;
-  symm = same_flips;
-  congr = λ o p q e. ap (λ n. is_same n q) (one_name o p e);
-}
 
 lt_less : (r : Ordering) → is_lt r ≡ true → r ≡ Less
 lt_less Less h = refl

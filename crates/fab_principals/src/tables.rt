@@ -23,7 +23,9 @@ fn own_rows(alloc: Global, count: u16) -> Result<Vec<u64>, NoMemory>
 /// Each row with `a` in it gains these.
 fn grant(rows: &mut [u64], a: u16, gained: u64)
     requires { a < 64 }
-    ensures { (p q : ℕ) → p < length rows.old → in_set (slice_index rows.new p) q ≡ (in_set (slice_index rows.old p) q || (in_set (slice_index rows.old p) a && in_set gained q)) }
+    ensures { (p q : ℕ) → p < length rows.old
+        → in_set (slice_index rows.new p) q
+            ≡ (in_set (slice_index rows.old p) q || (in_set (slice_index rows.old p) a && in_set gained q)) }
 {
     for row in rows.iter_mut() {
         if contains(*row, a) {

@@ -30,7 +30,11 @@ the_weighed weight = weight
 
 -- the one field: a pointer, an allocator and the value
 abbrev stored : Former {0}
-stored = via (pair (const (Ptr × Global)) this) Inside (λ A b. ((b.inner.ptr, b.inner.alloc), b.inner.value)) (λ A v. record { inner = record { ptr = v.0.0; alloc = v.0.1; value = v.1 } }) (λ A b. refl) (λ A v. refl)
+stored =
+    via (pair (const (Ptr × Global)) this) Inside
+    (λ A b. ((b.inner.ptr, b.inner.alloc), b.inner.value))
+    (λ A v. record { inner = record { ptr = v.0.0; alloc = v.0.1; value = v.1 } })
+    (λ A b. refl) (λ A v. refl)
 
 abbrev another : {A B : Type 0} → Box A Global → B → Box B Global
 another b y = record { ptr = b.ptr; alloc = b.alloc; value = y }
@@ -49,8 +53,13 @@ module _ (A B : RattleType) (f : A.Denot → B.Denot) where
 
   pub the_places : Alike A B f → Alike (outer.the_row A) (outer.the_row B) ((the_former this).map A.Denot B.Denot f)
   the_places same =
-      let field = struct_places (inner.the_type A) (inner.the_type B) ((λ b. another b (f b.value)), tt) _ (λ b. refl) refl (laid _ _ _ (box_placed same), tt) in
-      view_places stored this view (λ X Y k v. refl) (λ X v. refl) A.Denot B.Denot f (outer.the_row A).coded (outer.the_row B).coded (invariant A.Denot) (invariant B.Denot) (λ v p q. refl) (λ v p q. refl) (λ v e. tt) (λ v e. tt) (over (inner.the_row A)) (over (inner.the_row B)) field
+      let field =
+      struct_places (inner.the_type A) (inner.the_type B) ((λ b. another b (f b.value)), tt) _
+      (λ b. refl) refl (laid _ _ _ (box_placed same), tt) in
+      view_places stored this view (λ X Y k v. refl) (λ X v. refl) A.Denot B.Denot f
+      (outer.the_row A).coded (outer.the_row B).coded (invariant A.Denot) (invariant B.Denot)
+      (λ v p q. refl) (λ v p q. refl) (λ v e. tt) (λ v e. tt)
+      (over (inner.the_row A)) (over (inner.the_row B)) field
 
   pub the_codes_placed : Recodes A B f → Recodes (outer.the_row A) (outer.the_row B) ((the_former this).map A.Denot B.Denot f)
   the_codes_placed same x = same x

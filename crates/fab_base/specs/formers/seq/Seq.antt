@@ -43,7 +43,10 @@ module _ (A B : RattleType) (f : A.Denot → B.Denot) where
   the_places same =
       let vector = elements.the_places global.the_row ghosts A B f same in
       let field = struct_places (inner.the_type A) (inner.the_type B) (elements.mapped f, tt) _ (λ s. refl) refl (laid _ _ _ vector, tt) in
-      view_places stored (list this) view (λ X Y k v. refl) (λ X v. refl) A.Denot B.Denot f (outer.the_row A).coded (outer.the_row B).coded (invariant A.Denot) (invariant B.Denot) (λ v p q. refl) (λ v p q. refl) (λ v e. tt) (λ v e. tt) (over (inner.the_row A)) (over (inner.the_row B)) field
+      view_places stored (list this) view (λ X Y k v. refl) (λ X v. refl) A.Denot B.Denot f
+      (outer.the_row A).coded (outer.the_row B).coded (invariant A.Denot) (invariant B.Denot)
+      (λ v p q. refl) (λ v p q. refl) (λ v e. tt) (λ v e. tt)
+      (over (inner.the_row A)) (over (inner.the_row B)) field
 
   pub the_codes_placed : Recodes A B f → Recodes (outer.the_row A) (outer.the_row B) ((the_former this).map A.Denot B.Denot f)
   the_codes_placed same xs = sym (code_map A.coded.code B.coded.code f (λ x. sym (same x)) xs)
