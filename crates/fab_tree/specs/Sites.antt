@@ -4,9 +4,7 @@
 use Rattle.std.specs.Prelude.{ℕ, List, [], ◌∷◌, ◌++◌, map, Option, Some, None}
 use Rattle.std.specs.List.{flat_map}
 use Rattle.fab_tree.specs.declared.expression.Expression.{Expression, fold-Expression}
-use Rattle.fab_tree.specs.declared.expression.Expression.TheOpen.{Expression-F}
 use Rattle.fab_tree.specs.declared.expression.Form.TheOpen as f
-use Rattle.fab_tree.specs.declared.expression.Operand.TheOpen.{Operand-F}
 use Rattle.fab_tree.specs.declared.statement.Right.{Right}
 use Rattle.fab_tree.specs.declared.statement.Right.TheVariants as rights
 use Rattle.fab_tree.specs.declared.statement.Statement.{Statement, fold-Statement}
