@@ -1,0 +1,4 @@
+pub mod CountRules
+pub mod RootRules
+pub mod SessionRules
+pub mod TextRules

@@ -1,0 +1,6 @@
+//! The grammar of expressions.
+#![tactic(auto)]
+
+mod expressions;
+
+pub use expressions::{arguments, expression};
