@@ -163,7 +163,7 @@ policy x = name x.owner >> space >> aspect x.aspect >> spaced_names x.others
 abbrev pub label : LabelText → Inks
 label x =
     line 0 (mark m.Label >> space >> name x.name >> space >> mark m.Equal >> space
-      >> mark m.LeftBrace >> separated m.Semicolon (map policy x.policies) >> mark m.RightBrace >> mark m.Semicolon)
+    >> mark m.LeftBrace >> separated m.Semicolon (map policy x.policies) >> mark m.RightBrace >> mark m.Semicolon)
 
 abbrev pub sort : Sort → Inks
 sort sorts.Int = mark m.Int
@@ -175,8 +175,8 @@ field x = sort x.sort >> space >> name x.name >> mark m.Semicolon >> space
 abbrev pub class : Class → Inks
 class x =
     line 0 (mark m.Class >> space >> name x.name >> space >> mark m.Label >> space >> name x.label >> space
-      >> mark m.Access >> space >> name x.access >> space
-      >> mark m.LeftBrace >> space >> all (map field x.fields) >> mark m.RightBrace)
+    >> mark m.Access >> space >> name x.access >> space
+    >> mark m.LeftBrace >> space >> all (map field x.fields) >> mark m.RightBrace)
 
 -- ---- expressions
 
@@ -247,7 +247,7 @@ shown_form (f.Compared x c y) =
 abbrev pub shown : Expression → Shown
 shown =
     fold-Expression Shown Shown ShownOperand shown_form (λ e. e.form)
-      (λ u. record { operator = u.operator; operand = u.operand })
+    (λ u. record { operator = u.operator; operand = u.operand })
 
 -- an expression where the grammar has one
 abbrev pub expression : Expression → Inks
@@ -268,7 +268,7 @@ right (rights.Call x es) = name x >> arguments es
 right (rights.New x y es at) = mark m.New >> space >> name x >> space >> mark m.At >> space >> name y >> space >> arguments es
 right (rights.Downgrade d e x y at) =
     downgrade d >> mark m.LeftParen >> expression e >> mark m.Comma >> space >> name x >> space
-      >> mark m.To >> space >> name y >> mark m.RightParen
+    >> mark m.To >> space >> name y >> mark m.RightParen
 
 -- statements in braces; the closing one stands in a line at this level
 abbrev pub block : ℕ → List (ℕ → Inks) → Inks
@@ -288,7 +288,7 @@ head x e = mark x >> space >> in_brackets (expression e) >> space
 abbrev pub statement_step : s.Statement-F (ℕ → Inks) → ℕ → Inks
 statement_step (s.Declare t x l e at) n =
     line n (sort t >> space >> name x >> space >> mark m.Colon >> space >> name l >> space
-      >> mark m.Equal >> space >> expression e >> mark m.Semicolon)
+    >> mark m.Equal >> space >> expression e >> mark m.Semicolon)
 statement_step (s.Assign x r) n = line n (name x >> space >> mark m.Equal >> space >> right r >> mark m.Semicolon)
 statement_step (s.Write x y e) n =
     line n (name x >> mark m.Dot >> name y >> space >> mark m.Equal >> space >> expression e >> mark m.Semicolon)
@@ -325,13 +325,13 @@ result (Some x) = line 1 (mark m.Return >> space >> expression x.value >> mark m
 abbrev pub method : Method → Inks
 method x =
     line 0 (mark m.Method >> space >> name x.name >> in_brackets (separated m.Comma (map parameter x.parameters)) >> space
-      >> returns x.returns >> mark m.Begin >> space >> name x.begin >> fails x.fails >> authority x.authority >> space
-      >> mark m.LeftBrace >> line_end >> all (map (λ y. statement y 1) x.body) >> result x.result >> mark m.RightBrace)
+    >> returns x.returns >> mark m.Begin >> space >> name x.begin >> fails x.fails >> authority x.authority >> space
+    >> mark m.LeftBrace >> line_end >> all (map (λ y. statement y 1) x.body) >> result x.result >> mark m.RightBrace)
 
 abbrev pub program : Program → Inks
 program x =
     all (map node x.nodes) >> all (map delegation x.delegations) >> all (map label x.labels)
-      >> all (map class x.classes) >> all (map method x.methods)
+    >> all (map class x.classes) >> all (map method x.methods)
 
 -- ---- runs
 
@@ -350,7 +350,7 @@ values xs = in_brackets (separated m.Comma (map (λ x. literal x.literal) xs))
 abbrev pub root : Root → Inks
 root x =
     line 1 (mark m.Root >> space >> name x.name >> space >> mark m.Colon >> space >> name x.class >> space
-      >> mark m.At >> space >> name x.store >> space >> values x.values >> mark m.Semicolon)
+    >> mark m.At >> space >> name x.store >> space >> values x.values >> mark m.Semicolon)
 
 abbrev pub request : RequestText → Inks
 request x = line 2 (name x.method >> values x.arguments >> mark m.Semicolon)
@@ -358,7 +358,7 @@ request x = line 2 (name x.method >> values x.arguments >> mark m.Semicolon)
 abbrev pub session : Session → Inks
 session x =
     line 1 (mark m.Session >> space >> name x.worker >> space
-      >> mark m.LeftBrace >> line_end >> all (map request x.requests) >> indent 1 >> mark m.RightBrace)
+    >> mark m.LeftBrace >> line_end >> all (map request x.requests) >> indent 1 >> mark m.RightBrace)
 
 abbrev pub bytes : List ℕ → Inks
 bytes bs more = token (k.Bytes bs) ∷ more
@@ -366,7 +366,7 @@ bytes bs more = token (k.Bytes bs) ∷ more
 abbrev pub post : PostLine → Inks
 post x =
     line 1 (mark m.Post >> space >> name x.sender >> space >> mark m.Arrow >> space >> name x.receiver >> space
-      >> bytes x.bytes >> mark m.Semicolon)
+    >> bytes x.bytes >> mark m.Semicolon)
 
 abbrev pub keep : Option ℕ → Inks
 keep None = nothing
@@ -375,7 +375,7 @@ keep (Some n) = space >> mark m.Keep >> space >> number n
 abbrev pub crash : CrashLine → Inks
 crash x =
     line 1 (mark m.Crash >> space >> name x.node >> space >> mark m.After >> space >> number x.after
-      >> keep x.keep >> mark m.Semicolon)
+    >> keep x.keep >> mark m.Semicolon)
 
 -- a cache of 0 leaves no line
 abbrev pub cache : ℕ → Inks
@@ -399,14 +399,14 @@ abbrev pub schedule : List Event → Inks
 schedule [] = nothing
 schedule (x ∷ xs) =
     line 1 (mark m.Schedule >> space >> mark m.LeftBrace >> line_end
-      >> all (map (λ y. line 2 (event y >> mark m.Semicolon)) (x ∷ xs)) >> indent 1 >> mark m.RightBrace)
+    >> all (map (λ y. line 2 (event y >> mark m.Semicolon)) (x ∷ xs)) >> indent 1 >> mark m.RightBrace)
 
 abbrev pub start : Start → Inks
 start x =
     program x.program
-      >> line 0 (mark m.Run >> space >> mark m.LeftBrace >> line_end
-        >> all (map root x.roots) >> all (map session x.sessions) >> all (map post x.posts) >> all (map crash x.crashes)
-        >> cache x.cache >> schedule x.schedule >> mark m.RightBrace)
+    >> line 0 (mark m.Run >> space >> mark m.LeftBrace >> line_end
+    >> all (map root x.roots) >> all (map session x.sessions) >> all (map post x.posts) >> all (map crash x.crashes)
+    >> cache x.cache >> schedule x.schedule >> mark m.RightBrace)
 
 -- the canonical text
 abbrev pub canonical : Start → List ℕ

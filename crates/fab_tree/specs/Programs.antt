@@ -57,7 +57,7 @@ pub data IsResult : List Token → Option Return → List Token → Type 0 where
 --          "begin" name ["fails"] ["authority" name {"," name}] "{" {statement} [result] "}"
 pub data IsMethod : List Token → Method → List Token → Type 0 where
   method : {a b c d e f g h i j k l n o p : List Token} {x : Name} {ys : List Parameter} {z : Option Returns}
-           {u : Name} {v : Bool} {ws : List Name} {ts : List Statement} {q : Option Return}
+      {u : Name} {v : Bool} {ws : List Name} {ts : List Statement} {q : Option Return}
       → Is m.Method a b → IsName b x c
       → Is m.LeftParen c d → Separated m.Comma IsParameter d ys e → Is m.RightParen e f
       → Perhaps m.Returns IsReturns f z g → Is m.Begin g h → IsName h u i → IsFails i v j → IsAuthority j ws k
@@ -67,7 +67,7 @@ pub data IsMethod : List Token → Method → List Token → Type 0 where
 -- program = {node} {delegation} {label} {class} {method}
 pub data IsProgram : List Token → Program → List Token → Type 0 where
   program : {a b c d e f : List Token}
-            {ts : List Node} {us : List Delegation} {vs : List LabelText} {ws : List Class} {xs : List Method}
+      {ts : List Node} {us : List Delegation} {vs : List LabelText} {ws : List Class} {xs : List Method}
       → Repeated IsNode a ts b → Repeated IsDelegation b us c → Repeated IsLabel c vs d → Repeated IsClass d ws e
       → Repeated IsMethod e xs f
       → IsProgram a (record { nodes = ts; delegations = us; labels = vs; classes = ws; methods = xs }) f

@@ -16,7 +16,7 @@ use Rattle.fab_tree.specs.Runs.{IsRoot, IsSession, IsPost, IsCrash, IsCache, IsS
 -- start = program "run" "{" {root} {session} {post} {crash} [cache] [schedule] "}"
 pub data IsStart : List Token → Start → List Token → Type 0 where
   start : {a b c d e f g h i j k : List Token}
-          {p : Program} {rs : List Root} {ss : List Session} {ps : List PostLine} {cs : List CrashLine} {n : ℕ} {es : List Event}
+      {p : Program} {rs : List Root} {ss : List Session} {ps : List PostLine} {cs : List CrashLine} {n : ℕ} {es : List Event}
       → IsProgram a p b → Is m.Run b c → Is m.LeftBrace c d
       → Repeated IsRoot d rs e → Repeated IsSession e ss f → Repeated IsPost f ps g → Repeated IsCrash g cs h
       → IsCache h n i → IsSchedule i es j → Is m.RightBrace j k

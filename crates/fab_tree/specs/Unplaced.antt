@@ -115,16 +115,24 @@ result x = record { value = expression x.value; at = 0 }
 abbrev pub method : Method → Method
 method x =
     record {
-      name = name x.name; parameters = map parameter x.parameters; returns = option_map returns x.returns;
-      begin = name x.begin; fails = x.fails; authority = names x.authority;
-      body = map statement x.body; result = option_map result x.result
+      name = name x.name;
+      parameters = map parameter x.parameters;
+      returns = option_map returns x.returns;
+      begin = name x.begin;
+      fails = x.fails;
+      authority = names x.authority;
+      body = map statement x.body;
+      result = option_map result x.result;
     }
 
 abbrev pub program : Program → Program
 program x =
     record {
-      nodes = map node x.nodes; delegations = map delegation x.delegations; labels = map label x.labels;
-      classes = map class x.classes; methods = map method x.methods
+      nodes = map node x.nodes;
+      delegations = map delegation x.delegations;
+      labels = map label x.labels;
+      classes = map class x.classes;
+      methods = map method x.methods;
     }
 
 abbrev pub literal : Literal → Literal
@@ -167,6 +175,11 @@ event (events.Crash x) = events.Crash (name x)
 abbrev pub unplaced : Start → Start
 unplaced x =
     record {
-      program = program x.program; roots = map root x.roots; sessions = map session x.sessions; posts = map post x.posts;
-      crashes = map crash x.crashes; cache = x.cache; schedule = map event x.schedule
+      program = program x.program;
+      roots = map root x.roots;
+      sessions = map session x.sessions;
+      posts = map post x.posts;
+      crashes = map crash x.crashes;
+      cache = x.cache;
+      schedule = map event x.schedule;
     }

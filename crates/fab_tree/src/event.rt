@@ -11,8 +11,8 @@ pub struct PostLine {
     pub bytes: Seq<u8>,
 }
 
-/// `crash n after 3 keep 5;`: after which count of its events a node crashes, and how many bytes of
-/// the record that it then writes are kept.
+/// `crash n after 3 keep 5;`: once the node has so many of its events and is up, its next event is a
+/// crash, or, with `keep`, its next event that writes a record is cut, with so many bytes kept.
 #[derive(Debug, Drop)]
 pub struct CrashLine {
     pub node: Name,

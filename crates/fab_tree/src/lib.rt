@@ -1,4 +1,4 @@
-//! A bundle as a tree, as it is written.
+//! A bundle as a tree: as it is written, and with numbers for names.
 #![tactic(auto)]
 
 mod declaration;
@@ -6,12 +6,11 @@ mod event;
 mod expression;
 mod name;
 mod program;
+pub mod resolved;
 mod start;
 mod statement;
 
-pub use declaration::{
-    Aspect, Class, Delegation, Field, LabelText, Node, PolicyText, Role, Sort,
-};
+pub use declaration::{Aspect, Class, Delegation, Field, LabelText, Node, PolicyText, Role, Sort};
 pub use event::{CrashLine, Event, PostLine, Step};
 pub use expression::{Comparison, Expression, Form, Level, Operand, Operator};
 pub use name::Name;
