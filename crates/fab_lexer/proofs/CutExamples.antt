@@ -15,3 +15,7 @@ comment = further refl (further refl here)
 word : {there : ℕ} → Cut 0 (codes "01 $") there → there ≡ 0
 word here = refl
 word (further e d) = absurd (cc)
+
+-- one comes behind bytes in quotation marks, and not into them
+quoted : Cut 0 (codes "\"00\"\"0g\"") 4
+quoted = further refl here

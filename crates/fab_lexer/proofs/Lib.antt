@@ -1,4 +1,8 @@
 mod CutExamples
+mod MarkExamples
 pub mod Lexing
 pub mod PieceLemmas
+pub mod QuotedLemmas
+pub mod SignLemmas
+pub mod TokenLists
 pub mod WordLemmas

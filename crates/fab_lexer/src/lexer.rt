@@ -1,12 +1,15 @@
 //! The tokens of a text.
 ghost use Rattle.std.specs.Prelude.{◌≡◌, ◌<◌, ◌≤◌, ◌^◌, ◌-◌, length, List, IfOk, IfErr};
 ghost use Rattle.std.specs.List.{AllPass};
-ghost use Rattle.fab_base.specs.Tokens.{Lexes, piece_at, word_at, word_kind, line_len, spelled, is_word_byte};
+ghost use Rattle.fab_base.specs.Tokens.{Lexes, front_at, is_word_byte, line_len, sign_at, sign_piece, spelled, word_at, word_kind};
 ghost use Rattle.fab_base.specs.declared.token.Token.{Token as TokenTree};
 ghost use Rattle.fab_lexer.specs.Cuts.{CutError};
+ghost use Rattle.fab_lexer.specs.Fronts.{shown};
 
 use crate::error::LexError;
+use crate::front::Front;
 use crate::marks::{sign_before, text_of};
+use crate::quoted::quoted_before;
 use crate::words::{is_blank, is_of_word, kind_of};
 use fab_base::{Kind, NoMemory, Piece, Seq, Token};
 use std::alloc::Global;
@@ -34,26 +37,41 @@ fn line_end(bytes: &[u8]) -> usize
     bytes.iter().take_while(|byte| **byte != b'\n').count()
 }
 
-/// What stands at the front of bytes that aren't empty.
-fn piece_before(alloc: Global, bytes: &[u8]) -> Result<Option<Piece>, NoMemory>
+/// What stands at the front of bytes that aren't empty: a piece, or after how many bytes none does.
+fn piece_before(alloc: Global, bytes: &[u8]) -> Result<Front, NoMemory>
     requires { 0 < length bytes.now }
-    ensures { IfOk result (λ found. found ≡ piece_at bytes.now) }
+    ensures { IfOk result (λ found. shown found ≡ front_at bytes.now) }
 {
     if is_blank(bytes[0]) {
-        return Ok(Some(Piece::Blank { len: 1 }));
+        return Ok(Front::Stands(Piece::Blank { len: 1 }));
     }
     if bytes.starts_with(b"//") {
-        return Ok(Some(Piece::Blank {
+        return Ok(Front::Stands(Piece::Blank {
             len: line_end(bytes),
         }));
     }
-    if is_of_word(bytes[0]) {
-        return word_piece(alloc, word_before(bytes));
+    if bytes[0] == b'"' {
+        return quoted_before(alloc, &bytes[1..]);
     }
-    Ok(sign_before(bytes).map(|mark| Piece::Spelled {
+    let piece = if is_of_word(bytes[0]) {
+        word_piece(alloc, word_before(bytes))?
+    } else {
+        sign_piece_before(bytes)
+    };
+    Ok(match piece {
+        Some(piece) => Front::Stands(piece),
+        None => Front::Unfit(0),
+    })
+}
+
+/// The sign at the front.
+fn sign_piece_before(bytes: &[u8]) -> Option<Piece>
+    ensures { result ≡ sign_piece (sign_at bytes.now) }
+{
+    sign_before(bytes).map(|mark| Piece::Spelled {
         kind: Kind::Fixed(mark),
         len: text_of(mark).len(),
-    }))
+    })
 }
 
 /// The word that these bytes are.
@@ -80,16 +98,16 @@ pub fn tokens(alloc: Global, bytes: &[u8]) -> Result<Seq<Token>, LexError>
     ensures only { IfOk result (λ ts. (us : List TokenTree) → Lexes 0 bytes.now us → us ≡ ts) }
     // Each takes a byte at least.
     ensures count { IfOk result (λ ts. length ts ≤ length bytes.now) }
-    // A place is refused exactly where the text before it is cut, and from there on it can't be.
+    // A place is refused exactly where the text before a piece is cut, none begins there, and the
+    // first byte that doesn't fit stands there.
     ensures refused { IfErr result (λ e. CutError bytes.now e) }
 {
     let mut found = Seq::new(alloc);
     let mut at = 0usize;
     'text: while at < bytes.len() {
-        let piece = piece_before(alloc, &bytes[at..])?;
-        match piece {
-            Some(Piece::Blank { len }) => at += len,
-            Some(Piece::Spelled { kind, len }) => {
+        match piece_before(alloc, &bytes[at..])? {
+            Front::Stands(Piece::Blank { len }) => at += len,
+            Front::Stands(Piece::Spelled { kind, len }) => {
                 let end = at + len;
                 found.push(Token {
                     kind,
@@ -98,7 +116,11 @@ pub fn tokens(alloc: Global, bytes: &[u8]) -> Result<Seq<Token>, LexError>
                 })?;
                 at = end;
             }
-            None => return Err(LexError::Bad { at: at as u32 }),
+            Front::Unfit(fitting) => {
+                return Err(LexError::Bad {
+                    at: (at + fitting) as u32,
+                });
+            }
         }
     }
     Ok(found)
