@@ -2,5 +2,6 @@
 #![tactic(auto)]
 
 mod expressions;
+mod operators;
 
-pub use expressions::{arguments, expression};
+pub use expressions::{arguments, expression, starts_expression};

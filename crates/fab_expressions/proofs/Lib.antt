@@ -1,0 +1,4 @@
+pub mod ChainRules
+mod ExpressionExamples
+pub mod OperatorRules
+pub mod PrimaryRules
