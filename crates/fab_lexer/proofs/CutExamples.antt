@@ -1,6 +1,7 @@
 -- Worked examples of places where a text can't be cut.
-use Rattle.std.proofs.Common.{◌≡◌, ℕ, refl, codes}
-use Rattle.fab_lexer.specs.Cuts.{Cut, here, further}
+use Rattle.std.proofs.Common.{◌≡◌, ℕ, refl, codes, arith}
+use Rattle.fab_lexer.specs.Cuts.{Cut, here, further, IsUncut}
+use Rattle.fab_lexer.proofs.TokenLists.{no_tokens_behind}
 
 -- of two wrong bytes the first is the place
 dollars : {there : ℕ} → Cut 0 (codes "$ $") there → there ≡ 0
@@ -16,6 +17,41 @@ word : {there : ℕ} → Cut 0 (codes "01 $") there → there ≡ 0
 word here = refl
 word (further e d) = absurd (cc)
 
--- one comes behind bytes in quotation marks, and not into them
-quoted : Cut 0 (codes "\"00\"\"0g\"") 4
-quoted = further refl here
+-- ---- in quotation marks, behind a sign
+
+wrong_digit : IsUncut (codes "+\"0g\"") 3
+wrong_digit = record {
+  place = 1;
+  fitting = 2;
+  inside = omega arith;
+  before = further refl here;
+  nothing = refl;
+  there = refl;
+  within = omega arith;
+  no_tokens = no_tokens_behind (codes "+\"0g\"") 1 2 (omega arith) (further refl here) refl;
+}
+
+odd_digits : IsUncut (codes "+\"0\"") 3
+odd_digits = record {
+  place = 1;
+  fitting = 2;
+  inside = omega arith;
+  before = further refl here;
+  nothing = refl;
+  there = refl;
+  within = omega arith;
+  no_tokens = no_tokens_behind (codes "+\"0\"") 1 2 (omega arith) (further refl here) refl;
+}
+
+-- a text that ends there is refused at its length
+never_closed : IsUncut (codes "+\"00") 4
+never_closed = record {
+  place = 1;
+  fitting = 3;
+  inside = omega arith;
+  before = further refl here;
+  nothing = refl;
+  there = refl;
+  within = omega arith;
+  no_tokens = no_tokens_behind (codes "+\"00") 1 3 (omega arith) (further refl here) refl;
+}
