@@ -205,7 +205,8 @@ impl Journals for MemJournals {
         ensures content { IfOk result (λ journal. journal.held.content ≡ []) }
         ensures synced { IfOk result (λ journal. journal.held.synced ≡ 0) }
         ensures unfailed { IfOk result (λ journal. journal.calls.faults ≡ 0) }
-        ensures sure { CannotFail (Some (map (λ pair. pair.0) self.old.fails)) node.now → IfOk result (λ journal. IsTrue (never_fails journal.calls)) }
+        ensures sure { CannotFail (Some (map (λ pair. pair.0) self.old.fails)) node.now
+            → IfOk result (λ journal. IsTrue (never_fails journal.calls)) }
         ensures never { IsErrOf result JournalError.Failed → ⊥ }
         ensures cause { JournalCause 0 0 result }
         ensures same { self.new ≡ self.old }

@@ -124,7 +124,8 @@ pub trait Journals {
         ensures content { IfOk result (λ journal. Self.Item.content journal ≡ []) }
         ensures synced { IfOk result (λ journal. Self.Item.synced journal ≡ 0) }
         ensures unfailed { IfOk result (λ journal. Self.Item.faults journal ≡ 0) }
-        ensures sure { CannotFail (may_fail self.old) node.now → IfOk result (λ journal. IsTrue (Self.Item.sure journal)) }
+        ensures sure { CannotFail (may_fail self.old) node.now
+            → IfOk result (λ journal. IsTrue (Self.Item.sure journal)) }
         ensures never { CannotFail (may_fail self.old) node.now → IsErrOf result JournalError.Failed → ⊥ }
         ensures cause { JournalCause (faults self.old) (faults self.new) result }
         ensures told { may_fail self.new ≡ may_fail self.old }

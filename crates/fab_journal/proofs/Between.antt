@@ -1,50 +1,12 @@
 -- Numbers within bounds keep to what readers keep to.
-use Rattle.std.proofs.Common.{◌≡◌, ℕ, ◌+◌, ◌-◌, ◌*◌, ◌/◌, ◌%◌, ◌<◌, ◌≤◌, true, false, leb, ◌&&◌, List, [], ◌∷◌, ◌++◌, Ok, Err, refl, sym, ap, subst, ◌∙◌, arith, inl, inr, ◌⊎◌}
-use Rattle.std.proofs.lemmas.Bool.Decides.{leb_tells}
+use Rattle.std.proofs.Common.{◌≡◌, ℕ, ◌+◌, ◌-◌, ◌*◌, ◌/◌, ◌%◌, ◌<◌, ◌≤◌, List, [], ◌∷◌, ◌++◌, Ok, Err, refl, sym, ap, subst, ◌∙◌, arith, inl, inr}
 use Rattle.fab_base.specs.FieldSpelling.{two_bytes}
 use Rattle.fab_wire.proofs.ReaderLaws.{IsBytes, Reads, Stops, ok_is}
-use Rattle.fab_journal.specs.EntryReading.{may_begin, between_at}
+use Rattle.fab_wire.proofs.NumberLaws.{both_hold, two_bytes_again, two_bytes_of, first_is, both_are}
+use Rattle.fab_journal.specs.EntryReading.{between_at}
 
 abbrev IsWithin : ℕ → ℕ → ℕ → Type 0
 IsWithin low high n = (low ≤ n) × (n ≤ high)
-
-within : (low high b : ℕ) → ((leb low b && leb b high ≡ true) × (low ≤ b) × (b ≤ high)) ⊎ ((leb low b && leb b high ≡ false) × ((low ≤ b) → (b ≤ high) → ⊥))
-within low high b =
-    elim (leb_tells low b) [
-      | inl l ↦ elim (leb_tells b high) [ inl h ↦ inl (rw (l.0, h.0) refl, l.1, h.1) | inr h ↦ inr (rw (l.0, h.0) refl, λ x y. omega (arith, h.1)) ]
-      | inr l ↦ inr (rw l.0 refl, λ x y. omega (arith, l.1))
-    ]
-
-begins : (low high b : ℕ) → ((may_begin low high b ≡ true) × (low ≤ b * 256 + 255) × (b * 256 ≤ high)) ⊎ ((may_begin low high b ≡ false) × ((low ≤ b * 256 + 255) → (b * 256 ≤ high) → ⊥))
-begins low high b =
-    elim (leb_tells low (b * 256 + 255)) [
-      | inl l ↦ elim (leb_tells (b * 256) high) [ inl h ↦ inl (rw (l.0, h.0) refl, l.1, h.1) | inr h ↦ inr (rw (l.0, h.0) refl, λ x y. omega (arith, h.1)) ]
-      | inr l ↦ inr (rw l.0 refl, λ x y. omega (arith, l.1))
-    ]
-
-two_bytes_again : (n : ℕ) → n < 65536 → n / 256 % 256 * 256 + n % 256 ≡ n
-two_bytes_again n lt = omega arith
-
-high_is : (high low : ℕ) → high < 256 → low < 256 → (high * 256 + low) / 256 % 256 ≡ high
-high_is high low h l = omega arith
-
-low_is : (high low : ℕ) → high < 256 → low < 256 → (high * 256 + low) % 256 ≡ low
-low_is high low h l = omega arith
-
-pub two_bytes_of : (high low : ℕ) → high < 256 → low < 256 → two_bytes (high * 256 + low) ≡ high ∷ low ∷ []
-two_bytes_of high low h l = rw (high_is high low h l, low_is high low h l) refl
-
--- a number of two bytes that begins so
-first_is : (x high : ℕ) (rest after : List ℕ) → x < 65536 → two_bytes x ++ after ≡ high ∷ rest → x / 256 ≡ high
-first_is x high rest after lt e =
-    let h : x / 256 % 256 ≡ high = cc in
-    omega (arith, h)
-
-both_are : (x high low : ℕ) (rest after : List ℕ) → x < 65536 → two_bytes x ++ after ≡ high ∷ low ∷ rest → x ≡ high * 256 + low
-both_are x high low rest after lt e =
-    let h : x / 256 % 256 ≡ high = cc in
-    let l : x % 256 ≡ low = cc in
-    omega (arith, h, l)
 
 module _ (low high : ℕ) (ordered : low ≤ high) (small : high < 65536) where
   -- the least number within the bounds that begins so
@@ -54,11 +16,11 @@ module _ (low high : ℕ) (ordered : low ≤ high) (small : high < 65536) where
 
   found : (bytes : List ℕ) (x : ℕ) (rest : List ℕ) → IsBytes bytes → between_at low high bytes ≡ Ok (x, rest) → (bytes ≡ two_bytes x ++ rest) × IsWithin low high x
   found [] x rest isb e = absurd cc
-  found (a ∷ []) x rest isb e = elim (begins low high a) [ inl h ↦ let f = rw h.0 at e in absurd cc | inr h ↦ let f = rw h.0 at e in absurd cc ]
+  found (a ∷ []) x rest isb e = elim (both_hold low (a * 256 + 255) (a * 256) high) [ inl h ↦ let f = rw h.0 at e in absurd cc | inr h ↦ let f = rw h.0 at e in absurd cc ]
   found (a ∷ b ∷ bytes) x rest isb e =
-      elim (begins low high a) [
+      elim (both_hold low (a * 256 + 255) (a * 256) high) [
         | inl h ↦
-            elim (within low high (a * 256 + b)) [
+            elim (both_hold low (a * 256 + b) (a * 256 + b) high) [
               | inl k ↦
                   let p : (a * 256 + b, bytes) ≡ (x, rest) = ok_is (a * 256 + b, bytes) (x, rest) (sym (rw (h.0, k.0) refl) ∙ e) in
                   let text : a ∷ b ∷ bytes ≡ two_bytes (a * 256 + b) ++ bytes = ap (λ (t : List ℕ). t ++ bytes) (sym (two_bytes_of a b (isb 0) (isb 1))) in
@@ -71,9 +33,9 @@ module _ (low high : ℕ) (ordered : low ≤ high) (small : high < 65536) where
   again : (x : ℕ) (rest : List ℕ) → IsWithin low high x → between_at low high (two_bytes x ++ rest) ≡ Ok (x, rest)
   again x rest fits =
       let is : x / 256 % 256 * 256 + x % 256 ≡ x = two_bytes_again x (omega (arith, fits.1)) in
-      elim (begins low high (x / 256 % 256)) [
+      elim (both_hold low (x / 256 % 256 * 256 + 255) (x / 256 % 256 * 256) high) [
         | inl h ↦
-            elim (within low high (x / 256 % 256 * 256 + x % 256)) [
+            elim (both_hold low (x / 256 % 256 * 256 + x % 256) (x / 256 % 256 * 256 + x % 256) high) [
               | inl k ↦ rw (h.0, k.0) (ap (λ (n : ℕ). Ok (n, rest)) is)
               | inr k ↦ absurd (k.1 (omega (arith, is, fits.0)) (omega (arith, is, fits.1)))
             ]
@@ -93,7 +55,7 @@ module _ (low high : ℕ) (ordered : low ≤ high) (small : high < 65536) where
     bad = λ b rest tail eb. absurd cc;
   }
   stops (a ∷ []) left isb e =
-      elim (begins low high a) [
+      elim (both_hold low (a * 256 + 255) (a * 256) high) [
         | inl h ↦
             let f = rw h.0 at e in
             let n = least a h.1 h.2 (isb 0) in
@@ -126,9 +88,9 @@ module _ (low high : ℕ) (ordered : low ≤ high) (small : high < 65536) where
             }
       ]
   stops (a ∷ c ∷ bytes) left isb e =
-      elim (begins low high a) [
+      elim (both_hold low (a * 256 + 255) (a * 256) high) [
         | inl h ↦
-            elim (within low high (a * 256 + c)) [
+            elim (both_hold low (a * 256 + c) (a * 256 + c) high) [
               | inl k ↦ let f = rw (h.0, k.0) at e in absurd cc
               | inr k ↦
                   let f = rw (h.0, k.0) at e in

@@ -7,7 +7,7 @@ use Rattle.fab_base.specs.FieldSpelling.{two_bytes, four_bytes}
 use Rattle.fab_base.specs.JournalSpelling.{opening, header_bytes, body_bytes, IsEntry, framed, record_bytes, records_bytes, journal_bytes, AreEntries, IsTornHeader, IsSpelledTo}
 use Rattle.fab_base.proofs.Torn.{number_in, number_in-framed, length-framed}
 use Rattle.fab_wire.proofs.ReaderLaws.{IsBytes}
-use Rattle.fab_journal.proofs.Between.{two_bytes_of}
+use Rattle.fab_wire.proofs.NumberLaws.{two_bytes_of}
 
 -- ---- one body at the front
 

@@ -9,12 +9,15 @@ use Rattle.fab_wire.specs.Reading.{Reader, both, made, chosen, number_at, byte_a
 abbrev pub may_begin : ℕ → ℕ → ℕ → Bool
 may_begin low high first = nat_le low (first * 256 + 255) && nat_le (first * 256) high
 
+abbrev pub is_between : ℕ → ℕ → ℕ → Bool
+is_between low high number = nat_le low number && nat_le number high
+
 -- a number of two bytes within these bounds
 abbrev pub between_at : ℕ → ℕ → Reader ℕ
 between_at low high [] = Err 0
 between_at low high (first ∷ []) = if may_begin low high first then Err 0 else Err 1
 between_at low high (first ∷ second ∷ rest) =
-    if may_begin low high first then (if nat_le low (first * 256 + second) && nat_le (first * 256 + second) high then Ok (first * 256 + second, rest) else Err (length (second ∷ rest)))
+    if may_begin low high first then (if is_between low high (first * 256 + second) then Ok (first * 256 + second, rest) else Err (length (second ∷ rest)))
     else Err (length (first ∷ second ∷ rest))
 
 -- so many numbers of two bytes, each above the one before, the first at least low

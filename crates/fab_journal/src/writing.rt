@@ -3,7 +3,9 @@
 ghost use Rattle.std.specs.Prelude.{◌≡◌, ◌++◌, ◌∷◌, OnOk, IfOk};
 ghost use Rattle.std.specs.List.{flat_map};
 ghost use Rattle.fab_base.specs.FieldSpelling.{tid_bytes, IsTid, two_bytes};
-ghost use Rattle.fab_base.specs.JournalSpelling.{header_bytes as header_of, result_bytes, IsResult, stores_bytes, AreStores, body_bytes, IsEntryBody, IsEntry, KeepsEntry, record_bytes as record_of};
+ghost use Rattle.fab_base.specs.declared.entry.Entry.TheVariants.{Decided, Closed};
+ghost use Rattle.fab_base.specs.JournalSpelling.{body_bytes, header_bytes as header_of, record_bytes as record_of, result_bytes, stores_bytes};
+ghost use Rattle.fab_base.specs.JournalSpelling.{AreStores, IsEntry, IsEntryBody, IsResult, KeepsEntry};
 
 use fab_base::{Entry, NoMemory, Seq, Tid, Value};
 use fab_wire::{put_items, put_tid, put_u8, put_u16, put_u32, put_value};
@@ -47,22 +49,12 @@ fn put_body(out: &mut Seq<u8>, entry: &Entry) -> Result<(), NoMemory>
             request,
             result,
             stores,
-        } => {
-            put_kind_and_tid(out, 1, *tid)?;
-            put_u32(out, *request)?;
-            put_result(out, *result)?;
-            put_stores(out, stores.as_slice())?;
-        }
+        } => put_decided(out, *tid, *request, *result, stores.as_slice())?,
         Entry::Closed {
             request,
             outcome,
             node,
-        } => {
-            put_u8(out, 2)?;
-            put_u32(out, *request)?;
-            put_u8(out, *outcome)?;
-            put_u16(out, *node)?;
-        }
+        } => put_closed(out, *request, *outcome, *node)?,
         Entry::Boot { boot } => {
             put_u8(out, 3)?;
             put_u32(out, *boot)?;
@@ -81,6 +73,32 @@ fn put_body(out: &mut Seq<u8>, entry: &Entry) -> Result<(), NoMemory>
         }
     }
     Ok(())
+}
+
+fn put_decided(
+    out: &mut Seq<u8>,
+    tid: Tid,
+    request: u32,
+    value: Option<Value>,
+    stores: &[u16],
+) -> Result<(), NoMemory>
+    requires { AreStores stores.now }
+    ensures bytes { OnOk result (out.new ≡ out.old ++ body_bytes (Decided tid request value stores.now)) }
+    ensures fits { OnOk result (IsEntryBody 1 (Decided tid request value stores.now)) }
+{
+    put_kind_and_tid(out, 1, tid)?;
+    put_u32(out, request)?;
+    put_result(out, value)?;
+    put_stores(out, stores)
+}
+
+fn put_closed(out: &mut Seq<u8>, request: u32, outcome: u8, node: u16) -> Result<(), NoMemory>
+    ensures { OnOk result (out.new ≡ out.old ++ body_bytes (Closed request outcome node)) }
+{
+    put_u8(out, 2)?;
+    put_u32(out, request)?;
+    put_u8(out, outcome)?;
+    put_u16(out, node)
 }
 
 fn put_kind_and_tid(out: &mut Seq<u8>, kind: u8, tid: Tid) -> Result<(), NoMemory>

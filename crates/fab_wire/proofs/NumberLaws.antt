@@ -104,17 +104,18 @@ four_reads = number_reads 4 four_bytes (2 ^ 32) wide4
 
 -- ---- a byte within bounds
 
-within : (low high b : ℕ) → ((leb low b && leb b high ≡ true) × (low ≤ b) × (b ≤ high)) ⊎ ((leb low b && leb b high ≡ false) × ((low ≤ b) → (b ≤ high) → ⊥))
-within low high b =
-    elim (leb_tells low b) [
-      | inl l ↦ elim (leb_tells b high) [ inl h ↦ inl (rw (l.0, h.0) refl, l.1, h.1) | inr h ↦ inr (rw (l.0, h.0) refl, λ x y. omega (arith, h.1)) ]
-      | inr l ↦ inr (rw l.0 refl, λ x y. omega (arith, l.1))
+-- whether two numbers are at most two others, as it is tested
+pub both_hold : (low x y high : ℕ) → ((leb low x && leb y high ≡ true) × (low ≤ x) × (y ≤ high)) ⊎ ((leb low x && leb y high ≡ false) × ((low ≤ x) → (y ≤ high) → ⊥))
+both_hold low x y high =
+    elim (leb_tells low x) [
+      | inl l ↦ elim (leb_tells y high) [ inl h ↦ inl (rw (l.0, h.0) refl, l.1, h.1) | inr h ↦ inr (rw (l.0, h.0) refl, λ p q. omega (arith, h.1)) ]
+      | inr l ↦ inr (rw l.0 refl, λ p q. omega (arith, l.1))
     ]
 
 byte_found : (low high : ℕ) (bytes : List ℕ) (x : ℕ) (rest : List ℕ) → byte_at low high bytes ≡ Ok (x, rest) → (bytes ≡ x ∷ [] ++ rest) × ((low ≤ x) × (x ≤ high))
 byte_found low high [] x rest e = absurd cc
 byte_found low high (b ∷ bytes) x rest e =
-    elim (within low high b) [
+    elim (both_hold low b b high) [
       | inl h ↦
           let p : (b, bytes) ≡ (x, rest) = ok_is (b, bytes) (x, rest) (sym (rw h.0 refl) ∙ e) in
           subst (λ (q : ℕ × List ℕ). (b ∷ bytes ≡ q.0 ∷ [] ++ q.1) × ((low ≤ q.0) × (q.0 ≤ high))) p (refl, (h.1, h.2))
@@ -134,7 +135,7 @@ byte_stops low high le [] left e = record {
   bad = λ b rest tail eb. absurd cc;
 }
 byte_stops low high le (b ∷ bytes) left e =
-    elim (within low high b) [
+    elim (both_hold low b b high) [
       | inl h ↦ let f = rw h.0 at e in absurd cc
       | inr h ↦
           let f = rw h.0 at e in
@@ -154,14 +155,14 @@ byte_stops low high le (b ∷ bytes) left e =
 pub byte_reads : (low high : ℕ) → low ≤ high → Reads (byte_at low high) (λ b. b ∷ []) (λ b. (low ≤ b) × (b ≤ high))
 byte_reads low high le = record {
   some = (low, (omega arith, le));
-  again = λ b rest fb. elim (within low high b) [ inl h ↦ rw h.0 refl | inr h ↦ absurd (h.1 fb.0 fb.1) ];
+  again = λ b rest fb. elim (both_hold low b b high) [ inl h ↦ rw h.0 refl | inr h ↦ absurd (h.1 fb.0 fb.1) ];
   found = λ bytes x rest isb e. byte_found low high bytes x rest e;
   stops = λ bytes left isb e. byte_stops low high le bytes left e;
 }
 
--- ---- counts
+-- ---- numbers of two bytes
 
-two_bytes_again : (n : ℕ) → n < 65536 → n / 256 % 256 * 256 + n % 256 ≡ n
+pub two_bytes_again : (n : ℕ) → n < 65536 → n / 256 % 256 * 256 + n % 256 ≡ n
 two_bytes_again n lt = omega arith
 
 high_is : (high low : ℕ) → high < 256 → low < 256 → (high * 256 + low) / 256 % 256 ≡ high
@@ -170,20 +171,22 @@ high_is high low h l = omega arith
 low_is : (high low : ℕ) → high < 256 → low < 256 → (high * 256 + low) % 256 ≡ low
 low_is high low h l = omega arith
 
-two_bytes_of : (high low : ℕ) → high < 256 → low < 256 → two_bytes (high * 256 + low) ≡ high ∷ low ∷ []
+pub two_bytes_of : (high low : ℕ) → high < 256 → low < 256 → two_bytes (high * 256 + low) ≡ high ∷ low ∷ []
 two_bytes_of high low h l = rw (high_is high low h l, low_is high low h l) refl
 
--- a count whose first byte is given is that byte and the second
-first_is : (x high : ℕ) (rest after : List ℕ) → x < 65536 → two_bytes x ++ after ≡ high ∷ rest → x / 256 ≡ high
+-- a number of two bytes whose first byte is given is that byte and the second
+pub first_is : (x high : ℕ) (rest after : List ℕ) → x < 65536 → two_bytes x ++ after ≡ high ∷ rest → x / 256 ≡ high
 first_is x high rest after lt e =
     let h : x / 256 % 256 ≡ high = cc in
     omega (arith, h)
 
-both_are : (x high low : ℕ) (rest after : List ℕ) → x < 65536 → two_bytes x ++ after ≡ high ∷ low ∷ rest → x ≡ high * 256 + low
+pub both_are : (x high low : ℕ) (rest after : List ℕ) → x < 65536 → two_bytes x ++ after ≡ high ∷ low ∷ rest → x ≡ high * 256 + low
 both_are x high low rest after lt e =
     let h : x / 256 % 256 ≡ high = cc in
     let l : x % 256 ≡ low = cc in
     omega (arith, h, l)
+
+-- ---- counts
 
 count_found : (most : ℕ) → most < 256 → (bytes : List ℕ) (x : ℕ) (rest : List ℕ) → IsBytes bytes → count_at most bytes ≡ Ok (x, rest) → (bytes ≡ two_bytes x ++ rest) × (x ≤ most * 256)
 count_found most m [] x rest isb e = absurd cc

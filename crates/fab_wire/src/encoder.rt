@@ -2,7 +2,8 @@
 
 ghost use Rattle.std.specs.Prelude.{◌≡◌, ◌++◌, ◌∷◌, OnOk, IfOk};
 ghost use Rattle.fab_base.specs.FieldSpelling.{IsOid, IsTid, oid_bytes, tid_bytes};
-ghost use Rattle.fab_base.specs.MessageSpelling.{IsAnswer, IsBody, IsMessage, KeepsCounts, answer_bytes, kind_and_body, message_bytes, why_bytes};
+ghost use Rattle.fab_base.specs.MessageSpelling.{IsAnswer, IsBody, IsMessage, KeepsCounts};
+ghost use Rattle.fab_base.specs.MessageSpelling.{answer_bytes, kind_and_body, message_bytes, why_bytes};
 
 use crate::list_writing::{put_items, put_object};
 use crate::writing::{put_oid, put_tid, put_u8, put_u32};
@@ -36,6 +37,15 @@ fn put_tagged_tid(out: &mut Seq<u8>, tag: u8, tid: Tid) -> Result<(), NoMemory>
     Ok(())
 }
 
+fn put_names(out: &mut Seq<u8>, tag: u8, tid: Tid, oid: Oid) -> Result<(), NoMemory>
+    ensures bytes { OnOk result (out.new ≡ out.old ++ tag ∷ (tid_bytes tid ++ oid_bytes oid)) }
+    ensures fits { IsTid tid × IsOid oid }
+{
+    put_tagged_tid(out, tag, tid)?;
+    put_oid(out, oid)?;
+    Ok(())
+}
+
 fn put_answer(out: &mut Seq<u8>, answer: Answer) -> Result<(), NoMemory>
     ensures bytes { OnOk result (out.new ≡ out.old ++ answer_bytes answer) }
     ensures fits { IsAnswer answer }
@@ -61,24 +71,19 @@ fn put_body(out: &mut Seq<u8>, message: &Message) -> Result<(), NoMemory>
     ensures fits { OnOk result (IsBody 1 message.now) }
 {
     match message {
-        Message::Fetch { tid, oid } => {
-            put_tagged_tid(out, 1, *tid)?;
-            put_oid(out, *oid)?;
-        }
+        Message::Fetch { tid, oid } => put_names(out, 1, *tid, *oid)?,
         Message::Object {
             tid,
             oid,
             version,
             object,
         } => {
-            put_tagged_tid(out, 2, *tid)?;
-            put_oid(out, *oid)?;
+            put_names(out, 2, *tid, *oid)?;
             put_u32(out, *version)?;
             put_object(out, object)?;
         }
         Message::Deny { tid, oid, why } => {
-            put_tagged_tid(out, 3, *tid)?;
-            put_oid(out, *oid)?;
+            put_names(out, 3, *tid, *oid)?;
             put_why(out, *why)?;
         }
         Message::Prepare { tid, items } => {

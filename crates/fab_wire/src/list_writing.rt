@@ -2,7 +2,8 @@
 
 ghost use Rattle.std.specs.Prelude.{◌≡◌, ◌≤◌, ◌++◌, OnOk, length};
 ghost use Rattle.std.specs.List.{All, flat_map};
-ghost use Rattle.fab_base.specs.FieldSpelling.{AreItems, IsCreate, IsObject, IsRead, IsValue, IsWrite, KeepsItems, create_bytes, items_bytes, object_bytes, read_bytes, value_bytes, write_bytes};
+ghost use Rattle.fab_base.specs.FieldSpelling.{AreItems, IsCreate, IsObject, IsRead, IsValue, IsWrite, KeepsItems};
+ghost use Rattle.fab_base.specs.FieldSpelling.{create_bytes, items_bytes, object_bytes, read_bytes, value_bytes, write_bytes};
 
 use crate::writing::{put_oid, put_u8, put_u16, put_u32, put_value};
 use fab_base::{Items, NoMemory, Object, Oid, Seq, Value};
