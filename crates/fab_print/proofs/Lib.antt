@@ -1,0 +1,3 @@
+pub mod DeclarationsAgain
+pub mod Inks
+pub mod ListsAgain
