@@ -1,3 +1,4 @@
 pub mod DeclarationsAgain
 pub mod Inks
 pub mod ListsAgain
+pub mod RunsAgain
