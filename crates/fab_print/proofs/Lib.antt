@@ -1,4 +1,6 @@
 pub mod DeclarationsAgain
+pub mod ExpressionsAgain
+pub mod Forms
 pub mod Inks
 pub mod ListsAgain
 pub mod RunsAgain
