@@ -4,3 +4,4 @@ pub mod Forms
 pub mod Inks
 pub mod ListsAgain
 pub mod RunsAgain
+pub mod StatementsAgain
