@@ -1,6 +1,6 @@
 -- Inks as tokens, and which inks can be cut into these tokens again.
 use Rattle.std.proofs.Common.{◌≡◌, ℕ, zero, suc, ◌+◌, ◌-◌, ◌*◌, ◌<◌, Bool, true, false, ◌&&◌, ◌||◌, not, List, [], ◌∷◌, ◌++◌, length, map, Option, Some, None, refl, sym, ap, ◌∙◌, subst, arith}
-use Rattle.std.specs.Prelude.{if◌then◌else◌, All, ◌==◌, replicate}
+use Rattle.std.specs.Prelude.{if◌then◌else◌, ◌==◌, replicate}
 use Rattle.std.proofs.lemmas.Bool.Decides.{nat_tests}
 use Rattle.std.specs.List.{list_all}
 use Rattle.fab_base.specs.declared.token.Mark.{Mark}
@@ -79,11 +79,15 @@ fits sign x = is_word (edge_of x)
 
 -- ---- what a text can have
 
+abbrev pub Small : List ℕ → Type 0
+Small [] = Unit {0}
+Small (b ∷ bs) = (b < 256) × Small bs
+
 abbrev pub Well : Kind → Type 0
 Well (k.Name x) = (list_all is_word_byte x ≡ true) × (word_kind x ≡ Some (k.Name x))
 Well (k.Number n) = n < 2147483648
 Well k.Least = Unit {0}
-Well (k.Bytes bs) = All (λ b. b < 256) bs
+Well (k.Bytes bs) = Small bs
 Well (k.Fixed x) = Unit {0}
 
 abbrev pub Holds : Bool → Type 0

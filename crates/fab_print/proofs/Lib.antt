@@ -1,8 +1,10 @@
+pub mod Cutting
 pub mod DeclarationsAgain
 pub mod ExpressionsAgain
 pub mod Forms
 pub mod Inks
 pub mod ListsAgain
+pub mod Pieces
 pub mod ProgramsAgain
 pub mod RunsAgain
 pub mod StatementsAgain
