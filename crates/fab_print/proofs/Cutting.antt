@@ -1,5 +1,5 @@
 -- Inks that are clean are cut into their tokens.
-use Rattle.std.proofs.Common.{◌≡◌, ℕ, suc, ◌+◌, ◌-◌, ◌<◌, ◌≤◌, Bool, true, false, ◌&&◌, ◌||◌, not, List, [], ◌∷◌, ◌++◌, length, drop, refl, sym, ap, ◌∙◌, subst, append_assoc, length-append, arith}
+use Rattle.std.proofs.Common.{◌≡◌, ℕ, ◌+◌, ◌-◌, ◌≤◌, Bool, true, false, ◌||◌, not, List, [], ◌∷◌, ◌++◌, length, drop, refl, sym, subst, length-append, arith}
 use Rattle.std.specs.Prelude.{◌==◌}
 use Rattle.std.specs.List.{list_all}
 use Rattle.std.specs.Cmp.{first_so, second_so}
@@ -15,7 +15,7 @@ use Rattle.fab_base.specs.Tokens.{mark_text, is_space, is_word_byte, Front, stan
 use Rattle.fab_base.specs.Tokens as t
 use Rattle.fab_tree.specs.Print.{Ink, token, blank, kind_text, text_of}
 use Rattle.fab_print.proofs.Inks.{Edge, free, word, sign, edge_of, fits, Well, Holds, Clean, tokens}
-use Rattle.fab_print.proofs.Pieces.{apart, ends, front_again, drop_front, IsWord, number_word}
+use Rattle.fab_print.proofs.Pieces.{apart, front_again, drop_front, IsWord, number_word}
 
 -- ---- what follows doesn't run into what stands before
 
@@ -80,7 +80,7 @@ space_front : (b : ℕ) (bs : List ℕ) → is_space b ≡ true → front_at (b 
 space_front b bs h = rw h refl
 
 spaces_cut : (n : ℕ) (bs rest : List ℕ) (ts : List Token) → list_all is_space bs ≡ true → length (bs ++ rest) ≤ n
-  → Lexes (n - length rest) rest ts → Lexes (n - length (bs ++ rest)) (bs ++ rest) ts
+    → Lexes (n - length rest) rest ts → Lexes (n - length (bs ++ rest)) (bs ++ rest) ts
 spaces_cut n [] rest ts h room l = l
 spaces_cut n (b ∷ bs) rest ts h room l =
     let more = spaces_cut n bs rest ts (second_so (is_space b) (list_all is_space bs) h) (omega arith) l in
@@ -88,15 +88,15 @@ spaces_cut n (b ∷ bs) rest ts h room l =
     t.blank (space_front b (bs ++ rest) (first_so (is_space b) (list_all is_space bs) h)) (subst (λ at. Lexes at (bs ++ rest) ts) place more)
 
 token_cut : (n : ℕ) (x : Kind) (rest : List ℕ) (ts : List Token) → Well x → apart (edge_of x) rest ≡ true → length (kind_text x ++ rest) ≤ n
-  → Lexes (n - length rest) rest ts
-  → Lexes (n - length (kind_text x ++ rest)) (kind_text x ++ rest) (record { kind = x; at = n - length (kind_text x ++ rest); end = n - length rest } ∷ ts)
+    → Lexes (n - length rest) rest ts
+    → Lexes (n - length (kind_text x ++ rest)) (kind_text x ++ rest) (record { kind = x; at = n - length (kind_text x ++ rest); end = n - length rest } ∷ ts)
 token_cut n x rest ts w h room l =
     let text = kind_text x ++ rest in
     let place : n - length rest ≡ (n - length text) + length (kind_text x) = omega (arith, length-append (kind_text x) rest) in
     let behind : Lexes ((n - length text) + length (kind_text x)) (drop (length (kind_text x)) text) ts =
-      subst (λ at. Lexes at (drop (length (kind_text x)) text) ts) place (subst (λ y. Lexes (n - length rest) y ts) (sym (drop_front (kind_text x) rest)) l) in
+    subst (λ at. Lexes at (drop (length (kind_text x)) text) ts) place (subst (λ y. Lexes (n - length rest) y ts) (sym (drop_front (kind_text x) rest)) l) in
     subst (λ end. Lexes (n - length text) text (record { kind = x; at = n - length text; end = end } ∷ ts)) (sym place)
-      (t.token (front_again x w rest h) behind)
+    (t.token (front_again x w rest h) behind)
 
 -- clean inks are cut into their tokens
 pub cut : (n : ℕ) (e : Edge) (inks : List Ink) → Clean e inks → length (text_of inks) ≤ n → Lexes (n - length (text_of inks)) (text_of inks) (tokens n inks)
@@ -104,7 +104,7 @@ cut n e [] c room = t.over
 cut n e (blank [] ∷ more) c room = cut n e more c room
 cut n e (blank (b ∷ bs) ∷ more) c room =
     spaces_cut n (b ∷ bs) (text_of more) (tokens n more) (held (list_all is_space (b ∷ bs)) c.0) room
-      (cut n free more c.1 (omega (arith, length-append (b ∷ bs) (text_of more))))
+    (cut n free more c.1 (omega (arith, length-append (b ∷ bs) (text_of more))))
 cut n e (token x ∷ more) c room =
     token_cut n x (text_of more) (tokens n more) c.1 (clean_apart (edge_of x) more c.2) room
-      (cut n (edge_of x) more c.2 (omega (arith, length-append (kind_text x) (text_of more))))
+    (cut n (edge_of x) more c.2 (omega (arith, length-append (kind_text x) (text_of more))))

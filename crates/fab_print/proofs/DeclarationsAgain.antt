@@ -1,9 +1,7 @@
 -- What is printed for declarations is read again.
-use Rattle.std.proofs.Common.{◌≡◌, ℕ, Bool, true, false, List, [], ◌∷◌, map, refl}
-use Rattle.fab_base.specs.declared.token.Mark.{Mark}
+use Rattle.std.proofs.Common.{List, refl}
 use Rattle.fab_base.specs.declared.token.Mark.TheVariants as m
 use Rattle.fab_base.specs.declared.token.Token.{Token}
-use Rattle.fab_tree.specs.declared.name.Name.{Name}
 use Rattle.fab_tree.specs.declared.declaration.Role.{Role}
 use Rattle.fab_tree.specs.declared.declaration.Node.{Node}
 use Rattle.fab_tree.specs.declared.declaration.Delegation.{Delegation}
@@ -13,13 +11,13 @@ use Rattle.fab_tree.specs.declared.declaration.LabelText.{LabelText}
 use Rattle.fab_tree.specs.declared.declaration.Sort.{Sort}
 use Rattle.fab_tree.specs.declared.declaration.Field.{Field}
 use Rattle.fab_tree.specs.declared.declaration.Class.{Class}
-use Rattle.fab_tree.specs.Lists.{Is, is, IsName, name}
+use Rattle.fab_tree.specs.Lists.{is, name}
 use Rattle.fab_tree.specs.Declarations.{IsMachine, IsRole, IsNode, IsDelegation, IsAspect, IsPolicy, IsLabel, IsSort, IsField, IsClass}
 use Rattle.fab_tree.specs.Declarations as d
 use Rattle.fab_tree.specs.Print.{Inks, ◌>>◌, mark, space, line}
 use Rattle.fab_tree.specs.Print as print
 use Rattle.fab_tree.specs.Unplaced as unplaced
-use Rattle.fab_print.proofs.Inks.{free, word, Wells, Printed, tokens, freed, behind_it, well_name, behind_name}
+use Rattle.fab_print.proofs.Inks.{free, word, Wells, Printed, freed, behind_it, well_name, behind_name}
 use Rattle.fab_print.proofs.ListsAgain.{repeated_again, separated_again, names_again}
 
 pub role_again : {a b : List Token} {x : Role} → IsRole a x b → Wells a → Printed IsRole (λ y. y) free word print.role x b
@@ -116,7 +114,7 @@ label_again a b x (d.label h p i j q k l) w =
           record { tree = _; reads = d.label (is refl) (name refl) (is refl) (is refl) one.reads (is refl) (is refl); same = cc };
       steady = λ i.
           line 0 (mark m.Label >> space >> print.name x.name >> space >> mark m.Equal >> space
-            >> mark m.LeftBrace >> policies.steady i >> mark m.RightBrace >> mark m.Semicolon);
+          >> mark m.LeftBrace >> policies.steady i >> mark m.RightBrace >> mark m.Semicolon);
     }
 
 pub sort_again : {a b : List Token} {x : Sort} → IsSort a x b → Wells a → Printed IsSort unplaced.sort free word print.sort x b
@@ -160,6 +158,6 @@ class_again a b x (d.class h p i q j r k s l) w =
           record { tree = _; reads = d.class (is refl) (name refl) (is refl) (name refl) (is refl) (name refl) (is refl) one.reads (is refl); same = cc };
       steady = λ i.
           line 0 (mark m.Class >> space >> print.name x.name >> space >> mark m.Label >> space >> print.name x.label >> space
-            >> mark m.Access >> space >> print.name x.access >> space
-            >> mark m.LeftBrace >> space >> fields.steady i >> mark m.RightBrace);
+          >> mark m.Access >> space >> print.name x.access >> space
+          >> mark m.LeftBrace >> space >> fields.steady i >> mark m.RightBrace);
     }

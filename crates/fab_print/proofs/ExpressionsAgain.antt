@@ -1,6 +1,6 @@
 -- What is printed for expressions is read again.
-use Rattle.std.proofs.Common.{◌≡◌, ℕ, zero, suc, ◌+◌, ◌-◌, ◌<◌, ◌≤◌, Bool, true, false, List, [], ◌∷◌, map, refl, sym, ap, ◌∙◌, subst, arith, ℤ, pos, negsuc}
-use Rattle.std.specs.Prelude.{if◌then◌else◌, nat_lt, nat_le}
+use Rattle.std.proofs.Common.{◌≡◌, ℕ, zero, suc, ◌+◌, ◌-◌, ◌<◌, ◌≤◌, Bool, true, false, List, [], ◌∷◌, map, refl, sym, ap, ◌∙◌, subst, arith, pos}
+use Rattle.std.specs.Prelude.{if◌then◌else◌, nat_lt}
 use Rattle.std.proofs.lemmas.Bool.Decides.{nat_tests}
 use Rattle.fab_base.specs.declared.token.Mark.TheVariants as m
 use Rattle.fab_base.specs.declared.token.Kind.TheVariants as k
@@ -15,7 +15,7 @@ use Rattle.fab_tree.specs.declared.expression.Comparison.TheVariants as comparis
 use Rattle.fab_tree.specs.declared.expression.Expression.{Expression}
 use Rattle.fab_tree.specs.declared.expression.Form.TheVariants as f
 use Rattle.fab_tree.specs.declared.expression.Operand.{Operand}
-use Rattle.fab_tree.specs.Lists.{Is, is, IsName, name, IsNumeral, numeral, Separated, minus}
+use Rattle.fab_tree.specs.Lists.{Is, is, IsName, name, IsNumeral, numeral, minus}
 use Rattle.fab_tree.specs.Expressions.{expression_at, operand_at, placed, place_of, chain_of, IsComparison, IsOperator, IsChain, IsOthers, IsOperand, IsCompared, IsUnary, IsPrimary, IsExpression, IsArguments}
 use Rattle.fab_tree.specs.Expressions as e
 use Rattle.fab_tree.specs.Print.{Ink, Inks, ◌>>◌, mark, space, Shown, ShownOperand, at_level, level_of, shown, in_brackets}
@@ -23,8 +23,8 @@ use Rattle.fab_tree.specs.Print as print
 use Rattle.fab_tree.specs.Unplaced as unplaced
 use Rattle.fab_print.proofs.Inks.{Edge, free, word, sign, Clean, Holds, fits, freed, Wells, Printed, Again, tokens, behind_it, well_name, behind_name, few, number_clean}
 use Rattle.fab_print.proofs.ListsAgain.{separated_again}
-use Rattle.fab_print.proofs.Forms.{shape, beside, shown_at, shown_placed, beside_at, number_shape, null_shape, local_shape, read_shape, negative_shape, not_shape, chain_shape, compared_shape}
-use Rattle.fab_print.proofs.Forms.{stripped, stripped_operand, unplaced_at, unplaced_placed, stripped_at, number_stripped, null_stripped, local_stripped, read_stripped, negative_stripped, not_stripped, chain_stripped, compared_stripped}
+use Rattle.fab_print.proofs.Forms.{beside, shown_at, shown_placed, beside_at, number_shape, null_shape, local_shape, read_shape, negative_shape, not_shape, chain_shape, compared_shape}
+use Rattle.fab_print.proofs.Forms.{stripped_operand, unplaced_at, unplaced_placed, stripped_at, number_stripped, null_stripped, local_stripped, read_stripped, negative_stripped, not_stripped, chain_stripped, compared_stripped}
 
 -- ---- levels
 
@@ -92,50 +92,50 @@ record Bare (t : Expression) (b : List Token) : Type 0 where
   steady : shown (unplaced.expression t) ≡ shown t
 
 decided : (r : ℕ) → r ≤ 6 → (t : Expression) (b : List Token) (x : Bare t b) (q : Bool) → nat_lt x.form.level r ≡ q
-  → Printed (IsRank r) unplaced.expression (entry r) word (λ y. at_level r (shown y)) t b
+    → Printed (IsRank r) unplaced.expression (entry r) word (λ y. at_level r (shown y)) t b
 decided r h t b x true same =
     let g : at_level r (shown t) ≡ in_brackets x.form.inks =
-      ap (at_level r) x.is_form ∙ ap (λ q. if q then in_brackets x.form.inks else x.form.inks) same in
+    ap (at_level r) x.is_form ∙ ap (λ q. if q then in_brackets x.form.inks else x.form.inks) same in
     record {
       rest = x.rest;
       clean = λ more c.
           let bare : Clean free (x.form.inks (mark m.RightParen more)) =
-            freed (entry x.form.level) (x.form.inks (mark m.RightParen more)) (x.clean (mark m.RightParen more) (tt, tt, freed word more c)) in
+          freed (entry x.form.level) (x.form.inks (mark m.RightParen more)) (x.clean (mark m.RightParen more) (tt, tt, freed word more c)) in
           let shown : Clean (entry r) (in_brackets x.form.inks more) = (fits_bracket (entry r), tt, bare) in
           subst (λ (y : Inks). Clean (entry r) (y more)) (sym g) shown;
       again = λ n more.
           let one = x.again n (mark m.RightParen more) in
           let low : IsChain l.Or (tokens n (x.form.inks (mark m.RightParen more))) one.tree (tokens n (mark m.RightParen more)) =
-            down x.form.level 0 x.form.level _ _ _ (omega arith) one.reads in
+          down x.form.level 0 x.form.level _ _ _ (omega arith) one.reads in
           let shown : Again (IsRank r) unplaced.expression t (tokens n (in_brackets x.form.inks more)) (tokens n more) =
-            record {
-              tree = _;
-              reads = down (6 - r) r 6 _ _ _ (omega arith) (e.brackets (is refl) low (is refl));
-              same = unplaced_placed _ one.tree ∙ one.same
-            } in
+          record {
+            tree = _;
+            reads = down (6 - r) r 6 _ _ _ (omega arith) (e.brackets (is refl) low (is refl));
+            same = unplaced_placed _ one.tree ∙ one.same;
+          } in
           subst (λ (y : Inks). Again (IsRank r) unplaced.expression t (tokens n (y more)) (tokens n more)) (sym g) shown;
       steady = ap (at_level r) x.steady;
     }
 decided r h t b x false same =
     let g : at_level r (shown t) ≡ x.form.inks =
-      ap (at_level r) x.is_form ∙ ap (λ q. if q then in_brackets x.form.inks else x.form.inks) same in
+    ap (at_level r) x.is_form ∙ ap (λ q. if q then in_brackets x.form.inks else x.form.inks) same in
     let high : r ≤ x.form.level = grind (arith, nat_tests) in
     record {
       rest = x.rest;
       clean = λ more c.
           subst (λ (y : Inks). Clean (entry r) (y more)) (sym g)
-            (entry_down (x.form.level - r) r x.form.level (x.form.inks more) x.low (omega arith) (x.clean more c));
+          (entry_down (x.form.level - r) r x.form.level (x.form.inks more) x.low (omega arith) (x.clean more c));
       again = λ n more.
           let one = x.again n more in
           let shown : Again (IsRank r) unplaced.expression t (tokens n (x.form.inks more)) (tokens n more) =
-            record { tree = one.tree; reads = down (x.form.level - r) r x.form.level _ _ _ (omega arith) one.reads; same = one.same } in
+          record { tree = one.tree; reads = down (x.form.level - r) r x.form.level _ _ _ (omega arith) one.reads; same = one.same } in
           subst (λ (y : Inks). Again (IsRank r) unplaced.expression t (tokens n (y more)) (tokens n more)) (sym g) shown;
       steady = ap (at_level r) x.steady;
     }
 
 -- at a place for this level and those above it
 placed_again : (r : ℕ) → r ≤ 6 → (t : Expression) (b : List Token) → Bare t b
-  → Printed (IsRank r) unplaced.expression (entry r) word (λ y. at_level r (shown y)) t b
+    → Printed (IsRank r) unplaced.expression (entry r) word (λ y. at_level r (shown y)) t b
 placed_again r h t b x = decided r h t b x (nat_lt x.form.level r) refl
 
 -- ---- operators
@@ -190,7 +190,7 @@ operator_clean operators.Divide more c = (tt, tt, (tt, c))
 
 -- the operator again, and what stands behind it
 operator_again : {x : Level} {a b : List Token} {y : Operator} → IsOperator x a y b → (n : ℕ) (more : List Ink) (c d : List Token) (t : Expression) (ts : List Operand)
-  → IsOperand x (tokens n more) t c → IsOthers x c ts d → (at : ℕ) × IsOthers x (tokens n (print.operator y more)) (operand_at at y t ∷ ts) d
+    → IsOperand x (tokens n more) t c → IsOthers x c ts d → (at : ℕ) × IsOthers x (tokens n (print.operator y more)) (operand_at at y t ∷ ts) d
 operator_again (e.bar h) n more c d t ts p q = (_, e.one_other (e.bar (is refl)) p q)
 operator_again (e.ampersand h) n more c d t ts p q = (_, e.one_other (e.ampersand (is refl)) p q)
 operator_again (e.plus h) n more c d t ts p q = (_, e.one_other (e.plus (is refl)) p q)
@@ -229,43 +229,43 @@ record Beside (x : Level) (us : List Operand) (b : List Token) : Type 0 where
   still : map beside (map stripped_operand us) ≡ map beside us
 
 one_beside : {x : Level} {a b : List Token} {y : Operator} → IsOperator x a y b → (at : ℕ) (t : Expression) (ts : List Operand) (c d : List Token)
-  → Bare t c → Beside x ts d → Beside x (operand_at at y t ∷ ts) d
+    → Bare t c → Beside x ts d → Beside x (operand_at at y t ∷ ts) d
 one_beside {x} {y} o at t ts c d v z =
     let same_rank : level_of y ≡ rank_of x = operator_rank o in
     let low : rank_of x ≤ 4 = rank_low x in
     let one = placed_again (level_of y + 1) (omega arith) t c v in
     let g : print.operands (map beside (operand_at at y t ∷ ts)) ≡ (space >> print.operator y >> space >> at_level (level_of y + 1) (shown t) >> print.operands (map beside ts)) =
-      ap (λ w. print.operands (w ∷ map beside ts)) (beside_at at y t) in
+    ap (λ w. print.operands (w ∷ map beside ts)) (beside_at at y t) in
     let still : map beside (map stripped_operand (operand_at at y t ∷ ts)) ≡ map beside (operand_at at y t ∷ ts) =
-      cc (stripped_at at y t, beside_at at y t, beside_at 0 y (unplaced.expression t), v.steady, z.still) in
+    cc (stripped_at at y t, beside_at at y t, beside_at 0 y (unplaced.expression t), v.steady, z.still) in
     record {
       printed = record {
         rest = z.printed.rest;
         clean = λ more c.
             let inner : Clean free (at_level (level_of y + 1) (shown t) (print.operands (map beside ts) more)) =
-              freed (entry (level_of y + 1)) (at_level (level_of y + 1) (shown t) (print.operands (map beside ts) more)) (one.clean _ (z.printed.clean more c)) in
+            freed (entry (level_of y + 1)) (at_level (level_of y + 1) (shown t) (print.operands (map beside ts) more)) (one.clean _ (z.printed.clean more c)) in
             let shown : Clean word ((space >> print.operator y >> space >> at_level (level_of y + 1) (shown t) >> print.operands (map beside ts)) more) =
-              (tt, operator_clean y _ inner) in
+            (tt, operator_clean y _ inner) in
             subst (λ (i : Inks). Clean word (i more)) (sym g) shown;
         again = λ n more.
             let p = one.again n (print.operands (map beside ts) more) in
             let q = z.printed.again n more in
             let read = operator_again o n (space (at_level (level_of y + 1) (shown t) (print.operands (map beside ts) more))) _ _ _ _
-              (operand_of x _ _ _ (subst (λ r. IsRank (r + 1) (tokens n (at_level (level_of y + 1) (shown t) (print.operands (map beside ts) more))) p.tree (tokens n (print.operands (map beside ts) more))) same_rank p.reads)) q.reads in
+            (operand_of x _ _ _ (subst (λ r. IsRank (r + 1) (tokens n (at_level (level_of y + 1) (shown t) (print.operands (map beside ts) more))) p.tree (tokens n (print.operands (map beside ts) more))) same_rank p.reads)) q.reads in
             let shown : Again (IsOthers x) (map stripped_operand) (operand_at at y t ∷ ts) (tokens n ((space >> print.operator y >> space >> at_level (level_of y + 1) (shown t) >> print.operands (map beside ts)) more)) (tokens n more) =
-              record {
-                tree = operand_at read.0 y p.tree ∷ q.tree;
-                reads = read.1;
-                same = cc (stripped_at at y t, stripped_at read.0 y p.tree, p.same, q.same)
-              } in
+            record {
+              tree = operand_at read.0 y p.tree ∷ q.tree;
+              reads = read.1;
+              same = cc (stripped_at at y t, stripped_at read.0 y p.tree, p.same, q.same);
+            } in
             subst (λ (i : Inks). Again (IsOthers x) (map stripped_operand) (operand_at at y t ∷ ts) (tokens n (i more)) (tokens n more)) (sym g) shown;
-        steady = ap print.operands still
+        steady = ap print.operands still;
       };
       still = still;
     }
 
 same_chain : (t : Expression) (us : List Operand) (u : Expression) (vs : List Operand) → unplaced.expression u ≡ unplaced.expression t → map stripped_operand vs ≡ map stripped_operand us
-  → unplaced.expression (chain_of u vs) ≡ unplaced.expression (chain_of t us)
+    → unplaced.expression (chain_of u vs) ≡ unplaced.expression (chain_of t us)
 same_chain t [] u [] p q = p
 same_chain t [] u (v ∷ vs) p q = absurd (cc)
 same_chain t (w ∷ us) u [] p q = absurd (cc)
@@ -287,19 +287,19 @@ chain_bare {x} t b v (e.one_other {u} {x = y} {t = s} {ts} o p q) z =
       rest = z.printed.rest;
       clean = λ more c.
           entered level (at_level (level + 1) (shown t) (print.operands (map beside us) more)) (omega arith)
-            (freed (entry (level + 1)) (at_level (level + 1) (shown t) (print.operands (map beside us) more)) (one.clean _ (z.printed.clean more c)));
+          (freed (entry (level + 1)) (at_level (level + 1) (shown t) (print.operands (map beside us) more)) (one.clean _ (z.printed.clean more c)));
       again = λ n more.
           let p = one.again n (print.operands (map beside us) more) in
           let q = z.printed.again n more in
           record {
             tree = chain_of p.tree q.tree;
             reads = subst (λ r. IsRank r (tokens n (at_level (level + 1) (shown t) (print.operands (map beside us) more))) (chain_of p.tree q.tree) (tokens n more)) (sym same_rank)
-              (chain_at x _ _ _ (e.chain (operand_of x _ _ _ (subst (λ r. IsRank (r + 1) (tokens n (at_level (level + 1) (shown t) (print.operands (map beside us) more))) p.tree (tokens n (print.operands (map beside us) more))) same_rank p.reads)) q.reads));
-            same = same_chain t us p.tree q.tree p.same q.same
+                (chain_at x _ _ _ (e.chain (operand_of x _ _ _ (subst (λ r. IsRank (r + 1) (tokens n (at_level (level + 1) (shown t) (print.operands (map beside us) more))) p.tree (tokens n (print.operands (map beside us) more))) same_rank p.reads)) q.reads));
+            same = same_chain t us p.tree q.tree p.same q.same;
           };
       steady =
           ap shown (unplaced_at _ _ ∙ ap (expression_at 0) (chain_stripped t us)) ∙ shown_at _ _ ∙ chain_shape (unplaced.expression t) (map stripped_operand us)
-            ∙ (λ i. print.shown_chain (v.steady i) (z.still i)) ∙ sym (shown_at _ _ ∙ chain_shape t us);
+          ∙ (λ i. print.shown_chain (v.steady i) (z.still i)) ∙ sym (shown_at _ _ ∙ chain_shape t us);
     }
 
 -- ---- the forms
@@ -320,12 +320,12 @@ compared_bare t u x b d v o w =
           record {
             tree = _;
             reads = e.compared p.reads (comparison_again o n (space (at_level 3 (shown u) more))) q.reads;
-            same = cc (unplaced_at (place_of t) (f.Compared t x u), unplaced_at (place_of p.tree) (f.Compared p.tree x q.tree), compared_stripped t x u, compared_stripped p.tree x q.tree, p.same, q.same)
+            same = cc (unplaced_at (place_of t) (f.Compared t x u), unplaced_at (place_of p.tree) (f.Compared p.tree x q.tree), compared_stripped t x u, compared_stripped p.tree x q.tree, p.same, q.same);
           };
       steady =
           ap shown (unplaced_at _ _ ∙ ap (expression_at 0) (compared_stripped t x u)) ∙ shown_at _ _ ∙ compared_shape (unplaced.expression t) x (unplaced.expression u)
-            ∙ (λ i. record { level = 2; inks = at_level 3 (v.steady i) >> space >> print.comparison x >> space >> at_level 3 (w.steady i) })
-            ∙ sym (shown_at _ _ ∙ compared_shape t x u);
+          ∙ (λ i. record { level = 2; inks = at_level 3 (v.steady i) >> space >> print.comparison x >> space >> at_level 3 (w.steady i) })
+          ∙ sym (shown_at _ _ ∙ compared_shape t x u);
     }
 
 negative_bare : (at : ℕ) (t : Expression) (b : List Token) → Bare t b → Bare (expression_at at (f.Negative t)) b
@@ -342,11 +342,11 @@ negative_bare at t b v =
           record {
             tree = _;
             reads = e.negative (is refl) p.reads;
-            same = unplaced_at _ (f.Negative p.tree) ∙ ap (expression_at 0) (negative_stripped p.tree ∙ ap f.Negative p.same ∙ sym (negative_stripped t)) ∙ sym (unplaced_at at (f.Negative t))
+            same = unplaced_at _ (f.Negative p.tree) ∙ ap (expression_at 0) (negative_stripped p.tree ∙ ap f.Negative p.same ∙ sym (negative_stripped t)) ∙ sym (unplaced_at at (f.Negative t));
           };
       steady =
           ap shown (unplaced_at _ _ ∙ ap (expression_at 0) (negative_stripped t)) ∙ shown_at _ _ ∙ negative_shape (unplaced.expression t)
-            ∙ (λ i. record { level = 5; inks = mark m.Minus >> at_level 6 (v.steady i) }) ∙ sym (shown_at _ _ ∙ negative_shape t);
+          ∙ (λ i. record { level = 5; inks = mark m.Minus >> at_level 6 (v.steady i) }) ∙ sym (shown_at _ _ ∙ negative_shape t);
     }
 
 contrary_bare : (at : ℕ) (t : Expression) (b : List Token) → Bare t b → Bare (expression_at at (f.Not t)) b
@@ -363,11 +363,11 @@ contrary_bare at t b v =
           record {
             tree = _;
             reads = e.contrary (is refl) p.reads;
-            same = unplaced_at _ (f.Not p.tree) ∙ ap (expression_at 0) (not_stripped p.tree ∙ ap f.Not p.same ∙ sym (not_stripped t)) ∙ sym (unplaced_at at (f.Not t))
+            same = unplaced_at _ (f.Not p.tree) ∙ ap (expression_at 0) (not_stripped p.tree ∙ ap f.Not p.same ∙ sym (not_stripped t)) ∙ sym (unplaced_at at (f.Not t));
           };
       steady =
           ap shown (unplaced_at _ _ ∙ ap (expression_at 0) (not_stripped t)) ∙ shown_at _ _ ∙ not_shape (unplaced.expression t)
-            ∙ (λ i. record { level = 5; inks = mark m.Bang >> at_level 6 (v.steady i) }) ∙ sym (shown_at _ _ ∙ not_shape t);
+          ∙ (λ i. record { level = 5; inks = mark m.Bang >> at_level 6 (v.steady i) }) ∙ sym (shown_at _ _ ∙ not_shape t);
     }
 
 least_bare : (at : ℕ) (b : List Token) → Wells b → Bare (expression_at at (f.Number (minus 2147483648))) b
@@ -380,7 +380,7 @@ least_bare at b w = record {
   again = λ n more. record {
     tree = _;
     reads = e.least (is refl) refl;
-    same = unplaced_at _ (f.Number (minus 2147483648)) ∙ sym (unplaced_at at (f.Number (minus 2147483648)))
+    same = unplaced_at _ (f.Number (minus 2147483648)) ∙ sym (unplaced_at at (f.Number (minus 2147483648)));
   };
   steady = ap shown (unplaced_at _ _ ∙ ap (expression_at 0) (number_stripped (minus 2147483648))) ∙ shown_at _ _ ∙ sym (shown_at _ _);
 }
@@ -395,7 +395,7 @@ number_bare at (numeral {n} i h) w = record {
   again = λ n0 more. record {
     tree = _;
     reads = e.number (numeral (few n h) h);
-    same = unplaced_at _ (f.Number (pos n)) ∙ sym (unplaced_at at (f.Number (pos n)))
+    same = unplaced_at _ (f.Number (pos n)) ∙ sym (unplaced_at at (f.Number (pos n)));
   };
   steady = ap shown (unplaced_at _ _ ∙ ap (expression_at 0) (number_stripped (pos n))) ∙ shown_at _ _ ∙ sym (shown_at _ _);
 }
@@ -421,7 +421,7 @@ local_bare {x} p w = record {
   again = λ n more. record {
     tree = _;
     reads = e.local (name refl);
-    same = unplaced_at _ (f.Local _) ∙ ap (expression_at 0) (local_stripped _ ∙ sym (local_stripped x)) ∙ sym (unplaced_at x.at (f.Local x))
+    same = unplaced_at _ (f.Local _) ∙ ap (expression_at 0) (local_stripped _ ∙ sym (local_stripped x)) ∙ sym (unplaced_at x.at (f.Local x));
   };
   steady = ap shown (unplaced_at _ _ ∙ ap (expression_at 0) (local_stripped x)) ∙ shown_at _ _ ∙ local_shape (unplaced.name x) ∙ sym (shown_at _ _ ∙ local_shape x);
 }
@@ -436,11 +436,11 @@ read_bare {x} {y} p h q w = record {
   again = λ n more. record {
     tree = _;
     reads = e.read (name refl) (is refl) (name refl);
-    same = unplaced_at _ (f.Read _ _) ∙ ap (expression_at 0) (read_stripped _ _ ∙ sym (read_stripped x y)) ∙ sym (unplaced_at x.at (f.Read x y))
+    same = unplaced_at _ (f.Read _ _) ∙ ap (expression_at 0) (read_stripped _ _ ∙ sym (read_stripped x y)) ∙ sym (unplaced_at x.at (f.Read x y));
   };
   steady =
       ap shown (unplaced_at _ _ ∙ ap (expression_at 0) (read_stripped x y)) ∙ shown_at _ _ ∙ read_shape (unplaced.name x) (unplaced.name y)
-        ∙ sym (shown_at _ _ ∙ read_shape x y);
+      ∙ sym (shown_at _ _ ∙ read_shape x y);
 }
 
 brackets_bare : (at : ℕ) (t : Expression) {b c : List Token} → Is m.RightParen b c → Bare t b → Bare (placed at t) c
@@ -503,5 +503,5 @@ pub expression_again : (a b : List Token) (x : Expression) → IsExpression a x 
 expression_again a b x p w = placed_again 0 (omega arith) x b (bare_chain p w)
 
 pub arguments_again : {a b : List Token} {xs : List Expression} → IsArguments a xs b → Wells a
-  → Printed IsArguments unplaced.expressions free word (λ ys. print.separated m.Comma (map print.expression ys)) xs b
+    → Printed IsArguments unplaced.expressions free word (λ ys. print.separated m.Comma (map print.expression ys)) xs b
 arguments_again p w = separated_again m.Comma tt expression_again p w

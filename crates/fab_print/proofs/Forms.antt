@@ -1,9 +1,9 @@
 -- What is shown of each form of an expression, and the form without places.
-use Rattle.std.proofs.Common.{◌≡◌, ℕ, ℤ, List, [], ◌∷◌, map, refl, sym, ap, ◌∙◌}
+use Rattle.std.proofs.Common.{◌≡◌, ℕ, ℤ, List, map, sym, ap, ◌∙◌}
 use Rattle.fab_tree.specs.declared.name.Name.{Name}
 use Rattle.fab_tree.specs.declared.expression.Operator.{Operator}
 use Rattle.fab_tree.specs.declared.expression.Comparison.{Comparison}
-use Rattle.fab_tree.specs.declared.expression.Expression.{Expression, roll-Expression, out-Expression, fold-Expression, fold-roll-Expression, roll-out-Expression}
+use Rattle.fab_tree.specs.declared.expression.Expression.{Expression, out-Expression, fold-roll-Expression, roll-out-Expression}
 use Rattle.fab_tree.specs.declared.expression.Form.{Form, roll-Form, map-Form, fold-Form, fold-roll-Form}
 use Rattle.fab_tree.specs.declared.expression.Form.TheVariants as f
 use Rattle.fab_tree.specs.declared.expression.Form.TheOpen as o
@@ -23,7 +23,7 @@ beside = fold-Operand Shown Shown ShownOperand shown_form (λ e. e.form) (λ u. 
 pub shown_at : (at : ℕ) (x : Form) → shown (expression_at at x) ≡ shape x
 shown_at at x =
     fold-roll-Expression Shown Shown ShownOperand shown_form (λ e. e.form) (λ u. record { operator = u.operator; operand = u.operand })
-      (record { form = x; at = at })
+    (record { form = x; at = at })
 
 -- brackets change nothing
 pub shown_placed : (at : ℕ) (t : Expression) → shown (placed at t) ≡ shown t
@@ -33,12 +33,12 @@ shown_placed at t =
 pub beside_at : (at : ℕ) (x : Operator) (t : Expression) → beside (operand_at at x t) ≡ record { operator = x; operand = shown t }
 beside_at at x t =
     fold-roll-Operand Shown Shown ShownOperand shown_form (λ e. e.form) (λ u. record { operator = u.operator; operand = u.operand })
-      (record { operator = x; at = at; operand = t })
+    (record { operator = x; at = at; operand = t })
 
 shape_of : (d : o.Form-F Form Expression Operand) (x : Form) → roll-Form d ≡ x → shape x ≡ shown_form (map-Form Form Expression Operand Shown Shown ShownOperand shape shown beside d)
 shape_of d x e =
     ap shape (sym e)
-      ∙ fold-roll-Form Shown Shown ShownOperand shown_form (λ e. e.form) (λ u. record { operator = u.operator; operand = u.operand }) d
+    ∙ fold-roll-Form Shown Shown ShownOperand shown_form (λ e. e.form) (λ u. record { operator = u.operator; operand = u.operand }) d
 
 pub number_shape : (n : ℤ) → shape (f.Number n) ≡ shown_number n
 number_shape n = shape_of (o.Number n) _ (f.rolls-Number n)
@@ -75,22 +75,22 @@ stripped_operand = fold-Operand Form Expression Operand unplaced.form_step (λ e
 pub unplaced_at : (at : ℕ) (x : Form) → unplaced.expression (expression_at at x) ≡ expression_at 0 (stripped x)
 unplaced_at at x =
     fold-roll-Expression Form Expression Operand unplaced.form_step (λ e. expression_at 0 e.form) (λ u. operand_at 0 u.operator u.operand)
-      (record { form = x; at = at })
+    (record { form = x; at = at })
 
 pub unplaced_placed : (at : ℕ) (t : Expression) → unplaced.expression (placed at t) ≡ unplaced.expression t
 unplaced_placed at t =
     unplaced_at at (out-Expression t).form ∙ sym (unplaced_at (out-Expression t).at (out-Expression t).form)
-      ∙ ap unplaced.expression (roll-out-Expression t)
+    ∙ ap unplaced.expression (roll-out-Expression t)
 
 pub stripped_at : (at : ℕ) (x : Operator) (t : Expression) → stripped_operand (operand_at at x t) ≡ operand_at 0 x (unplaced.expression t)
 stripped_at at x t =
     fold-roll-Operand Form Expression Operand unplaced.form_step (λ e. expression_at 0 e.form) (λ u. operand_at 0 u.operator u.operand)
-      (record { operator = x; at = at; operand = t })
+    (record { operator = x; at = at; operand = t })
 
 stripped_of : (d : o.Form-F Form Expression Operand) (x : Form) → roll-Form d ≡ x → stripped x ≡ unplaced.form_step (map-Form Form Expression Operand Form Expression Operand stripped unplaced.expression stripped_operand d)
 stripped_of d x e =
     ap stripped (sym e)
-      ∙ fold-roll-Form Form Expression Operand unplaced.form_step (λ e. expression_at 0 e.form) (λ u. operand_at 0 u.operator u.operand) d
+    ∙ fold-roll-Form Form Expression Operand unplaced.form_step (λ e. expression_at 0 e.form) (λ u. operand_at 0 u.operator u.operand) d
 
 pub number_stripped : (n : ℤ) → stripped (f.Number n) ≡ f.Number n
 number_stripped n = stripped_of (o.Number n) _ (f.rolls-Number n)

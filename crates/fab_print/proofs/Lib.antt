@@ -1,5 +1,6 @@
 pub mod Cutting
 pub mod DeclarationsAgain
+mod Examples
 pub mod ExpressionsAgain
 pub mod Forms
 pub mod Inks

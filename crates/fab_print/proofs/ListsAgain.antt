@@ -1,15 +1,15 @@
 -- What is printed for names and lists is read again.
-use Rattle.std.proofs.Common.{◌≡◌, ℕ, List, [], ◌∷◌, map, refl, Option, Some, None}
+use Rattle.std.proofs.Common.{List, [], ◌∷◌, map, refl}
 use Rattle.fab_base.specs.declared.token.Mark.{Mark}
 use Rattle.fab_base.specs.declared.token.Mark.TheVariants as m
 use Rattle.fab_base.specs.declared.token.Kind.TheVariants as k
 use Rattle.fab_base.specs.declared.token.Token.{Token}
 use Rattle.fab_tree.specs.declared.name.Name.{Name}
-use Rattle.fab_tree.specs.Lists.{Is, is, IsName, name, Repeated, no_more, one_more, Separated, none, some, Behind, behind}
+use Rattle.fab_tree.specs.Lists.{is, IsName, name, Repeated, no_more, one_more, Separated, none, some, Behind, behind}
 use Rattle.fab_tree.specs.Print.{Ink, token, blank, Inks, ◌>>◌}
 use Rattle.fab_tree.specs.Print as print
 use Rattle.fab_tree.specs.Unplaced as unplaced
-use Rattle.fab_print.proofs.Inks.{Edge, free, word, Clean, Wells, Holds, Printed, tokens, fits, freed, behind_it, well_name, behind_name}
+use Rattle.fab_print.proofs.Inks.{free, word, Wells, Holds, Printed, fits, freed, behind_it, well_name, behind_name}
 
 pub name_again : (a b : List Token) (x : Name) → IsName a x b → Wells a → Printed IsName unplaced.name free word print.name x b
 name_again a b x p w = record {

@@ -1,5 +1,5 @@
 -- Pieces of a text: which tokens a text can have, and that each such token is found at the front of a text that begins with it.
-use Rattle.std.proofs.Common.{◌≡◌, ℕ, zero, suc, ◌+◌, ◌-◌, ◌*◌, ◌/◌, ◌%◌, ◌^◌, ◌<◌, ◌≤◌, Bool, true, false, ◌&&◌, ◌||◌, not, cond, List, [], ◌∷◌, ◌++◌, length, drop, take, get_or, Option, Some, None, refl, sym, ap, ◌∙◌, subst, append_assoc, length-append, arith, codes}
+use Rattle.std.proofs.Common.{◌≡◌, ℕ, zero, suc, ◌+◌, ◌-◌, ◌*◌, ◌/◌, ◌%◌, ◌^◌, ◌<◌, Bool, true, false, ◌&&◌, ◌||◌, not, cond, List, [], ◌∷◌, ◌++◌, length, drop, get_or, Option, Some, None, refl, sym, ap, ◌∙◌, subst, append_assoc, length-append, arith, codes}
 use Rattle.std.specs.Prelude.{if◌then◌else◌, ◌==◌, nat_lt, nat_le, nat_eq, find, take_while}
 use Rattle.std.specs.List.{list_all, starts_with}
 use Rattle.std.specs.Str.{bytes_eq}
@@ -7,7 +7,6 @@ use Rattle.std.specs.Char.{is_ascii_digit}
 use Rattle.std.specs.Cmp.{first_so, second_so}
 use Rattle.std.specs.Fmt.{decimal, digit_glyph}
 use Rattle.std.proofs.lemmas.Bool.Decides.{nat_tests}
-use Rattle.std.proofs.lemmas.Bool.{eqb-true}
 use Rattle.std.proofs.lemmas.Fmt.{decimal_by_steps, decimal_digit, first_decimal}
 use Rattle.std.proofs.lemmas.List.Sums.{take_while-cons}
 use Rattle.std.proofs.lemmas.List.Folds.{list_all-append}
@@ -54,7 +53,7 @@ run_whole p [] (y ∷ ys) h e =
     take_while-cons p y ys ∙ ap (λ q. cond q (y ∷ take_while p ys) []) g
 run_whole p (x ∷ xs) ys h e =
     take_while-cons p x (xs ++ ys) ∙ ap (λ q. cond q (x ∷ take_while p (xs ++ ys)) []) (first_so (p x) (list_all p xs) h)
-      ∙ ap (λ zs. x ∷ zs) (run_whole p xs ys (second_so (p x) (list_all p xs) h) e)
+    ∙ ap (λ zs. x ∷ zs) (run_whole p xs ys (second_so (p x) (list_all p xs) h) e)
 
 -- ---- which tokens a text can have
 
@@ -73,14 +72,14 @@ keyword_well w (Some x) other h = tt
 number_well : (w : List ℕ) (n : ℕ) → WordWell w (number_kind n)
 number_well w n =
     on_if (WordWell w) (nat_le n 2147483647) (Some (k.Number n)) (if n == 2147483648 then Some k.Least else None)
-      (λ e. let h : n < 2147483648 = grind (arith, nat_tests) in h)
-      (λ e. on_if (WordWell w) (n == 2147483648) (Some k.Least) None (λ g. tt) (λ g. tt))
+    (λ e. let h : n < 2147483648 = grind (arith, nat_tests) in h)
+    (λ e. on_if (WordWell w) (n == 2147483648) (Some k.Least) None (λ g. tt) (λ g. tt))
 
 word_well : (w : List ℕ) → WordWell w (word_kind w)
 word_well w =
     keyword_well w (keyword_of w) _
-      (on_if (WordWell w) (is_name_text w) (Some (k.Name w)) (if is_numeral w then number_kind (value_from 0 w) else None) (λ e. refl)
-        (λ e. on_if (WordWell w) (is_numeral w) (number_kind (value_from 0 w)) None (λ g. number_well w (value_from 0 w)) (λ g. tt)))
+    (on_if (WordWell w) (is_name_text w) (Some (k.Name w)) (if is_numeral w then number_kind (value_from 0 w) else None) (λ e. refl)
+    (λ e. on_if (WordWell w) (is_numeral w) (number_kind (value_from 0 w)) None (λ g. number_well w (value_from 0 w)) (λ g. tt)))
 
 abbrev FrontWell : Front → Type 0
 FrontWell (unfit n) = Unit {0}
@@ -110,8 +109,8 @@ bytes_small (a ∷ b ∷ ds) h =
 quoted_well : (bs : List ℕ) → FrontWell (quoted_at bs)
 quoted_well bs =
     on_if FrontWell (length (digits_at bs) % 2 == 0 && starts_with nat_eq (drop (length (digits_at bs)) bs) (34 ∷ []))
-      (stands (p.Spelled (k.Bytes (bytes_of (digits_at bs))) (length (digits_at bs) + 2))) (unfit (length (digits_at bs) + 1))
-      (λ e. bytes_small (digits_at bs) (run_passes is_hex_digit bs)) (λ e. tt)
+    (stands (p.Spelled (k.Bytes (bytes_of (digits_at bs))) (length (digits_at bs) + 2))) (unfit (length (digits_at bs) + 1))
+    (λ e. bytes_small (digits_at bs) (run_passes is_hex_digit bs)) (λ e. tt)
 
 sign_well : (o : Option Mark) → FrontWell (front_of (sign_piece o))
 sign_well None = tt
@@ -124,8 +123,8 @@ front_well (b ∷ bs) =
     (λ e. on_if FrontWell (starts_with nat_eq (b ∷ bs) (codes "//")) _ _ (λ e. tt)
     (λ e. on_if FrontWell (b == 34) _ _ (λ e. quoted_well bs)
     (λ e. on_if FrontWell (is_word_byte b) _ _
-      (λ e. spelled_well (word_at (b ∷ bs)) (run_passes is_word_byte (b ∷ bs)) (word_kind (word_at (b ∷ bs))) refl (word_well (word_at (b ∷ bs))) _)
-      (λ e. sign_well (sign_at (b ∷ bs))))))
+    (λ e. spelled_well (word_at (b ∷ bs)) (run_passes is_word_byte (b ∷ bs)) (word_kind (word_at (b ∷ bs))) refl (word_well (word_at (b ∷ bs))) _)
+    (λ e. sign_well (sign_at (b ∷ bs))))))
 
 -- the tokens of a text
 pub wells : {at : ℕ} {bytes : List ℕ} {ts : List Token} → Lexes at bytes ts → Wells ts
@@ -141,11 +140,11 @@ pub record IsWord (w : List ℕ) (x : Kind) : Type 0 where
   pub is_kind : word_kind w ≡ Some x
 
 pick : {A : Type 0} (a b c d e : A) (p q r s : Bool) → p ≡ false → q ≡ false → r ≡ false → s ≡ true
-  → (if p then a else (if q then b else (if r then c else (if s then d else e)))) ≡ d
+    → (if p then a else (if q then b else (if r then c else (if s then d else e)))) ≡ d
 pick a b c d e p q r s h i j l =
     ap (λ x. if x then a else (if q then b else (if r then c else (if s then d else e)))) h
-      ∙ ap (λ x. if x then b else (if r then c else (if s then d else e))) i ∙ ap (λ x. if x then c else (if s then d else e)) j
-      ∙ ap (λ x. if x then d else e) l
+    ∙ ap (λ x. if x then b else (if r then c else (if s then d else e))) i ∙ ap (λ x. if x then c else (if s then d else e)) j
+    ∙ ap (λ x. if x then d else e) l
 
 no_space : (b : ℕ) → is_word_byte b ≡ true → is_space b ≡ false
 no_space b h = grind (arith, nat_tests)
@@ -165,8 +164,8 @@ word_front (b ∷ bs) x rest h e =
     let first = first_so (is_word_byte b) (list_all is_word_byte bs) h.run in
     let whole : word_at (b ∷ (bs ++ rest)) ≡ b ∷ bs = run_whole is_word_byte (b ∷ bs) rest h.run e in
     pick _ _ _ _ _ (is_space b) (starts_with nat_eq (b ∷ (bs ++ rest)) (codes "//")) (b == 34) (is_word_byte b)
-      (no_space b first) (no_comment b (bs ++ rest) (no_slash b first)) (no_quote b first) first
-      ∙ ap (λ w. front_of (spelled (word_kind w) (length w))) whole ∙ ap (λ o. front_of (spelled o (suc (length bs)))) h.is_kind
+    (no_space b first) (no_comment b (bs ++ rest) (no_slash b first)) (no_quote b first) first
+    ∙ ap (λ w. front_of (spelled (word_kind w) (length w))) whole ∙ ap (λ o. front_of (spelled o (suc (length bs)))) h.is_kind
 
 -- ---- numbers
 
@@ -185,12 +184,12 @@ digit_test d h = grind (arith, nat_tests)
 decimal_digits : (n : ℕ) → n < 2 ^ 64 → IsDigits n (decimal n)
 decimal_digits =
     decimal_by_steps IsDigits
-      (λ n h. record { all = both (is_ascii_digit (48 + n)) true (digit_test n h) refl; some = omega arith; value = omega arith })
-      (λ n ds h g. record {
-        all = list_all-append is_ascii_digit ds ((48 + n % 10) ∷ []) ∙ both (list_all is_ascii_digit ds) _ g.all (both (is_ascii_digit (48 + n % 10)) true (digit_test (n % 10) (omega arith)) refl);
-        some = omega (arith, length-append ds ((48 + n % 10) ∷ []));
-        value = omega (arith, value_push 0 ds (48 + n % 10), g.value)
-      })
+    (λ n h. record { all = both (is_ascii_digit (48 + n)) true (digit_test n h) refl; some = omega arith; value = omega arith })
+    (λ n ds h g. record {
+      all = list_all-append is_ascii_digit ds ((48 + n % 10) ∷ []) ∙ both (list_all is_ascii_digit ds) _ g.all (both (is_ascii_digit (48 + n % 10)) true (digit_test (n % 10) (omega arith)) refl);
+      some = omega (arith, length-append ds ((48 + n % 10) ∷ []));
+      value = omega (arith, value_push 0 ds (48 + n % 10), g.value);
+    })
 
 digit_byte : (d : ℕ) → is_ascii_digit d ≡ true → is_word_byte d ≡ true
 digit_byte d h = grind (arith, nat_tests)
@@ -199,7 +198,7 @@ digits_run : (ds : List ℕ) → list_all is_ascii_digit ds ≡ true → list_al
 digits_run [] h = refl
 digits_run (d ∷ ds) h =
     both (is_word_byte d) (list_all is_word_byte ds) (digit_byte d (first_so (is_ascii_digit d) (list_all is_ascii_digit ds) h))
-      (digits_run ds (second_so (is_ascii_digit d) (list_all is_ascii_digit ds) h))
+    (digits_run ds (second_so (is_ascii_digit d) (list_all is_ascii_digit ds) h))
 
 abbrev letter : List ℕ → Bool
 letter [] = false
@@ -213,8 +212,8 @@ none_of : (d : ℕ) (ds : List ℕ) (xs : List Mark) → d < 97 → list_all (λ
 none_of d ds [] h l = refl
 none_of d ds (x ∷ xs) h l =
     ap (λ q. cond q (Some x) (find (λ y. bytes_eq (mark_text y) (d ∷ ds)) xs))
-      (unlike d ds (mark_text x) h (first_so (letter (mark_text x)) (list_all (λ y. letter (mark_text y)) xs) l))
-      ∙ none_of d ds xs h (second_so (letter (mark_text x)) (list_all (λ y. letter (mark_text y)) xs) l)
+    (unlike d ds (mark_text x) h (first_so (letter (mark_text x)) (list_all (λ y. letter (mark_text y)) xs) l))
+    ∙ none_of d ds xs h (second_so (letter (mark_text x)) (list_all (λ y. letter (mark_text y)) xs) l)
 
 keyword_letters : list_all (λ x. letter (mark_text x)) keywords ≡ true
 keyword_letters = refl
@@ -237,8 +236,8 @@ digits_kind n (d ∷ ds) h i lead =
     let some : nat_lt 0 (length (d ∷ ds)) ≡ true = grind (arith, nat_tests) in
     let is_one : is_numeral (d ∷ ds) ≡ true = both (nat_lt 0 (length (d ∷ ds)) && list_all is_ascii_digit (d ∷ ds)) _ (both _ _ some i.all) lead in
     ap (λ o. keyword_or o (if is_name_text (d ∷ ds) then Some (k.Name (d ∷ ds)) else (if is_numeral (d ∷ ds) then number_kind (value_from 0 (d ∷ ds)) else None))) no_key
-      ∙ ap (λ q. if q then Some (k.Name (d ∷ ds)) else (if is_numeral (d ∷ ds) then number_kind (value_from 0 (d ∷ ds)) else None)) no_name
-      ∙ ap (λ q. if q then number_kind (value_from 0 (d ∷ ds)) else None) is_one ∙ ap number_kind i.value ∙ small_kind n h
+    ∙ ap (λ q. if q then Some (k.Name (d ∷ ds)) else (if is_numeral (d ∷ ds) then number_kind (value_from 0 (d ∷ ds)) else None)) no_name
+    ∙ ap (λ q. if q then number_kind (value_from 0 (d ∷ ds)) else None) is_one ∙ ap number_kind i.value ∙ small_kind n h
 
 lead_by : (n : ℕ) (ds : List ℕ) → decimal n ≡ ds → n < 2147483648 → (length ds == 1 || not (get_or ds 0 0 == 48)) ≡ true
 lead_by zero ds e h = subst (λ ds. (length ds == 1 || not (get_or ds 0 0 == 48)) ≡ true) (sym (decimal_digit 0 (omega arith)) ∙ e) refl
@@ -256,7 +255,7 @@ number_word n h =
 glyph : (d : ℕ) → d < 16 → (is_hex_digit (digit_glyph false d) ≡ true) × (hex_value (digit_glyph false d) ≡ d)
 glyph d h =
     on_if (λ x. (is_hex_digit x ≡ true) × (hex_value x ≡ d)) (nat_lt d 10) (48 + d) (87 + d)
-      (λ e. (grind (arith, nat_tests), grind (arith, nat_tests))) (λ e. (grind (arith, nat_tests), grind (arith, nat_tests)))
+    (λ e. (grind (arith, nat_tests), grind (arith, nat_tests))) (λ e. (grind (arith, nat_tests), grind (arith, nat_tests)))
 
 record AreDigits (bs ds : List ℕ) : Type 0 where
   run : list_all is_hex_digit ds ≡ true
@@ -290,8 +289,8 @@ quoted_front bs rest s =
     let even : (length (digits_of bs) % 2 == 0) ≡ true = ap (λ n. n == 0) zero_rest in
     let closes : starts_with nat_eq (drop (length (digits_of bs)) text) (34 ∷ []) ≡ true = ap (λ x. starts_with nat_eq x (34 ∷ [])) (drop_front (digits_of bs) (34 ∷ rest)) in
     ap (λ ds. if length ds % 2 == 0 && starts_with nat_eq (drop (length ds) text) (34 ∷ []) then stands (p.Spelled (k.Bytes (bytes_of ds)) (length ds + 2)) else unfit (length ds + 1)) whole
-      ∙ ap (λ q. if q then stands (p.Spelled (k.Bytes (bytes_of (digits_of bs))) (length (digits_of bs) + 2)) else unfit (length (digits_of bs) + 1)) (both _ _ even closes)
-      ∙ ap (λ x. stands (p.Spelled (k.Bytes x) (length (digits_of bs) + 2))) i.back
+    ∙ ap (λ q. if q then stands (p.Spelled (k.Bytes (bytes_of (digits_of bs))) (length (digits_of bs) + 2)) else unfit (length (digits_of bs) + 1)) (both _ _ even closes)
+    ∙ ap (λ x. stands (p.Spelled (k.Bytes x) (length (digits_of bs) + 2))) i.back
 
 -- ---- signs
 
@@ -315,7 +314,7 @@ less_front [] h = refl
 less_front (c ∷ cs) h =
     let e = not_signs c h in
     ap (λ q. front_of (sign_piece (cond (q && true) (Some m.BackArrow) (cond (nat_eq 61 c && true) (Some m.LessEqual) (Some m.Less))))) e.1
-      ∙ ap (λ q. front_of (sign_piece (cond (q && true) (Some m.LessEqual) (Some m.Less)))) e.2
+    ∙ ap (λ q. front_of (sign_piece (cond (q && true) (Some m.LessEqual) (Some m.Less)))) e.2
 
 greater_front : (rest : List ℕ) → apart sign rest ≡ true → front_at (mark_text m.Greater ++ rest) ≡ stands (p.Spelled (k.Fixed m.Greater) 1)
 greater_front [] h = refl

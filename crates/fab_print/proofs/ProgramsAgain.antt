@@ -1,5 +1,5 @@
 -- What is printed for methods, programs and whole bundles is read again.
-use Rattle.std.proofs.Common.{◌≡◌, ℕ, Bool, true, false, List, [], ◌∷◌, map, refl, ap, Option, Some, None}
+use Rattle.std.proofs.Common.{Bool, List, [], refl, Option, None}
 use Rattle.std.specs.Prelude.{option_map}
 use Rattle.fab_base.specs.declared.token.Mark.TheVariants as m
 use Rattle.fab_base.specs.declared.token.Token.{Token}
@@ -10,14 +10,14 @@ use Rattle.fab_tree.specs.declared.program.Return.{Return}
 use Rattle.fab_tree.specs.declared.program.Method.{Method}
 use Rattle.fab_tree.specs.declared.program.Program.{Program}
 use Rattle.fab_tree.specs.declared.start.Start.{Start}
-use Rattle.fab_tree.specs.Lists.{Is, is, IsName, name, Perhaps, without, with_it, Separated, some}
+use Rattle.fab_tree.specs.Lists.{is, name, Perhaps, without, with_it}
 use Rattle.fab_tree.specs.Programs.{IsParameter, IsReturns, IsFails, IsAuthority, IsReturn, IsResult, IsMethod, IsProgram}
 use Rattle.fab_tree.specs.Programs as p
 use Rattle.fab_tree.specs.Syntax.{IsStart, start}
 use Rattle.fab_tree.specs.Print.{Inks, ◌>>◌, mark, space, line, line_end}
 use Rattle.fab_tree.specs.Print as print
 use Rattle.fab_tree.specs.Unplaced as unplaced
-use Rattle.fab_print.proofs.Inks.{free, word, Wells, Printed, tokens, freed, behind_it, well_name, behind_name}
+use Rattle.fab_print.proofs.Inks.{free, word, Wells, Printed, behind_it, well_name, behind_name}
 use Rattle.fab_print.proofs.ListsAgain.{name_again, repeated_again, behind_again, separated_again}
 use Rattle.fab_print.proofs.DeclarationsAgain.{node_again, delegation_again, label_again, sort_again, class_again}
 use Rattle.fab_print.proofs.ExpressionsAgain.{expression_again}
@@ -100,7 +100,7 @@ method_again a b x (p.method h q i r j s k t u v l y z o) w =
     record {
       rest = behind_it o result.rest;
       clean = λ more c.
-          (tt, tt, (tt, (tt, well_name q w1, (tt, tt, parameters.clean _ ((tt, tt, (tt, returns.clean _ ((tt, tt, (tt, (tt, well_name t w2, fails.clean _ ( authority.clean _ ((tt, (tt, tt, (tt, body.clean _ ( result.clean _ (tt, tt, (tt, c)))))))))))))))))));
+          (tt, tt, (tt, (tt, well_name q w1, (tt, tt, parameters.clean _ ((tt, tt, (tt, returns.clean _ ((tt, tt, (tt, (tt, well_name t w2, fails.clean _ (authority.clean _ ((tt, (tt, tt, (tt, body.clean _ (result.clean _ (tt, tt, (tt, c)))))))))))))))))));
       again = λ n more.
           let r1 = parameters.again n _ in
           let r2 = returns.again n _ in
@@ -112,14 +112,20 @@ method_again a b x (p.method h q i r j s k t u v l y z o) w =
             tree = _;
             reads = p.method (is refl) (name refl) (is refl) r1.reads (is refl) r2.reads (is refl) (name refl) r3.reads r4.reads (is refl) r5.reads r6.reads (is refl);
             same = λ i. record {
-              name = unplaced.name x.name; parameters = r1.same i; returns = r2.same i; begin = unplaced.name x.begin;
-              fails = r3.same i; authority = r4.same i; body = r5.same i; result = r6.same i
-            }
+              name = unplaced.name x.name;
+              parameters = r1.same i;
+              returns = r2.same i;
+              begin = unplaced.name x.begin;
+              fails = r3.same i;
+              authority = r4.same i;
+              body = r5.same i;
+              result = r6.same i;
+            };
           };
       steady = λ i.
           line 0 (mark m.Method >> space >> print.name x.name >> print.in_brackets (parameters.steady i) >> space
-            >> returns.steady i >> mark m.Begin >> space >> print.name x.begin >> fails.steady i >> authority.steady i >> space
-            >> mark m.LeftBrace >> line_end >> body.steady i >> result.steady i >> mark m.RightBrace);
+          >> returns.steady i >> mark m.Begin >> space >> print.name x.begin >> fails.steady i >> authority.steady i >> space
+          >> mark m.LeftBrace >> line_end >> body.steady i >> result.steady i >> mark m.RightBrace);
     }
 
 program_again : {a b : List Token} {x : Program} → IsProgram a x b → Wells a → Printed IsProgram unplaced.program free free print.program x b
@@ -141,7 +147,7 @@ program_again (p.program q r s t u) w =
           record {
             tree = _;
             reads = p.program r1.reads r2.reads r3.reads r4.reads r5.reads;
-            same = λ i. record { nodes = r1.same i; delegations = r2.same i; labels = r3.same i; classes = r4.same i; methods = r5.same i }
+            same = λ i. record { nodes = r1.same i; delegations = r2.same i; labels = r3.same i; classes = r4.same i; methods = r5.same i };
           };
       steady = λ i. nodes.steady i >> delegations.steady i >> labels.steady i >> classes.steady i >> methods.steady i;
     }
@@ -158,7 +164,7 @@ start_again (start q h i r s t u v y j) w =
     record {
       rest = behind_it j schedule.rest;
       clean = λ more c.
-          program.clean _ ((tt, tt, (tt, (tt, tt, (tt, roots.clean _ ( sessions.clean _ ( posts.clean _ ( crashes.clean _ ( cache.clean _ ( schedule.clean _ (tt, tt, (tt, c))))))))))));
+          program.clean _ ((tt, tt, (tt, (tt, tt, (tt, roots.clean _ (sessions.clean _ (posts.clean _ (crashes.clean _ (cache.clean _ (schedule.clean _ (tt, tt, (tt, c))))))))))));
       again = λ n more.
           let r1 = program.again n _ in
           let r2 = roots.again n _ in
@@ -171,13 +177,18 @@ start_again (start q h i r s t u v y j) w =
             tree = _;
             reads = start r1.reads (is refl) (is refl) r2.reads r3.reads r4.reads r5.reads r6.reads r7.reads (is refl);
             same = λ i. record {
-              program = r1.same i; roots = r2.same i; sessions = r3.same i; posts = r4.same i;
-              crashes = r5.same i; cache = r6.same i; schedule = r7.same i
-            }
+              program = r1.same i;
+              roots = r2.same i;
+              sessions = r3.same i;
+              posts = r4.same i;
+              crashes = r5.same i;
+              cache = r6.same i;
+              schedule = r7.same i;
+            };
           };
       steady = λ i.
           program.steady i
-            >> line 0 (mark m.Run >> space >> mark m.LeftBrace >> line_end
-              >> roots.steady i >> sessions.steady i >> posts.steady i >> crashes.steady i
-              >> cache.steady i >> schedule.steady i >> mark m.RightBrace);
+          >> line 0 (mark m.Run >> space >> mark m.LeftBrace >> line_end
+          >> roots.steady i >> sessions.steady i >> posts.steady i >> crashes.steady i
+          >> cache.steady i >> schedule.steady i >> mark m.RightBrace);
     }

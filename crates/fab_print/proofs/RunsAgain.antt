@@ -1,28 +1,25 @@
 -- What is printed for the run part is read again.
-use Rattle.std.proofs.Common.{◌≡◌, ℕ, zero, suc, ◌+◌, ◌<◌, List, [], ◌∷◌, map, refl, sym, ap, subst, arith, add-one, false, Option, Some, None, ℤ, pos, negsuc}
+use Rattle.std.proofs.Common.{◌≡◌, ℕ, zero, suc, ◌+◌, ◌<◌, List, [], ◌∷◌, map, refl, sym, ap, subst, arith, add-one, false, Option}
 use Rattle.std.specs.Prelude.{if◌then◌else◌, ◌==◌}
 use Rattle.std.proofs.lemmas.Bool.Decides.{nat_tests}
 use Rattle.fab_base.specs.declared.token.Mark.TheVariants as m
 use Rattle.fab_base.specs.declared.token.Kind.TheVariants as k
 use Rattle.fab_base.specs.declared.token.Token.{Token}
-use Rattle.fab_tree.specs.declared.name.Name.{Name}
 use Rattle.fab_tree.specs.declared.event.PostLine.{PostLine}
 use Rattle.fab_tree.specs.declared.event.CrashLine.{CrashLine}
 use Rattle.fab_tree.specs.declared.event.Step.{Step}
 use Rattle.fab_tree.specs.declared.event.Event.{Event}
-use Rattle.fab_tree.specs.declared.start.Literal.{Literal}
-use Rattle.fab_tree.specs.declared.start.Literal.TheVariants as literals
 use Rattle.fab_tree.specs.declared.start.Given.{Given}
 use Rattle.fab_tree.specs.declared.start.Root.{Root}
 use Rattle.fab_tree.specs.declared.start.RequestText.{RequestText}
 use Rattle.fab_tree.specs.declared.start.Session.{Session}
-use Rattle.fab_tree.specs.Lists.{Is, is, IsName, name, IsNumeral, numeral, IsBytes, bytes, Repeated, Separated, Ended, ended, Perhaps, without, with_it, minus, no_more, one_more}
+use Rattle.fab_tree.specs.Lists.{Is, is, name, IsNumeral, numeral, IsBytes, bytes, Repeated, Ended, ended, Perhaps, without, with_it}
 use Rattle.fab_tree.specs.Runs.{IsNegated, IsLiteral, IsGiven, IsRoot, IsRequest, IsSession, IsPost, IsCrash, IsCache, IsStep, IsEvent, IsSchedule}
 use Rattle.fab_tree.specs.Runs as r
 use Rattle.fab_tree.specs.Print.{Ink, Inks, ◌>>◌, mark, space, line, indent, line_end}
 use Rattle.fab_tree.specs.Print as print
 use Rattle.fab_tree.specs.Unplaced as unplaced
-use Rattle.fab_print.proofs.Inks.{free, word, sign, Clean, Well, Wells, Printed, Again, tokens, behind_it, well_name, behind_name, behind_numeral, few, number_clean}
+use Rattle.fab_print.proofs.Inks.{free, word, sign, Clean, Well, Wells, Printed, Again, tokens, behind_it, well_name, behind_name, few, number_clean}
 use Rattle.fab_print.proofs.ListsAgain.{repeated_again, separated_again}
 
 pub given_again : (a b : List Token) (x : Given) → IsGiven a x b → Wells a → Printed IsGiven unplaced.given free word (λ y. print.literal y.literal) x b
@@ -44,7 +41,7 @@ given_again a b x (r.given (r.negated i (r.negative (numeral {n = suc n} e h))))
   again = λ n0 more. record {
     tree = _;
     reads = r.given (r.negated (is refl) (r.negative (numeral (few (n + 1) (omega arith)) (omega arith))));
-    same = rw add-one refl
+    same = rw add-one refl;
   };
   steady = refl;
 }
@@ -82,7 +79,7 @@ root_again a b x (r.root h p i q j s k v l o) w =
           record { tree = _; reads = r.root (is refl) (name refl) (is refl) (name refl) (is refl) (name refl) (is refl) one.reads (is refl) (is refl); same = cc };
       steady = λ i.
           line 1 (mark m.Root >> space >> print.name x.name >> space >> mark m.Colon >> space >> print.name x.class >> space
-            >> mark m.At >> space >> print.name x.store >> space >> print.in_brackets (values.steady i) >> mark m.Semicolon);
+          >> mark m.At >> space >> print.name x.store >> space >> print.in_brackets (values.steady i) >> mark m.Semicolon);
     }
 
 pub request_again : (a b : List Token) (x : RequestText) → IsRequest a x b → Wells a → Printed IsRequest unplaced.request free free print.request x b
@@ -109,7 +106,7 @@ session_again a b x (r.session h p i v l) w =
           record { tree = _; reads = r.session (is refl) (name refl) (is refl) one.reads (is refl); same = cc };
       steady = λ i.
           line 1 (mark m.Session >> space >> print.name x.worker >> space
-            >> mark m.LeftBrace >> line_end >> requests.steady i >> indent 1 >> mark m.RightBrace);
+          >> mark m.LeftBrace >> line_end >> requests.steady i >> indent 1 >> mark m.RightBrace);
     }
 
 well_bytes : {a b : List Token} {x : List ℕ} → IsBytes a x b → Wells a → Well (k.Bytes x)
@@ -168,11 +165,11 @@ cache_line b (suc n) h w = record {
   rest = w;
   clean = λ more c.
       let shown : Clean free (line 1 (mark m.Cache >> space >> print.number (suc n) >> mark m.Semicolon) more) =
-        (tt, (tt, tt, (tt, number_clean free (mark m.Semicolon (line_end more)) (suc n) h tt (tt, tt, (tt, c))))) in
+      (tt, (tt, tt, (tt, number_clean free (mark m.Semicolon (line_end more)) (suc n) h tt (tt, tt, (tt, c))))) in
       subst (λ (x : Inks). Clean free (x more)) (sym (cache_shown n)) shown;
   again = λ n0 more.
       let shown : Again IsCache (λ y. y) (suc n) (tokens n0 (line 1 (mark m.Cache >> space >> print.number (suc n) >> mark m.Semicolon) more)) (tokens n0 more) =
-        record { tree = _; reads = r.cache (is refl) (numeral (few (suc n) h) h) (is refl); same = refl } in
+      record { tree = _; reads = r.cache (is refl) (numeral (few (suc n) h) h) (is refl); same = refl } in
       subst (λ (x : Inks). Again IsCache (λ y. y) (suc n) (tokens n0 (x more)) (tokens n0 more)) (sym (cache_shown n)) shown;
   steady = refl;
 }

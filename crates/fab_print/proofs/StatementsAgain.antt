@@ -1,7 +1,6 @@
 -- What is printed for statements is read again.
 use Rattle.std.proofs.Common.{◌≡◌, ℕ, ◌+◌, List, [], ◌∷◌, map, refl, sym, ap, ◌∙◌, subst, Option, Some, None}
 use Rattle.std.specs.Prelude.{option_map}
-use Rattle.fab_base.specs.declared.token.Mark.{Mark}
 use Rattle.fab_base.specs.declared.token.Mark.TheVariants as m
 use Rattle.fab_base.specs.declared.token.Token.{Token}
 use Rattle.fab_tree.specs.declared.name.Name.{Name}
@@ -60,7 +59,7 @@ right_again (t.new {x = x} {y = y} h p i q j r k) w =
           record {
             tree = _;
             reads = t.new (is refl) (name refl) (is refl) (name refl) (is refl) one.reads (is refl);
-            same = λ i. rights.New (unplaced.name x) (unplaced.name y) (one.same i) 0
+            same = λ i. rights.New (unplaced.name x) (unplaced.name y) (one.same i) 0;
           };
       steady = λ i. mark m.New >> space >> print.name x >> space >> mark m.At >> space >> print.name y >> space >> in_brackets (values.steady i);
     }
@@ -77,11 +76,11 @@ right_again (t.downgrade {t = e} {x = x} {y = y} (t.declassify h) i p j q k r l)
           record {
             tree = _;
             reads = t.downgrade (t.declassify (is refl)) (is refl) two.reads (is refl) (name refl) (is refl) (name refl) (is refl);
-            same = λ i. rights.Downgrade downgrades.Declassify (two.same i) (unplaced.name x) (unplaced.name y) 0
+            same = λ i. rights.Downgrade downgrades.Declassify (two.same i) (unplaced.name x) (unplaced.name y) 0;
           };
       steady = λ i.
           mark m.Declassify >> mark m.LeftParen >> one.steady i >> mark m.Comma >> space >> print.name x >> space
-            >> mark m.To >> space >> print.name y >> mark m.RightParen;
+          >> mark m.To >> space >> print.name y >> mark m.RightParen;
     }
 right_again (t.downgrade {t = e} {x = x} {y = y} (t.endorse h) i p j q k r l) w =
     let w1 = behind_it i (behind_it h w) in
@@ -96,12 +95,13 @@ right_again (t.downgrade {t = e} {x = x} {y = y} (t.endorse h) i p j q k r l) w 
           record {
             tree = _;
             reads = t.downgrade (t.endorse (is refl)) (is refl) two.reads (is refl) (name refl) (is refl) (name refl) (is refl);
-            same = λ i. rights.Downgrade downgrades.Endorse (two.same i) (unplaced.name x) (unplaced.name y) 0
+            same = λ i. rights.Downgrade downgrades.Endorse (two.same i) (unplaced.name x) (unplaced.name y) 0;
           };
       steady = λ i.
           mark m.Endorse >> mark m.LeftParen >> one.steady i >> mark m.Comma >> space >> print.name x >> space
-            >> mark m.To >> space >> print.name y >> mark m.RightParen;
+          >> mark m.To >> space >> print.name y >> mark m.RightParen;
     }
+
 -- ---- forms
 
 shown_of : (e : o.Statement-F Statement) (x : Statement) → roll-Statement e ≡ x → print.statement x ≡ print.statement_step (map-Statement Statement (ℕ → Inks) print.statement e)
@@ -114,7 +114,7 @@ declare_shown : (x : Sort) (y z : Name) (e : Expression) (at : ℕ) → print.st
 declare_shown x y z e at = shown_of (o.Declare x y z e at) _ (s.rolls-Declare x y z e at)
 
 declare_unplaced : (x : Sort) (y z : Name) (e : Expression) (at : ℕ)
-  → unplaced.statement (s.Declare x y z e at) ≡ s.Declare (unplaced.sort x) (unplaced.name y) (unplaced.name z) (unplaced.expression e) 0
+    → unplaced.statement (s.Declare x y z e at) ≡ s.Declare (unplaced.sort x) (unplaced.name y) (unplaced.name z) (unplaced.expression e) 0
 declare_unplaced x y z e at = unplaced_of (o.Declare x y z e at) _ (s.rolls-Declare x y z e at)
 
 assign_shown : (x : Name) (y : Right) → print.statement (s.Assign x y) ≡ print.statement_step (o.Assign x y)
@@ -123,7 +123,7 @@ assign_shown x y = shown_of (o.Assign x y) _ (s.rolls-Assign x y)
 assign_unplaced : (x : Name) (y : Right) → unplaced.statement (s.Assign x y) ≡ s.Assign (unplaced.name x) (unplaced.right y)
 assign_unplaced x y = unplaced_of (o.Assign x y) _ (s.rolls-Assign x y)
 
-write_shown : (x y : Name) (e : Expression) → print.statement (s.Write x y e) ≡ print.statement_step (o.Write x y e)
+pub write_shown : (x y : Name) (e : Expression) → print.statement (s.Write x y e) ≡ print.statement_step (o.Write x y e)
 write_shown x y e = shown_of (o.Write x y e) _ (s.rolls-Write x y e)
 
 write_unplaced : (x y : Name) (e : Expression) → unplaced.statement (s.Write x y e) ≡ s.Write (unplaced.name x) (unplaced.name y) (unplaced.expression e)
@@ -135,13 +135,13 @@ call_shown x es = shown_of (o.Call x es) _ (s.rolls-Call x es)
 call_unplaced : (x : Name) (es : List Expression) → unplaced.statement (s.Call x es) ≡ s.Call (unplaced.name x) (unplaced.expressions es)
 call_unplaced x es = unplaced_of (o.Call x es) _ (s.rolls-Call x es)
 
-if_shown : (e : Expression) (us : List Statement) (ws : Option (List Statement))
-  → print.statement (s.If e us ws) ≡ print.statement_step (o.If e (map print.statement us) (option_map (map print.statement) ws))
+pub if_shown : (e : Expression) (us : List Statement) (ws : Option (List Statement))
+    → print.statement (s.If e us ws) ≡ print.statement_step (o.If e (map print.statement us) (option_map (map print.statement) ws))
 if_shown e us None = shown_of (o.If e us None) _ (s.rolls-If e us None)
 if_shown e us (Some ws) = shown_of (o.If e us (Some ws)) _ (s.rolls-If e us (Some ws))
 
 if_unplaced : (e : Expression) (us : List Statement) (ws : Option (List Statement))
-  → unplaced.statement (s.If e us ws) ≡ s.If (unplaced.expression e) (map unplaced.statement us) (option_map (map unplaced.statement) ws)
+    → unplaced.statement (s.If e us ws) ≡ s.If (unplaced.expression e) (map unplaced.statement us) (option_map (map unplaced.statement) ws)
 if_unplaced e us None = unplaced_of (o.If e us None) _ (s.rolls-If e us None)
 if_unplaced e us (Some ws) = unplaced_of (o.If e us (Some ws)) _ (s.rolls-If e us (Some ws))
 
@@ -152,11 +152,11 @@ while_unplaced : (e : Expression) (us : List Statement) → unplaced.statement (
 while_unplaced e us = unplaced_of (o.While e us) _ (s.rolls-While e us)
 
 atomic_shown : (x : Name) (us ws : List Statement) (at : ℕ)
-  → print.statement (s.Atomic x us ws at) ≡ print.statement_step (o.Atomic x (map print.statement us) (map print.statement ws) at)
+    → print.statement (s.Atomic x us ws at) ≡ print.statement_step (o.Atomic x (map print.statement us) (map print.statement ws) at)
 atomic_shown x us ws at = shown_of (o.Atomic x us ws at) _ (s.rolls-Atomic x us ws at)
 
 atomic_unplaced : (x : Name) (us ws : List Statement) (at : ℕ)
-  → unplaced.statement (s.Atomic x us ws at) ≡ s.Atomic (unplaced.name x) (map unplaced.statement us) (map unplaced.statement ws) 0
+    → unplaced.statement (s.Atomic x us ws at) ≡ s.Atomic (unplaced.name x) (map unplaced.statement us) (map unplaced.statement ws) 0
 atomic_unplaced x us ws at = unplaced_of (o.Atomic x us ws at) _ (s.rolls-Atomic x us ws at)
 
 fail_shown : (at : ℕ) → print.statement (s.Fail at) ≡ print.statement_step (o.Fail at)
@@ -189,8 +189,8 @@ abbrev Blocks : List Statement → List Token → Type 0
 Blocks us b = (at : ℕ) → Printed IsBlock (map unplaced.statement) free free (λ ys. print.block at (map print.statement ys)) us b
 
 int_stated : {a b c d f g h i : List Token} {y z : Name} {e : Expression} (place : ℕ)
-  → Is m.Int a b → IsName b y c → Is m.Colon c d → IsName d z f → Is m.Equal f g → IsExpression g e h → Is m.Semicolon h i → Wells a
-  → Stated (s.Declare sorts.Int y z e place) i
+    → Is m.Int a b → IsName b y c → Is m.Colon c d → IsName d z f → Is m.Equal f g → IsExpression g e h → Is m.Semicolon h i → Wells a
+    → Stated (s.Declare sorts.Int y z e place) i
 int_stated {y} {z} {e} place h p i q j r k w =
     let w1 = behind_it h w in
     let w2 = behind_it i (behind_name p w1) in
@@ -205,17 +205,17 @@ int_stated {y} {z} {e} place h p i q j r k w =
           record {
             tree = _;
             reads = t.declare (d.int (is refl)) (name refl) (is refl) (name refl) (is refl) two.reads (is refl);
-            same = declare_unplaced _ _ _ two.tree _ ∙ (λ i. s.Declare sorts.Int (unplaced.name y) (unplaced.name z) (two.same i) 0) ∙ sym (declare_unplaced sorts.Int y z e place)
+            same = declare_unplaced _ _ _ two.tree _ ∙ (λ i. s.Declare sorts.Int (unplaced.name y) (unplaced.name z) (two.same i) 0) ∙ sym (declare_unplaced sorts.Int y z e place);
           };
       steady =
           ap print.statement (declare_unplaced sorts.Int y z e place) ∙ declare_shown sorts.Int (unplaced.name y) (unplaced.name z) (unplaced.expression e) 0
-            ∙ (λ i at. line at (mark m.Int >> space >> print.name y >> space >> mark m.Colon >> space >> print.name z >> space
-              >> mark m.Equal >> space >> one.steady i >> mark m.Semicolon));
+          ∙ (λ i at. line at (mark m.Int >> space >> print.name y >> space >> mark m.Colon >> space >> print.name z >> space
+          >> mark m.Equal >> space >> one.steady i >> mark m.Semicolon));
     }
 
 class_stated : {a b c d f g h i : List Token} {x y z : Name} {e : Expression} (place : ℕ)
-  → IsName a x b → IsName b y c → Is m.Colon c d → IsName d z f → Is m.Equal f g → IsExpression g e h → Is m.Semicolon h i → Wells a
-  → Stated (s.Declare (sorts.Class x) y z e place) i
+    → IsName a x b → IsName b y c → Is m.Colon c d → IsName d z f → Is m.Equal f g → IsExpression g e h → Is m.Semicolon h i → Wells a
+    → Stated (s.Declare (sorts.Class x) y z e place) i
 class_stated {x} {y} {z} {e} place h p i q j r k w =
     let w1 = behind_name h w in
     let w2 = behind_it i (behind_name p w1) in
@@ -230,12 +230,12 @@ class_stated {x} {y} {z} {e} place h p i q j r k w =
           record {
             tree = _;
             reads = t.declare (d.class (name refl)) (name refl) (is refl) (name refl) (is refl) two.reads (is refl);
-            same = declare_unplaced _ _ _ two.tree _ ∙ (λ i. s.Declare (sorts.Class (unplaced.name x)) (unplaced.name y) (unplaced.name z) (two.same i) 0) ∙ sym (declare_unplaced (sorts.Class x) y z e place)
+            same = declare_unplaced _ _ _ two.tree _ ∙ (λ i. s.Declare (sorts.Class (unplaced.name x)) (unplaced.name y) (unplaced.name z) (two.same i) 0) ∙ sym (declare_unplaced (sorts.Class x) y z e place);
           };
       steady =
           ap print.statement (declare_unplaced (sorts.Class x) y z e place) ∙ declare_shown (sorts.Class (unplaced.name x)) (unplaced.name y) (unplaced.name z) (unplaced.expression e) 0
-            ∙ (λ i at. line at (print.name x >> space >> print.name y >> space >> mark m.Colon >> space >> print.name z >> space
-              >> mark m.Equal >> space >> one.steady i >> mark m.Semicolon));
+          ∙ (λ i at. line at (print.name x >> space >> print.name y >> space >> mark m.Colon >> space >> print.name z >> space
+          >> mark m.Equal >> space >> one.steady i >> mark m.Semicolon));
     }
 
 assign_stated : {a b c d f : List Token} {x : Name} {y : Right} → IsName a x b → Is m.Equal b c → IsRight c y d → Is m.Semicolon d f → Wells a → Stated (s.Assign x y) f
@@ -251,15 +251,15 @@ assign_stated {x} {y} p h q i w =
           record {
             tree = _;
             reads = t.assign (name refl) (is refl) two.reads (is refl);
-            same = assign_unplaced _ two.tree ∙ ap (s.Assign (unplaced.name x)) two.same ∙ sym (assign_unplaced x y)
+            same = assign_unplaced _ two.tree ∙ ap (s.Assign (unplaced.name x)) two.same ∙ sym (assign_unplaced x y);
           };
       steady =
           ap print.statement (assign_unplaced x y) ∙ assign_shown (unplaced.name x) (unplaced.right y)
-            ∙ (λ i at. line at (print.name x >> space >> mark m.Equal >> space >> one.steady i >> mark m.Semicolon));
+          ∙ (λ i at. line at (print.name x >> space >> mark m.Equal >> space >> one.steady i >> mark m.Semicolon));
     }
 
 write_stated : {a b c d f g h : List Token} {x y : Name} {e : Expression}
-  → IsName a x b → Is m.Dot b c → IsName c y d → Is m.Equal d f → IsExpression f e g → Is m.Semicolon g h → Wells a → Stated (s.Write x y e) h
+    → IsName a x b → Is m.Dot b c → IsName c y d → Is m.Equal d f → IsExpression f e g → Is m.Semicolon g h → Wells a → Stated (s.Write x y e) h
 write_stated {x} {y} {e} p h q i r j w =
     let w1 = behind_it h (behind_name p w) in
     let one = expression_again _ _ _ r (behind_it i (behind_name q w1)) in
@@ -273,15 +273,15 @@ write_stated {x} {y} {e} p h q i r j w =
           record {
             tree = _;
             reads = t.write (name refl) (is refl) (name refl) (is refl) two.reads (is refl);
-            same = write_unplaced _ _ two.tree ∙ ap (s.Write (unplaced.name x) (unplaced.name y)) two.same ∙ sym (write_unplaced x y e)
+            same = write_unplaced _ _ two.tree ∙ ap (s.Write (unplaced.name x) (unplaced.name y)) two.same ∙ sym (write_unplaced x y e);
           };
       steady =
           ap print.statement (write_unplaced x y e) ∙ write_shown (unplaced.name x) (unplaced.name y) (unplaced.expression e)
-            ∙ (λ i at. line at (print.name x >> mark m.Dot >> print.name y >> space >> mark m.Equal >> space >> one.steady i >> mark m.Semicolon));
+          ∙ (λ i at. line at (print.name x >> mark m.Dot >> print.name y >> space >> mark m.Equal >> space >> one.steady i >> mark m.Semicolon));
     }
 
 call_stated : {a b c d f g : List Token} {x : Name} {es : List Expression}
-  → IsName a x b → Is m.LeftParen b c → IsArguments c es d → Is m.RightParen d f → Is m.Semicolon f g → Wells a → Stated (s.Call x es) g
+    → IsName a x b → Is m.LeftParen b c → IsArguments c es d → Is m.RightParen d f → Is m.Semicolon f g → Wells a → Stated (s.Call x es) g
 call_stated {x} {es} p h q i j w =
     let one = arguments_again q (behind_it h (behind_name p w)) in
     record {
@@ -294,17 +294,17 @@ call_stated {x} {es} p h q i j w =
           record {
             tree = _;
             reads = t.call (name refl) (is refl) two.reads (is refl) (is refl);
-            same = call_unplaced _ two.tree ∙ ap (s.Call (unplaced.name x)) two.same ∙ sym (call_unplaced x es)
+            same = call_unplaced _ two.tree ∙ ap (s.Call (unplaced.name x)) two.same ∙ sym (call_unplaced x es);
           };
       steady =
           ap print.statement (call_unplaced x es) ∙ call_shown (unplaced.name x) (unplaced.expressions es)
-            ∙ (λ i at. line at (print.name x >> in_brackets (one.steady i) >> mark m.Semicolon));
+          ∙ (λ i at. line at (print.name x >> in_brackets (one.steady i) >> mark m.Semicolon));
     }
 
 if_stated : {a b c d f g h : List Token} {e : Expression} {us : List Statement} {ws : Option (List Statement)}
-  → Is m.If a b → Is m.LeftParen b c → Printed IsExpression unplaced.expression free word print.expression e d → Is m.RightParen d f
-  → Blocks us g → ((at : ℕ) → Printed IsOtherwise (option_map (map unplaced.statement)) free free (λ ys. print.otherwise at (option_map (map print.statement) ys)) ws h)
-  → Stated (s.If e us ws) h
+    → Is m.If a b → Is m.LeftParen b c → Printed IsExpression unplaced.expression free word print.expression e d → Is m.RightParen d f
+    → Blocks us g → ((at : ℕ) → Printed IsOtherwise (option_map (map unplaced.statement)) free free (λ ys. print.otherwise at (option_map (map print.statement) ys)) ws h)
+    → Stated (s.If e us ws) h
 if_stated {e} {us} {ws} h i one j block otherwise = record {
   shown = print.statement_step (o.If e (map print.statement us) (option_map (map print.statement) ws));
   is_shown = if_shown e us ws;
@@ -317,16 +317,16 @@ if_stated {e} {us} {ws} h i one j block otherwise = record {
       record {
         tree = _;
         reads = t.choice (is refl) (is refl) p.reads (is refl) q.reads r.reads;
-        same = if_unplaced p.tree q.tree r.tree ∙ (λ i. s.If (p.same i) (q.same i) (r.same i)) ∙ sym (if_unplaced e us ws)
+        same = if_unplaced p.tree q.tree r.tree ∙ (λ i. s.If (p.same i) (q.same i) (r.same i)) ∙ sym (if_unplaced e us ws);
       };
   steady =
       ap print.statement (if_unplaced e us ws) ∙ if_shown (unplaced.expression e) (map unplaced.statement us) (option_map (map unplaced.statement) ws)
-        ∙ (λ i at. line at (mark m.If >> space >> in_brackets (one.steady i) >> space >> (block at).steady i >> (otherwise at).steady i));
+      ∙ (λ i at. line at (mark m.If >> space >> in_brackets (one.steady i) >> space >> (block at).steady i >> (otherwise at).steady i));
 }
 
 while_stated : {a b c d f g : List Token} {e : Expression} {us : List Statement}
-  → Is m.While a b → Is m.LeftParen b c → Printed IsExpression unplaced.expression free word print.expression e d → Is m.RightParen d f
-  → Blocks us g → Stated (s.While e us) g
+    → Is m.While a b → Is m.LeftParen b c → Printed IsExpression unplaced.expression free word print.expression e d → Is m.RightParen d f
+    → Blocks us g → Stated (s.While e us) g
 while_stated {e} {us} h i one j block = record {
   shown = print.statement_step (o.While e (map print.statement us));
   is_shown = while_shown e us;
@@ -338,15 +338,15 @@ while_stated {e} {us} h i one j block = record {
       record {
         tree = _;
         reads = t.loop (is refl) (is refl) p.reads (is refl) q.reads;
-        same = while_unplaced p.tree q.tree ∙ (λ i. s.While (p.same i) (q.same i)) ∙ sym (while_unplaced e us)
+        same = while_unplaced p.tree q.tree ∙ (λ i. s.While (p.same i) (q.same i)) ∙ sym (while_unplaced e us);
       };
   steady =
       ap print.statement (while_unplaced e us) ∙ while_shown (unplaced.expression e) (map unplaced.statement us)
-        ∙ (λ i at. line at (mark m.While >> space >> in_brackets (one.steady i) >> space >> (block at).steady i));
+      ∙ (λ i at. line at (mark m.While >> space >> in_brackets (one.steady i) >> space >> (block at).steady i));
 }
 
 atomic_stated : {a b c d f g : List Token} {x : Name} {us ws : List Statement} (o : ℕ)
-  → Is m.Atomic a b → IsName b x c → Wells a → Blocks us d → Is m.Else d f → Blocks ws g → Stated (s.Atomic x us ws o) g
+    → Is m.Atomic a b → IsName b x c → Wells a → Blocks us d → Is m.Else d f → Blocks ws g → Stated (s.Atomic x us ws o) g
 atomic_stated {x} {us} {ws} place h p w block i other = record {
   shown = print.statement_step (o.Atomic x (map print.statement us) (map print.statement ws) place);
   is_shown = atomic_shown x us ws place;
@@ -358,11 +358,11 @@ atomic_stated {x} {us} {ws} place h p w block i other = record {
       record {
         tree = _;
         reads = t.atomic (is refl) (name refl) q.reads (is refl) r.reads;
-        same = atomic_unplaced _ q.tree r.tree _ ∙ (λ i. s.Atomic (unplaced.name x) (q.same i) (r.same i) 0) ∙ sym (atomic_unplaced x us ws place)
+        same = atomic_unplaced _ q.tree r.tree _ ∙ (λ i. s.Atomic (unplaced.name x) (q.same i) (r.same i) 0) ∙ sym (atomic_unplaced x us ws place);
       };
   steady =
       ap print.statement (atomic_unplaced x us ws place) ∙ atomic_shown (unplaced.name x) (map unplaced.statement us) (map unplaced.statement ws) 0
-        ∙ (λ i at. line at (mark m.Atomic >> space >> print.name x >> space >> (block at).steady i >> space >> mark m.Else >> space >> (other at).steady i));
+      ∙ (λ i at. line at (mark m.Atomic >> space >> print.name x >> space >> (block at).steady i >> space >> mark m.Else >> space >> (other at).steady i));
 }
 
 fail_stated : {b : List Token} (place : ℕ) → Wells b → Stated (s.Fail place) b
@@ -399,7 +399,7 @@ mutual
   statement_stated (t.fail {o} h i) w = fail_stated o.at (behind_it i (behind_it h w))
 
   otherwise_again : {a b : List Token} {us : Option (List Statement)} → IsOtherwise a us b → Wells a
-    → (at : ℕ) → Printed IsOtherwise (option_map (map unplaced.statement)) free free (λ ys. print.otherwise at (option_map (map print.statement) ys)) us b
+      → (at : ℕ) → Printed IsOtherwise (option_map (map unplaced.statement)) free free (λ ys. print.otherwise at (option_map (map print.statement) ys)) us b
   otherwise_again t.no_else w at = record { rest = w; clean = λ more c. c; again = λ n more. record { tree = None; reads = t.no_else; same = refl }; steady = refl }
   otherwise_again (t.some_else h p) w at =
       let one = block_again p (behind_it h w) at in

@@ -1,4 +1,4 @@
-use Rattle.std.proofs.Common.{◌≡◌, ℕ, ◌-◌, [], length, refl, sym, ap, ◌∙◌, subst, arith}
+use Rattle.std.proofs.Common.{◌≡◌, ℕ, ◌-◌, [], length, sym, ap, ◌∙◌, subst, arith}
 use Rattle.fab_base.specs.Tokens.{Lexes}
 use Rattle.fab_tree.specs.Print.{canonical, text_of}
 use Rattle.fab_tree.specs.Print as print
@@ -15,7 +15,7 @@ returns c text ts s lexes reads =
     let again = printed.again n [] in
     let front : n - n ≡ 0 = omega arith in
     let cuts : Lexes 0 (canonical s) (tokens n (print.start s [])) =
-      subst (λ at. Lexes at (canonical s) (tokens n (print.start s []))) front (cut n free (print.start s []) (printed.clean [] tt) (omega arith)) in
+    subst (λ at. Lexes at (canonical s) (tokens n (print.start s []))) front (cut n free (print.start s []) (printed.clean [] tt) (omega arith)) in
     let other = start_again again.reads (wells cuts) in
     record {
       tokens = tokens n (print.start s []);
