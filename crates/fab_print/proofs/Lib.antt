@@ -1,0 +1,11 @@
+pub mod Cutting
+pub mod DeclarationsAgain
+mod Examples
+pub mod ExpressionsAgain
+pub mod Forms
+pub mod Inks
+pub mod ListsAgain
+pub mod Pieces
+pub mod ProgramsAgain
+pub mod RunsAgain
+pub mod StatementsAgain
