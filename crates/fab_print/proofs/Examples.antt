@@ -17,6 +17,14 @@ use Rattle.fab_tree.specs.declared.start.Literal.{Literal}
 use Rattle.fab_tree.specs.declared.start.Literal.TheVariants as literals
 use Rattle.fab_tree.specs.declared.start.Given.{Given}
 use Rattle.fab_tree.specs.declared.start.Start.{Start}
+use Rattle.fab_base.specs.declared.token.Mark.TheVariants as m
+use Rattle.fab_base.specs.declared.token.Kind.TheVariants as k
+use Rattle.fab_base.specs.declared.token.Token.{Token}
+use Rattle.fab_base.specs.Tokens.{Lexes, over, blank, token}
+use Rattle.fab_tree.specs.Lists.{is, no_more}
+use Rattle.fab_tree.specs.Programs.{program}
+use Rattle.fab_tree.specs.Runs.{no_cache, no_schedule}
+use Rattle.fab_tree.specs.Syntax.{IsText, start}
 use Rattle.fab_tree.specs.Expressions.{expression_at, operand_at}
 use Rattle.fab_tree.specs.Print.{text_of, canonical}
 use Rattle.fab_tree.specs.Print as print
@@ -151,3 +159,30 @@ told = record {
 
 told_printed : canonical told ≡ codes "hostile worker h;\nstore a;\nworker w;\nw actsfor a;\nlabel L = {a -> h, w; w <-};\nclass C label L access L { }\nrun {\n  root r : C @ a (null, -7);\n  session w {\n    m(-2147483648, r);\n  }\n  post h -> w \"0aff\";\n  crash w after 3 keep 5;\n  crash a after 3;\n  cache 2;\n  schedule {\n    begin w;\n    crashin 5 deliver a w;\n    post h;\n  }\n}\n"
 told_printed = rw (decimal_digit 7 (omega arith), decimal_digit 3 (omega arith), decimal_digit 5 (omega arith), decimal_digit 2 (omega arith)) refl
+
+-- a text with other blanks, and the bundle that it stands for
+abbrev short : List Token
+short =
+    record { kind = k.Fixed m.Run; at = 0; end = 3 } ∷ record { kind = k.Fixed m.LeftBrace; at = 3; end = 4 }
+    ∷ record { kind = k.Fixed m.RightBrace; at = 5; end = 6 } ∷ []
+
+short_lexes : Lexes 0 (codes "run{ }") short
+short_lexes = token refl (token refl (blank refl (token refl over)))
+
+abbrev empty : Start
+empty = record {
+  program = record { nodes = []; delegations = []; labels = []; classes = []; methods = [] };
+  roots = [];
+  sessions = [];
+  posts = [];
+  crashes = [];
+  cache = 0;
+  schedule = [];
+}
+
+short_reads : IsText short empty
+short_reads =
+    start (program no_more no_more no_more no_more no_more) (is refl) (is refl) no_more no_more no_more no_more no_cache no_schedule (is refl)
+
+short_printed : canonical empty ≡ codes "run {\n}\n"
+short_printed = refl
