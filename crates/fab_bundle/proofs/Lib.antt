@@ -1,4 +1,1 @@
 pub mod CountRules
-pub mod RootRules
-pub mod SessionRules
-pub mod TextRules
