@@ -1,5 +1,5 @@
 -- The schedule, its events and their steps, part by part.
-use Rattle.std.proofs.Common.{◌≡◌, ℕ, ◌+◌, IsTrue, List, [], ◌∷◌, ◌++◌, length, Option, Some, None, refl, sym, ap, subst, ◌∙◌}
+use Rattle.std.proofs.Common.{◌≡◌, ℕ, ◌+◌, IsTrue, List, [], ◌∷◌, length, refl, subst}
 use Rattle.fab_base.specs.declared.token.Mark.{Mark}
 use Rattle.fab_base.specs.declared.token.Mark.TheVariants as m
 use Rattle.fab_base.specs.declared.token.Kind.{Kind}
@@ -10,10 +10,10 @@ use Rattle.fab_tree.specs.declared.event.Step.{Step}
 use Rattle.fab_tree.specs.declared.event.Step.TheVariants as steps
 use Rattle.fab_tree.specs.declared.event.Event.{Event}
 use Rattle.fab_tree.specs.declared.event.Event.TheVariants as events
-use Rattle.fab_tree.specs.Lists.{Is, is, IsName, name, IsNumeral, Ended, ended, Repeated}
+use Rattle.fab_tree.specs.Lists.{Is, is, IsName, IsNumeral, Ended, ended, Repeated}
 use Rattle.fab_tree.specs.Runs.{IsStep, begin, resume, deliver, idle, recover, IsEvent, step, crash_in, post, crash, IsSchedule, no_schedule, schedule}
-use Rattle.fab_reading.specs.Reading.{Lacks, Starts, Read, Refused, Follows, any, begins_name, begins_numeral, behind_list, behind_literals}
-use Rattle.fab_reading.proofs.Rules.{Then, End, Sign, HasText, Going, start, turn, sign, part, end_text, sign_text, then_text, any_follows, sign_follows, opened, closed, same_sign, lacks_sign, lacks_too, never, here, leaf, token_of}
+use Rattle.fab_reading.specs.Reading.{Lacks, Starts, Read, Refused, Follows, any, behind_list}
+use Rattle.fab_reading.proofs.Rules.{Then, End, Sign, HasText, Going, start, turn, sign, part, end_text, sign_text, then_text, any_follows, sign_follows, opened, closed, same_sign, lacks_sign, lacks_too, never, here}
 use Rattle.fab_reading.proofs.TokenRules.{name_text}
 use Rattle.fab_reading.proofs.ListRules.{repeated_text}
 use Rattle.fab_reading.proofs.ItemRules.{same_starts}
@@ -100,9 +100,6 @@ resume_text_2 = end_text
 pub resume_text_1 : HasText ResumeRest1
 resume_text_1 = then_text name_text resume_text_2
 
-pub resume_text_0 : HasText ResumeRest0
-resume_text_0 = sign_text m.Resume resume_text_1
-
 resume_back : {a c : List Token} {v : Step} {b : List Token} → Is m.Resume a c → IsStep a v b → (x : ResumeTree0) × (v ≡ resume_of x) × ResumeRest0 a x b
 resume_back (is e) (begin (is g) p0) = absurd (cc)
 resume_back i (resume {x = p1} q0 q1) = ((tt, (p1, tt)), refl, record { mid = _; first = q0; second = record { mid = _; first = q1; second = refl } })
@@ -157,9 +154,6 @@ deliver_text_2 = then_text name_text deliver_text_3
 
 pub deliver_text_1 : HasText DeliverRest1
 deliver_text_1 = then_text name_text deliver_text_2
-
-pub deliver_text_0 : HasText DeliverRest0
-deliver_text_0 = sign_text m.Deliver deliver_text_1
 
 deliver_back : {a c : List Token} {v : Step} {b : List Token} → Is m.Deliver a c → IsStep a v b → (x : DeliverTree0) × (v ≡ deliver_of x) × DeliverRest0 a x b
 deliver_back (is e) (begin (is g) p0) = absurd (cc)
@@ -219,9 +213,6 @@ idle_text_2 = then_text name_text idle_text_3
 pub idle_text_1 : HasText IdleRest1
 idle_text_1 = then_text name_text idle_text_2
 
-pub idle_text_0 : HasText IdleRest0
-idle_text_0 = sign_text m.Idle idle_text_1
-
 idle_back : {a c : List Token} {v : Step} {b : List Token} → Is m.Idle a c → IsStep a v b → (x : IdleTree0) × (v ≡ idle_of x) × IdleRest0 a x b
 idle_back (is e) (begin (is g) p0) = absurd (cc)
 idle_back (is e) (resume (is g) p0) = absurd (cc)
@@ -270,9 +261,6 @@ recover_text_2 = end_text
 
 pub recover_text_1 : HasText RecoverRest1
 recover_text_1 = then_text name_text recover_text_2
-
-pub recover_text_0 : HasText RecoverRest0
-recover_text_0 = sign_text m.Recover recover_text_1
 
 recover_back : {a c : List Token} {v : Step} {b : List Token} → Is m.Recover a c → IsStep a v b → (x : RecoverTree0) × (v ≡ recover_of x) × RecoverRest0 a x b
 recover_back (is e) (begin (is g) p0) = absurd (cc)
@@ -353,9 +341,6 @@ cut_text_2 = then_text step_text cut_text_3
 pub cut_text_1 : HasText CutRest1
 cut_text_1 = then_text numeral_text cut_text_2
 
-pub cut_text_0 : HasText CutRest0
-cut_text_0 = sign_text m.CrashIn cut_text_1
-
 cut_back : {a c : List Token} {v : Event} {b : List Token} → Is m.CrashIn a c → IsEvent a v b → (x : CutTree0) × (v ≡ cut_of x) × CutRest0 a x b
 cut_back i (step p) = absurd (no_step m.CrashIn never i (step_begins _ _ _ p))
 cut_back i (crash_in {n = p1} {x = p2} q0 q1 q2) = ((tt, (p1, (p2, tt))), refl, record { mid = _; first = q0; second = record { mid = _; first = q1; second = record { mid = _; first = q2; second = refl } } })
@@ -404,9 +389,6 @@ posted_text_2 = end_text
 pub posted_text_1 : HasText PostedRest1
 posted_text_1 = then_text name_text posted_text_2
 
-pub posted_text_0 : HasText PostedRest0
-posted_text_0 = sign_text m.Post posted_text_1
-
 posted_back : {a c : List Token} {v : Event} {b : List Token} → Is m.Post a c → IsEvent a v b → (x : PostedTree0) × (v ≡ posted_of x) × PostedRest0 a x b
 posted_back i (step p) = absurd (no_step m.Post never i (step_begins _ _ _ p))
 posted_back (is e) (crash_in (is g) p0 p1) = absurd (cc)
@@ -451,9 +433,6 @@ crashed_text_2 = end_text
 
 pub crashed_text_1 : HasText CrashedRest1
 crashed_text_1 = then_text name_text crashed_text_2
-
-pub crashed_text_0 : HasText CrashedRest0
-crashed_text_0 = sign_text m.Crash crashed_text_1
 
 crashed_back : {a c : List Token} {v : Event} {b : List Token} → Is m.Crash a c → IsEvent a v b → (x : CrashedTree0) × (v ≡ crashed_of x) × CrashedRest0 a x b
 crashed_back i (step p) = absurd (no_step m.Crash never i (step_begins _ _ _ p))
@@ -528,9 +507,6 @@ line_text_2 = end_text
 pub line_text_1 : HasText LineRest1
 line_text_1 = sign_text m.Semicolon line_text_2
 
-pub line_text_0 : HasText LineRest0
-line_text_0 = then_text event_text line_text_1
-
 line_back : {a : List Token} {v : Event} {b : List Token} → Ended m.Semicolon IsEvent a v b → (x : LineTree0) × (v ≡ line_of x) × LineRest0 a x b
 line_back (ended {x = p0} q0 q1) = ((p0, (tt, tt)), refl, record { mid = _; first = q0; second = record { mid = _; first = q1; second = refl } })
 
@@ -590,9 +566,6 @@ schedule_text_2 = then_text repeated_text schedule_text_3
 
 pub schedule_text_1 : HasText ScheduleRest1
 schedule_text_1 = sign_text m.LeftBrace schedule_text_2
-
-pub schedule_text_0 : HasText ScheduleRest0
-schedule_text_0 = sign_text m.Schedule schedule_text_1
 
 schedule_back : {a c : List Token} {v : List Event} {b : List Token} → Is m.Schedule a c → IsSchedule a v b → Follows after_cache b → (x : ScheduleTree0) × (v ≡ schedule_of x) × ScheduleRest0 a x b
 schedule_back i no_schedule h = absurd (lacks_sign m.Schedule after_cache never i h)

@@ -16,7 +16,7 @@ use Rattle.fab_tree.specs.Runs.{IsNegated, negative, least, IsLiteral, number, n
 use Rattle.fab_reading.specs.Reading.{Lacks, Starts, Read, Refused, Deep, Stops, SameHead, Follows, any, begins_name, begins_numeral, begins_negated, begins_literal}
 use Rattle.fab_bundle.specs.Firsts.{numeral_begins, negated_begins, literal_begins}
 use Rattle.fab_reading.proofs.ItemRules.{same_starts}
-use Rattle.fab_reading.proofs.Rules.{Then, End, Sign, HasText, Going, start, turn, leaf, token_of, same_sign, never, here}
+use Rattle.fab_reading.proofs.Rules.{Then, Sign, HasText, Going, start, turn, leaf, token_of, same_sign, never, here}
 
 -- ---- numbers
 

@@ -1,5 +1,5 @@
 -- Posts, crashes and the cache, part by part.
-use Rattle.std.proofs.Common.{◌≡◌, ℕ, ◌+◌, Bool, true, false, IsTrue, List, [], ◌∷◌, ◌++◌, length, Option, Some, None, refl, sym, ap, subst, ◌∙◌}
+use Rattle.std.proofs.Common.{◌≡◌, ℕ, Bool, true, false, IsTrue, List, [], ◌∷◌, Option, Some, None, refl, sym, ap, subst}
 use Rattle.fab_base.specs.declared.token.Mark.TheVariants as m
 use Rattle.fab_base.specs.declared.token.Kind.{Kind}
 use Rattle.fab_base.specs.declared.token.Kind.TheVariants as k
@@ -8,10 +8,10 @@ use Rattle.fab_tree.specs.declared.name.Name.{Name}
 use Rattle.fab_tree.specs.declared.event.PostLine.{PostLine}
 use Rattle.fab_tree.specs.declared.event.CrashLine.{CrashLine}
 use Rattle.fab_tree.specs.Depth.{room_by}
-use Rattle.fab_tree.specs.Lists.{Is, is, IsName, IsNumeral, IsBytes, bytes, Perhaps}
+use Rattle.fab_tree.specs.Lists.{Is, IsName, IsNumeral, IsBytes, bytes, Perhaps}
 use Rattle.fab_tree.specs.Runs.{IsPost, post, IsCrash, crash, IsCache, no_cache, cache}
-use Rattle.fab_reading.specs.Reading.{Lacks, Starts, Read, Refused, Follows, any, begins_name, begins_numeral, behind_list, behind_literals}
-use Rattle.fab_reading.proofs.Rules.{Then, End, Sign, HasText, Going, start, turn, sign, part, end_text, sign_text, then_text, any_follows, sign_follows, opened, closed, same_sign, lacks_sign, lacks_too, never, here, leaf, token_of}
+use Rattle.fab_reading.specs.Reading.{Lacks, Starts, Read, Follows, any}
+use Rattle.fab_reading.proofs.Rules.{Then, End, Sign, HasText, Going, start, turn, sign, part, end_text, sign_text, then_text, any_follows, sign_follows, same_sign, lacks_sign, lacks_too, never, leaf}
 use Rattle.fab_reading.proofs.TokenRules.{name_text}
 use Rattle.fab_reading.proofs.ChoiceRules.{perhaps_text, perhaps_none, perhaps_some}
 use Rattle.fab_bundle.specs.Pieces.{after_number, after_crashes}
@@ -104,9 +104,6 @@ post_text_2 = sign_text m.Arrow post_text_3
 
 pub post_text_1 : HasText PostRest1
 post_text_1 = then_text name_text post_text_2
-
-pub post_text_0 : HasText PostRest0
-post_text_0 = sign_text m.Post post_text_1
 
 post_back : {a : List Token} {v : PostLine} {b : List Token} → IsPost a v b → (x : PostTree0) × (v ≡ post_of x) × PostRest0 a x b
 post_back (post {x = p1} {y = p3} {zs = p4} q0 q1 q2 q3 q4 q5) = ((tt, (p1, (tt, (p3, (p4, (tt, tt)))))), refl, record { mid = _; first = q0; second = record { mid = _; first = q1; second = record { mid = _; first = q2; second = record { mid = _; first = q3; second = record { mid = _; first = q4; second = record { mid = _; first = q5; second = refl } } } } } })
@@ -206,9 +203,6 @@ crash_text_2 = sign_text m.After crash_text_3
 pub crash_text_1 : HasText CrashRest1
 crash_text_1 = then_text name_text crash_text_2
 
-pub crash_text_0 : HasText CrashRest0
-crash_text_0 = sign_text m.Crash crash_text_1
-
 crash_back : {a : List Token} {v : CrashLine} {b : List Token} → IsCrash a v b → (x : CrashTree0) × (v ≡ crash_of x) × CrashRest0 a x b
 crash_back (crash {x = p1} {n = p3} {z = p4} q0 q1 q2 q3 q4 q5) = ((tt, (p1, (tt, (p3, (p4, (tt, tt)))))), refl, record { mid = _; first = q0; second = record { mid = _; first = q1; second = record { mid = _; first = q2; second = record { mid = _; first = q3; second = record { mid = _; first = q4; second = record { mid = _; first = q5; second = refl } } } } } })
 
@@ -271,9 +265,6 @@ cache_text_2 = sign_text m.Semicolon cache_text_3
 
 pub cache_text_1 : HasText CacheRest1
 cache_text_1 = then_text numeral_text cache_text_2
-
-pub cache_text_0 : HasText CacheRest0
-cache_text_0 = sign_text m.Cache cache_text_1
 
 cache_back : {a c : List Token} {v : ℕ} {b : List Token} → Is m.Cache a c → IsCache a v b → Follows after_crashes b → (x : CacheTree0) × (v ≡ cache_of x) × CacheRest0 a x b
 cache_back i no_cache h = absurd (lacks_sign m.Cache after_crashes never i h)

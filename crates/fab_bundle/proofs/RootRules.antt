@@ -1,8 +1,6 @@
 -- Roots, requests and sessions, part by part.
-use Rattle.std.proofs.Common.{◌≡◌, ℕ, ◌+◌, IsTrue, List, [], ◌∷◌, ◌++◌, length, Option, Some, None, refl, sym, ap, subst, ◌∙◌}
+use Rattle.std.proofs.Common.{◌≡◌, ℕ, ◌+◌, List, refl, subst}
 use Rattle.fab_base.specs.declared.token.Mark.TheVariants as m
-use Rattle.fab_base.specs.declared.token.Kind.{Kind}
-use Rattle.fab_base.specs.declared.token.Kind.TheVariants as k
 use Rattle.fab_base.specs.declared.token.Token.{Token}
 use Rattle.fab_tree.specs.declared.name.Name.{Name}
 use Rattle.fab_tree.specs.declared.start.Given.{Given}
@@ -11,8 +9,8 @@ use Rattle.fab_tree.specs.declared.start.RequestText.{RequestText}
 use Rattle.fab_tree.specs.declared.start.Session.{Session}
 use Rattle.fab_tree.specs.Lists.{Is, IsName, Repeated, Separated}
 use Rattle.fab_tree.specs.Runs.{IsGiven, IsRoot, root, IsRequest, request, IsSession, session}
-use Rattle.fab_reading.specs.Reading.{Lacks, Starts, Read, Refused, Follows, any, begins_name, begins_numeral, behind_list, behind_literals}
-use Rattle.fab_reading.proofs.Rules.{Then, End, Sign, HasText, Going, start, turn, sign, part, end_text, sign_text, then_text, any_follows, sign_follows, opened, closed, same_sign, lacks_sign, lacks_too, never, here, leaf, token_of}
+use Rattle.fab_reading.specs.Reading.{Read, any, begins_name, behind_list, behind_literals}
+use Rattle.fab_reading.proofs.Rules.{Then, End, Sign, HasText, Going, start, turn, sign, part, end_text, sign_text, then_text, any_follows, sign_follows, opened, closed}
 use Rattle.fab_reading.proofs.TokenRules.{name_text}
 use Rattle.fab_reading.proofs.ListRules.{repeated_text}
 use Rattle.fab_reading.proofs.ItemRules.{separated_text}
@@ -119,9 +117,6 @@ root_text_2 = sign_text m.Colon root_text_3
 pub root_text_1 : HasText RootRest1
 root_text_1 = then_text name_text root_text_2
 
-pub root_text_0 : HasText RootRest0
-root_text_0 = sign_text m.Root root_text_1
-
 root_back : {a : List Token} {v : Root} {b : List Token} → IsRoot a v b → (x : RootTree0) × (v ≡ root_of x) × RootRest0 a x b
 root_back (root {x = p1} {y = p3} {z = p5} {ws = p7} q0 q1 q2 q3 q4 q5 q6 q7 q8 q9) = ((tt, (p1, (tt, (p3, (tt, (p5, (tt, (p7, (tt, (tt, tt)))))))))), refl, record { mid = _; first = q0; second = record { mid = _; first = q1; second = record { mid = _; first = q2; second = record { mid = _; first = q3; second = record { mid = _; first = q4; second = record { mid = _; first = q5; second = record { mid = _; first = q6; second = record { mid = _; first = q7; second = record { mid = _; first = q8; second = record { mid = _; first = q9; second = refl } } } } } } } } } })
 
@@ -215,9 +210,6 @@ request_text_2 = then_text separated_text request_text_3
 pub request_text_1 : HasText RequestRest1
 request_text_1 = sign_text m.LeftParen request_text_2
 
-pub request_text_0 : HasText RequestRest0
-request_text_0 = then_text name_text request_text_1
-
 request_back : {a : List Token} {v : RequestText} {b : List Token} → IsRequest a v b → (x : RequestTree0) × (v ≡ request_of x) × RequestRest0 a x b
 request_back (request {x = p0} {ys = p2} q0 q1 q2 q3 q4) = ((p0, (tt, (p2, (tt, (tt, tt))))), refl, record { mid = _; first = q0; second = record { mid = _; first = q1; second = record { mid = _; first = q2; second = record { mid = _; first = q3; second = record { mid = _; first = q4; second = refl } } } } })
 
@@ -295,9 +287,6 @@ session_text_2 = sign_text m.LeftBrace session_text_3
 
 pub session_text_1 : HasText SessionRest1
 session_text_1 = then_text name_text session_text_2
-
-pub session_text_0 : HasText SessionRest0
-session_text_0 = sign_text m.Session session_text_1
 
 session_back : {a : List Token} {v : Session} {b : List Token} → IsSession a v b → (x : SessionTree0) × (v ≡ session_of x) × SessionRest0 a x b
 session_back (session {x = p1} {ys = p3} q0 q1 q2 q3 q4) = ((tt, (p1, (tt, (p3, (tt, tt))))), refl, record { mid = _; first = q0; second = record { mid = _; first = q1; second = record { mid = _; first = q2; second = record { mid = _; first = q3; second = record { mid = _; first = q4; second = refl } } } } })

@@ -1,5 +1,5 @@
 -- A whole text, part by part, and where it is refused.
-use Rattle.std.proofs.Common.{◌≡◌, ℕ, ◌+◌, ◌-◌, Bool, None, Some, Option, option_and_then, IsSome, IsTrue, List, [], ◌∷◌, ◌++◌, length, refl, sym, ap, ◌∙◌, subst, append_assoc, append-nil, length-append, arith}
+use Rattle.std.proofs.Common.{◌≡◌, ℕ, ◌+◌, ◌-◌, ◌<◌, Bool, None, Some, option_and_then, IsSome, IsTrue, List, [], ◌∷◌, ◌++◌, length, refl, sym, ap, ◌∙◌, subst, append_assoc, append-nil, length-append, arith}
 use Rattle.fab_base.specs.declared.limit.What.{What}
 use Rattle.fab_base.specs.declared.token.Mark.{Mark}
 use Rattle.fab_base.specs.declared.token.Mark.TheVariants as m
@@ -200,9 +200,6 @@ start_text_2 = sign_text m.LeftBrace start_text_3
 pub start_text_1 : HasText StartRest1
 start_text_1 = sign_text m.Run start_text_2
 
-pub start_text_0 : HasText StartRest0
-start_text_0 = then_text program_text start_text_1
-
 start_back : {a : List Token} {v : Start} {b : List Token} → IsStart a v b → (x : StartTree0) × (v ≡ start_of x) × StartRest0 a x b
 start_back (start {p = p0} {rs = p3} {ss = p4} {ps = p5} {cs = p6} {n = p7} {es = p8} q0 q1 q2 q3 q4 q5 q6 q7 q8 q9) = ((p0, (tt, (tt, (p3, (p4, (p5, (p6, (p7, (p8, (tt, tt)))))))))), refl, record { mid = _; first = q0; second = record { mid = _; first = q1; second = record { mid = _; first = q2; second = record { mid = _; first = q3; second = record { mid = _; first = q4; second = record { mid = _; first = q5; second = record { mid = _; first = q6; second = record { mid = _; first = q7; second = record { mid = _; first = q8; second = record { mid = _; first = q9; second = refl } } } } } } } } } })
 
@@ -278,9 +275,17 @@ more_behind {ts = ts} r some = extra (part (ending (rules.start IsStart nothing 
 
 -- ---- limits
 
+pub none_left : (a : List Token) → length a < 1 → a ≡ []
+none_left [] h = refl
+none_left (t ∷ ts) h = absurd (omega arith)
+
 -- a text is read as one bundle alone
 pub single : {ts rest : List Token} {t s : Start} → rest ≡ [] → Read IsStart any 64 ts t rest → IsText ts s → s ≡ t
 single {ts = ts} {t = t} {s = s} none r d = (r.only [] (subst (λ x. SameHead x []) (sym none) tt) s [] (subst (λ x. IsStart x s []) (r.cut ∙ ap (λ x. r.front ++ x) none) d) tt).0
+
+-- each bundle that a text stands for passes the limit that the one that is read does
+pub passed_too : {ts rest : List Token} {t : Start} {what : What} → rest ≡ [] → Read IsStart any 64 ts t rest → Some what ≡ first_passed t → (s : Start) → IsText ts s → first_passed s ≡ Some what
+passed_too none r passed s d = ap first_passed (single none r d) ∙ sym passed
 
 -- the one bundle of a text passes a limit
 pub too_many : {ts rest : List Token} {t : Start} {what : What} → rest ≡ [] → Read IsStart any 64 ts t rest → first_passed t ≡ Some what → TooMany ts what

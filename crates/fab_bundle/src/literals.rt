@@ -5,10 +5,10 @@ ghost use Rattle.fab_tree.specs.Runs.{IsNegated, IsLiteral, IsGiven};
 ghost use Rattle.fab_reading.specs.Reading.{Read, Stops, Starts, any, begins_literal};
 
 use fab_base::{Kind, Mark, Token};
-use fab_tree::{Given, Literal};
 use fab_reading::{
     Item, Refusal, behind, behind_least, name, next, numeral, positive, starts_name,
 };
+use fab_tree::{Given, Literal};
 use std::alloc::Global;
 
 /// A number of 31 bits behind a minus sign.

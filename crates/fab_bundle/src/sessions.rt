@@ -5,8 +5,8 @@ ghost use Rattle.fab_reading.specs.Reading.{Read, Stops, Starts, any, begins_ses
 
 use crate::literals::GivenItem;
 use fab_base::{Kind, Mark, Token};
-use fab_tree::{RequestText, Session};
 use fab_reading::{Refusal, Rule, name, next, open, repeated, separated, sign, starts_name};
+use fab_tree::{RequestText, Session};
 use std::alloc::Global;
 
 /// A method, and literals in brackets.
