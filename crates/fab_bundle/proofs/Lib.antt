@@ -1,4 +1,6 @@
 pub mod CountRules
+pub mod EventRules
+pub mod LiteralRules
+pub mod PostRules
 pub mod RootRules
-pub mod SessionRules
 pub mod TextRules

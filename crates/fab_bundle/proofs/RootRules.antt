@@ -1,202 +1,310 @@
--- Roots and their literals, part by part.
-use Rattle.std.proofs.Common.{◌≡◌, ℕ, ℤ, pos, IsTrue, List, [], ◌∷◌, ◌++◌, length, Some, refl, sym, ap, subst, ◌∙◌, append_assoc}
+-- Roots, requests and sessions, part by part.
+use Rattle.std.proofs.Common.{◌≡◌, ℕ, ◌+◌, List, refl, subst}
 use Rattle.fab_base.specs.declared.token.Mark.TheVariants as m
-use Rattle.fab_base.specs.declared.token.Kind.{Kind}
-use Rattle.fab_base.specs.declared.token.Kind.TheVariants as k
 use Rattle.fab_base.specs.declared.token.Token.{Token}
 use Rattle.fab_tree.specs.declared.name.Name.{Name}
-use Rattle.fab_tree.specs.declared.start.Literal.{Literal}
-use Rattle.fab_tree.specs.declared.start.Literal.TheVariants as literals
 use Rattle.fab_tree.specs.declared.start.Given.{Given}
 use Rattle.fab_tree.specs.declared.start.Root.{Root}
-use Rattle.fab_reading.specs.declared.refusal.Refusal.{Refusal}
-use Rattle.fab_reading.specs.declared.refusal.Refusal.TheVariants as refusal
-use Rattle.fab_tree.specs.Depth.{room_by, room_after}
-use Rattle.fab_tree.specs.Lists.{Is, is, IsName, name, Separated}
-use Rattle.fab_tree.specs.Declarations.{minus, IsNumeral, numeral, IsNegated, negative, least, IsLiteral, number, negated, null, root, IsGiven, given, IsRoot}
-use Rattle.fab_reading.specs.Reading.{Lacks, Starts, Read, Refused, Deep, Stops, SameHead, Follows, any, begins_name, begins_numeral, begins_negated, begins_literal}
-use Rattle.fab_bundle.specs.Firsts.{negated_begins, literal_begins}
-use Rattle.fab_reading.proofs.ItemRules.{same_starts}
-use Rattle.fab_reading.proofs.Rules.{Then, End, Sign, HasText, Going, start, turn, leaf, token_of, same_sign, never, here}
-
--- ---- numbers
-
-numeral_only : {n j : ℕ} {t : Token} {more after : List Token} → t.kind ≡ k.Number n → IsNumeral (t ∷ more) j after → (j ≡ n) × (after ≡ more)
-numeral_only e (numeral g h) = (cc, refl)
-
-negated_only : {n : ℕ} {t : Token} {more after : List Token} {v : ℤ} → t.kind ≡ k.Number n → IsNegated (t ∷ more) v after → (v ≡ minus n) × (after ≡ more)
-negated_only e (negative p) = let x = numeral_only e p in (ap minus x.0, x.1)
-negated_only e (least g) = absurd (cc)
-
-least_only : {t : Token} {more after : List Token} {v : ℤ} → t.kind ≡ k.Least → IsNegated (t ∷ more) v after → (v ≡ minus 2147483648) × (after ≡ more)
-least_only e (negative (numeral g h)) = absurd (cc)
-least_only e (least g) = (refl, refl)
-
--- a number behind a minus sign
-pub negative_read : {room n : ℕ} {a b : List Token} → IsNumeral a n b → Read IsNegated any room a (minus n) b
-negative_read {room = room} (numeral e h) = leaf refl (ap (λ x. room_by x room) e) (λ more. negative (numeral e h)) (λ more v after d. negated_only e d)
-
-pub least_read : {room : ℕ} {a b : List Token} {t : Token} → a ≡ t ∷ b → t.kind ≡ k.Least → Read IsNegated any room a (minus 2147483648) b
-least_read {room = room} cut e = leaf cut (ap (λ x. room_by x room) e) (λ more. least e) (λ more v after d. least_only e d)
-
-pub negated_text : HasText IsNegated
-negated_text = (record { kind = k.Least; at = 0; end = 0 } ∷ [], minus 2147483648, λ after. least refl)
-
--- ---- literals
-
-number_only : {n : ℕ} {t : Token} {more after : List Token} {v : Literal} → t.kind ≡ k.Number n → IsLiteral (t ∷ more) v after → (v ≡ literals.Int (pos n)) × (after ≡ more)
-number_only e (number p) = let x = numeral_only e p in (ap (λ y. literals.Int (pos y)) x.0, x.1)
-number_only e (negated (is g) p) = absurd (cc)
-number_only e (null (is g)) = absurd (cc)
-number_only e (root (name g)) = absurd (cc)
-
-pub number_read : {room n : ℕ} {a b : List Token} → IsNumeral a n b → Read IsLiteral any room a (literals.Int (pos n)) b
-number_read {room = room} (numeral e h) = leaf refl (ap (λ x. room_by x room) e) (λ more. number (numeral e h)) (λ more v after d. number_only e d)
-
-null_only : {t : Token} {more after : List Token} {v : Literal} → t.kind ≡ k.Fixed m.Null → IsLiteral (t ∷ more) v after → (v ≡ literals.Null) × (after ≡ more)
-null_only e (number (numeral g h)) = absurd (cc)
-null_only e (negated (is g) p) = absurd (cc)
-null_only e (null (is g)) = (refl, refl)
-null_only e (root (name g)) = absurd (cc)
-
-pub null_read : {room : ℕ} {a b : List Token} → Is m.Null a b → Read IsLiteral any room a literals.Null b
-null_read {room = room} (is e) = leaf refl (ap (λ x. room_by x room) e) (λ more. null (is e)) (λ more v after d. null_only e d)
-
-negated_back : {a c : List Token} {v : Literal} {b : List Token} → Is m.Minus a c → IsLiteral a v b → (x : Unit {0} × ℤ) × (v ≡ literals.Int x.1) × Then (Sign m.Minus) IsNegated a x b
-negated_back (is e) (number (numeral g h)) = absurd (cc)
-negated_back i (negated {b = d} {n = n} j p) = ((tt, n), refl, record { mid = d; first = j; second = p })
-negated_back (is e) (null (is g)) = absurd (cc)
-negated_back (is e) (root (name g)) = absurd (cc)
-
-pub negated_start : {room : ℕ} (a : List Token) {c : List Token} → Is m.Minus a c → Going IsLiteral any room a (Then (Sign m.Minus) IsNegated) (λ v. literals.Int v.1) room a
-negated_start {room = room} a i = turn (λ v. literals.Int v.1) (start IsLiteral any room a) (λ more v after p. negated p.first p.second) (λ more v after same p h. negated_back (same_sign a more i same).1 p)
-
-named_back : {a : List Token} {v : Literal} {b : List Token} → Starts begins_name a → IsLiteral a v b → (y : Name) × (v ≡ literals.Root y) × IsName a y b
-named_back s (number (numeral g h)) = absurd (never (subst (λ x. IsTrue (begins_name x)) g s))
-named_back s (negated (is g) p) = absurd (never (subst (λ x. IsTrue (begins_name x)) g s))
-named_back s (null (is g)) = absurd (never (subst (λ x. IsTrue (begins_name x)) g s))
-named_back s (root {x = y} p) = (y, refl, p)
-
-pub named_start : {room : ℕ} (a : List Token) → Starts begins_name a → Going IsLiteral any room a IsName literals.Root room a
-named_start {room = room} a s = turn literals.Root (start IsLiteral any room a) (λ more v after. root) (λ more v after same d f. named_back (same_starts begins_name a more same s) d)
-
-pub literal_text : HasText IsLiteral
-literal_text = (token_of m.Null ∷ [], literals.Null, λ after. null (is refl))
-
--- no number, no sign, no name: no literal
-no_literal_begins : (x : Kind) → (IsTrue (begins_numeral x) → ⊥) → (x ≡ k.Fixed m.Minus → ⊥) → (x ≡ k.Fixed m.Null → ⊥) → (IsTrue (begins_name x) → ⊥) → IsTrue (begins_literal x) → ⊥
-no_literal_begins (k.Number n) i g h j l = i l
-no_literal_begins (k.Fixed m.Minus) i g h j l = g refl
-no_literal_begins (k.Fixed m.Null) i g h j l = h refl
-no_literal_begins (k.Name y) i g h j l = j l
-no_literal_begins _ i g h j l = never l
-
-no_literal_starts : (a : List Token) → (Starts begins_numeral a → ⊥) → Lacks m.Minus a → Lacks m.Null a → (Starts begins_name a → ⊥) → Starts begins_literal a → ⊥
-no_literal_starts [] i g h j l = l
-no_literal_starts (t ∷ ts) i g h j l = no_literal_begins t.kind i (λ e. g ts (is e)) (λ e. h ts (is e)) j l
-
-pub literal_refused : {room : ℕ} (a : List Token) → (Starts begins_numeral a → ⊥) → Lacks m.Minus a → Lacks m.Null a → (Starts begins_name a → ⊥) → Refused IsLiteral any room a (length a)
-literal_refused a i g h j = here begins_literal literal_begins literal_text (no_literal_starts a i g h j)
-
-no_negated_begins : (x : Kind) → (IsTrue (begins_numeral x) → ⊥) → (x ≡ k.Least → ⊥) → IsTrue (begins_negated x) → ⊥
-no_negated_begins (k.Number n) i g l = i l
-no_negated_begins k.Least i g l = g refl
-no_negated_begins _ i g l = never l
-
-no_negated_starts : (a : List Token) → (Starts begins_numeral a → ⊥) → ((t : Token) (ts : List Token) → a ≡ t ∷ ts → t.kind ≡ k.Least → ⊥) → Starts begins_negated a → ⊥
-no_negated_starts [] i g l = l
-no_negated_starts (t ∷ ts) i g l = no_negated_begins t.kind i (g t ts refl) l
-
-pub negated_refused : {room : ℕ} (a : List Token) → (Starts begins_numeral a → ⊥) → ((t : Token) (ts : List Token) → a ≡ t ∷ ts → t.kind ≡ k.Least → ⊥) → Refused IsNegated any room a (length a)
-negated_refused a i g = here begins_negated negated_begins negated_text (no_negated_starts a i g)
-
--- ---- literals with their places
-
-abbrev pub given_at : ℕ → Literal → Given
-given_at at x = record { literal = x; at = at }
-
-given_back : {t : Token} {more : List Token} {v : Given} {b : List Token} → IsGiven (t ∷ more) v b → (x : Literal) × (v ≡ given_at t.at x) × IsLiteral (t ∷ more) x b
-given_back (given {x = x} p) = (x, refl, p)
-
-literal_of : {a b : List Token} {v : Given} → IsGiven a v b → IsLiteral a v.literal b
-literal_of (given p) = p
-
-no_literal : {x : Literal} {b : List Token} → IsLiteral [] x b → ⊥
-no_literal (number p) = elim p [ ]
-no_literal (negated i p) = elim i [ ]
-no_literal (null i) = elim i [ ]
-no_literal (root p) = elim p [ ]
-
--- what is read as a literal is read as one with its place
-pub given_read : {room : ℕ} {a b c : List Token} {t : Token} {x : Literal} → a ≡ t ∷ c → Read IsLiteral any room a x b → Read IsGiven any room a (given_at t.at x) b
-given_read {room = room} {a = a} {b = b} {c = c} {t = t} {x = x} e r = go r.front r.cut r.level r.reads r.only
-  where
-    same_token : (u : Token) (p : List Token) → a ≡ u ∷ p → u ≡ t
-    same_token u p f = let two : u ∷ p ≡ t ∷ c = sym f ∙ e in cc
-
-    go : (p : List Token) → a ≡ p ++ b → room_after p room ≡ Some room → ((more : List Token) → IsLiteral (p ++ more) x more) → ((more : List Token) → SameHead b more → (u : Literal) (after : List Token) → IsLiteral (p ++ more) u after → Follows any after → (u ≡ x) × (after ≡ more)) → Read IsGiven any room a (given_at t.at x) b
-    go [] cut level reads only = absurd (no_literal (reads []))
-    go (u ∷ p) cut level reads only = let same : u ≡ t = same_token u (p ++ b) cut in record {
-      front = u ∷ p;
-      cut = cut;
-      level = level;
-      reads = λ more. subst (λ z. IsGiven (u ∷ (p ++ more)) (given_at z.at x) more) same (given (reads more));
-      only = λ more sh v after d h.
-          let y = given_back d in
-          let z = only more sh y.0 after y.2 h in
-          (y.1 ∙ ap (given_at u.at) z.0 ∙ ap (λ w. given_at w.at x) same, z.1);
-    }
-
--- the place is that of the first token, whatever follows
-placed : (front more : List Token) (x : Literal) → ((after : List Token) → IsLiteral (front ++ (more ++ after)) x after) → (v : Given) × ((after : List Token) → IsGiven (front ++ (more ++ after)) v after)
-placed (t ∷ front) more x d = (given_at t.at x, λ after. given (d after))
-placed [] (t ∷ more) x d = (given_at t.at x, λ after. given (d after))
-placed [] [] x d = absurd (no_literal (d []))
-
-pub given_refused : {room left : ℕ} {a : List Token} → Refused IsLiteral any room a left → Refused IsGiven any room a left
-given_refused r = let some = placed r.front r.begins.0 r.begins.1 r.begins.2 in record {
-  front = r.front;
-  back = r.back;
-  cut = r.cut;
-  left_is = r.left_is;
-  level = r.level;
-  begins = (r.begins.0, some.0, some.1);
-  bad = λ more same v after d h. r.bad more same v.literal after (literal_of d) h;
-}
-
-pub given_deep : {room left : ℕ} {a : List Token} → Deep IsLiteral room a left → Deep IsGiven room a left
-given_deep r = let some = placed (r.front ++ r.next ∷ []) r.begins.0 r.begins.1 (λ after. subst (λ z. IsLiteral z r.begins.1 after) (sym (append_assoc r.front (r.next ∷ []) (r.begins.0 ++ after))) (r.begins.2 after)) in record {
-  front = r.front;
-  next = r.next;
-  back = r.back;
-  cut = r.cut;
-  left_is = r.left_is;
-  level = r.level;
-  opens = r.opens;
-  begins = (r.begins.0, some.0, λ after. subst (λ z. IsGiven z some.0 after) (append_assoc r.front (r.next ∷ []) (r.begins.0 ++ after)) (some.1 after));
-}
-
-pub given_stops : (room : ℕ) (a : List Token) (e : Refusal) → Stops IsLiteral any room a e → Stops IsGiven any room a e
-given_stops room a refusal.Memory r = tt
-given_stops room a (refusal.Syntax left) r = given_refused r
-given_stops room a (refusal.Deep left) r = given_deep r
-
-pub given_text : HasText IsGiven
-given_text = (token_of m.Null ∷ [], given_at 0 literals.Null, λ after. given (null (is refl)))
+use Rattle.fab_tree.specs.declared.start.RequestText.{RequestText}
+use Rattle.fab_tree.specs.declared.start.Session.{Session}
+use Rattle.fab_tree.specs.Lists.{Is, IsName, Repeated, Separated}
+use Rattle.fab_tree.specs.Runs.{IsGiven, IsRoot, root, IsRequest, request, IsSession, session}
+use Rattle.fab_reading.specs.Reading.{Read, any, begins_name, behind_list, behind_literals}
+use Rattle.fab_reading.proofs.Rules.{Then, End, Sign, HasText, Going, start, turn, sign, part, end_text, sign_text, then_text, any_follows, sign_follows, opened, closed}
+use Rattle.fab_reading.proofs.TokenRules.{name_text}
+use Rattle.fab_reading.proofs.ListRules.{repeated_text}
+use Rattle.fab_reading.proofs.ItemRules.{separated_text}
 
 -- ---- root = "root" name ":" name "@" name "(" [literal {"," literal}] ")" ";"
 
-abbrev pub RootParts : Type 0
-RootParts = Unit {0} × (Name × (Unit {0} × (Name × (Unit {0} × (Name × (Unit {0} × (List Given × (Unit {0} × (Unit {0} × Unit {0})))))))))
+abbrev pub RootTree10 : Type 0
+RootTree10 = Unit {0}
 
-abbrev pub root_of : RootParts → Root
+abbrev pub RootRest10 : List Token → RootTree10 → List Token → Type 0
+RootRest10 = End
+
+abbrev pub RootTree9 : Type 0
+RootTree9 = Unit {0} × RootTree10
+
+abbrev pub RootRest9 : List Token → RootTree9 → List Token → Type 0
+RootRest9 = Then (Sign m.Semicolon) RootRest10
+
+abbrev pub RootTree8 : Type 0
+RootTree8 = Unit {0} × RootTree9
+
+abbrev pub RootRest8 : List Token → RootTree8 → List Token → Type 0
+RootRest8 = Then (Sign m.RightParen) RootRest9
+
+abbrev pub RootTree7 : Type 0
+RootTree7 = (List Given) × RootTree8
+
+abbrev pub RootRest7 : List Token → RootTree7 → List Token → Type 0
+RootRest7 = Then (Separated m.Comma IsGiven) RootRest8
+
+abbrev pub RootTree6 : Type 0
+RootTree6 = Unit {0} × RootTree7
+
+abbrev pub RootRest6 : List Token → RootTree6 → List Token → Type 0
+RootRest6 = Then (Sign m.LeftParen) RootRest7
+
+abbrev pub RootTree5 : Type 0
+RootTree5 = Name × RootTree6
+
+abbrev pub RootRest5 : List Token → RootTree5 → List Token → Type 0
+RootRest5 = Then IsName RootRest6
+
+abbrev pub RootTree4 : Type 0
+RootTree4 = Unit {0} × RootTree5
+
+abbrev pub RootRest4 : List Token → RootTree4 → List Token → Type 0
+RootRest4 = Then (Sign m.At) RootRest5
+
+abbrev pub RootTree3 : Type 0
+RootTree3 = Name × RootTree4
+
+abbrev pub RootRest3 : List Token → RootTree3 → List Token → Type 0
+RootRest3 = Then IsName RootRest4
+
+abbrev pub RootTree2 : Type 0
+RootTree2 = Unit {0} × RootTree3
+
+abbrev pub RootRest2 : List Token → RootTree2 → List Token → Type 0
+RootRest2 = Then (Sign m.Colon) RootRest3
+
+abbrev pub RootTree1 : Type 0
+RootTree1 = Name × RootTree2
+
+abbrev pub RootRest1 : List Token → RootTree1 → List Token → Type 0
+RootRest1 = Then IsName RootRest2
+
+abbrev pub RootTree0 : Type 0
+RootTree0 = Unit {0} × RootTree1
+
+abbrev pub RootRest0 : List Token → RootTree0 → List Token → Type 0
+RootRest0 = Then (Sign m.Root) RootRest1
+
+-- what the parts make
+abbrev pub root_of : RootTree0 → Root
 root_of v = record { name = v.1.0; class = v.1.1.1.0; store = v.1.1.1.1.1.0; values = v.1.1.1.1.1.1.1.0 }
 
-abbrev pub RootChain : List Token → RootParts → List Token → Type 0
-RootChain = Then (Sign m.Root) (Then IsName (Then (Sign m.Colon) (Then IsName (Then (Sign m.At) (Then IsName (Then (Sign m.LeftParen) (Then (Separated m.Comma IsGiven) (Then (Sign m.RightParen) (Then (Sign m.Semicolon) End)))))))))
+pub root_text_10 : HasText RootRest10
+root_text_10 = end_text
 
-root_back : {a : List Token} {v : Root} {b : List Token} → IsRoot a v b → (x : RootParts) × (v ≡ root_of x) × RootChain a x b
-root_back (root {x = p_root} {y = p_class} {z = p_store} {ws = p_values} q0 q1 q2 q3 q4 q5 q6 q7 q8 q9) = ((tt, (p_root, (tt, (p_class, (tt, (p_store, (tt, (p_values, (tt, (tt, tt)))))))))), refl, record { mid = _; first = q0; second = record { mid = _; first = q1; second = record { mid = _; first = q2; second = record { mid = _; first = q3; second = record { mid = _; first = q4; second = record { mid = _; first = q5; second = record { mid = _; first = q6; second = record { mid = _; first = q7; second = record { mid = _; first = q8; second = record { mid = _; first = q9; second = refl } } } } } } } } } })
+pub root_text_9 : HasText RootRest9
+root_text_9 = sign_text m.Semicolon root_text_10
 
-pub root_start : {room : ℕ} (a : List Token) → Going IsRoot any room a RootChain root_of room a
-root_start {room = room} a = turn root_of (start IsRoot any room a) (λ more v after p. let p1 = p.second in let p2 = p1.second in let p3 = p2.second in let p4 = p3.second in let p5 = p4.second in let p6 = p5.second in let p7 = p6.second in let p8 = p7.second in let p9 = p8.second in subst (λ x. IsRoot more (root_of v) x) p9.second (root p.first p1.first p2.first p3.first p4.first p5.first p6.first p7.first p8.first p9.first)) (λ more v after same p h. root_back p)
+pub root_text_8 : HasText RootRest8
+root_text_8 = sign_text m.RightParen root_text_9
+
+pub root_text_7 : HasText RootRest7
+root_text_7 = then_text separated_text root_text_8
+
+pub root_text_6 : HasText RootRest6
+root_text_6 = sign_text m.LeftParen root_text_7
+
+pub root_text_5 : HasText RootRest5
+root_text_5 = then_text name_text root_text_6
+
+pub root_text_4 : HasText RootRest4
+root_text_4 = sign_text m.At root_text_5
+
+pub root_text_3 : HasText RootRest3
+root_text_3 = then_text name_text root_text_4
+
+pub root_text_2 : HasText RootRest2
+root_text_2 = sign_text m.Colon root_text_3
+
+pub root_text_1 : HasText RootRest1
+root_text_1 = then_text name_text root_text_2
+
+root_back : {a : List Token} {v : Root} {b : List Token} → IsRoot a v b → (x : RootTree0) × (v ≡ root_of x) × RootRest0 a x b
+root_back (root {x = p1} {y = p3} {z = p5} {ws = p7} q0 q1 q2 q3 q4 q5 q6 q7 q8 q9) = ((tt, (p1, (tt, (p3, (tt, (p5, (tt, (p7, (tt, (tt, tt)))))))))), refl, record { mid = _; first = q0; second = record { mid = _; first = q1; second = record { mid = _; first = q2; second = record { mid = _; first = q3; second = record { mid = _; first = q4; second = record { mid = _; first = q5; second = record { mid = _; first = q6; second = record { mid = _; first = q7; second = record { mid = _; first = q8; second = record { mid = _; first = q9; second = refl } } } } } } } } } })
+
+pub root_0 : {room : ℕ} (a : List Token) → Going IsRoot any room a RootRest0 root_of room a
+root_0 {room = room} a = turn root_of (start IsRoot any room a) (λ more v after p. let p1 = p.second in let p2 = p1.second in let p3 = p2.second in let p4 = p3.second in let p5 = p4.second in let p6 = p5.second in let p7 = p6.second in let p8 = p7.second in let p9 = p8.second in subst (λ x. IsRoot more (root_of v) x) p9.second (root p.first p1.first p2.first p3.first p4.first p5.first p6.first p7.first p8.first p9.first)) (λ more v after same p h. root_back p)
+
+pub root_1 : {room : ℕ} {a0 a1 : List Token} → Is m.Root a0 a1 → Going IsRoot any room a0 RootRest1 (λ v. root_of (tt, v)) room a1
+root_1 h0 = sign (root_0 _) h0 refl
+
+pub root_2 : {room : ℕ} {a0 a1 a2 : List Token} {x1 : Name} → Is m.Root a0 a1 → Read IsName any room a1 x1 a2 → Going IsRoot any room a0 RootRest2 (λ v. root_of (tt, (x1, v))) room a2
+root_2 h0 h1 = part (root_1 h0) h1 (λ more v after q h. any_follows more)
+
+pub root_3 : {room : ℕ} {a0 a1 a2 a3 : List Token} {x1 : Name} → Is m.Root a0 a1 → Read IsName any room a1 x1 a2 → Is m.Colon a2 a3 → Going IsRoot any room a0 RootRest3 (λ v. root_of (tt, (x1, (tt, v)))) room a3
+root_3 h0 h1 h2 = sign (root_2 h0 h1) h2 refl
+
+pub root_4 : {room : ℕ} {a0 a1 a2 a3 a4 : List Token} {x1 : Name} {x3 : Name} → Is m.Root a0 a1 → Read IsName any room a1 x1 a2 → Is m.Colon a2 a3 → Read IsName any room a3 x3 a4 → Going IsRoot any room a0 RootRest4 (λ v. root_of (tt, (x1, (tt, (x3, v))))) room a4
+root_4 h0 h1 h2 h3 = part (root_3 h0 h1 h2) h3 (λ more v after q h. any_follows more)
+
+pub root_5 : {room : ℕ} {a0 a1 a2 a3 a4 a5 : List Token} {x1 : Name} {x3 : Name} → Is m.Root a0 a1 → Read IsName any room a1 x1 a2 → Is m.Colon a2 a3 → Read IsName any room a3 x3 a4 → Is m.At a4 a5 → Going IsRoot any room a0 RootRest5 (λ v. root_of (tt, (x1, (tt, (x3, (tt, v)))))) room a5
+root_5 h0 h1 h2 h3 h4 = sign (root_4 h0 h1 h2 h3) h4 refl
+
+pub root_6 : {room : ℕ} {a0 a1 a2 a3 a4 a5 a6 : List Token} {x1 : Name} {x3 : Name} {x5 : Name} → Is m.Root a0 a1 → Read IsName any room a1 x1 a2 → Is m.Colon a2 a3 → Read IsName any room a3 x3 a4 → Is m.At a4 a5 → Read IsName any room a5 x5 a6 → Going IsRoot any room a0 RootRest6 (λ v. root_of (tt, (x1, (tt, (x3, (tt, (x5, v))))))) room a6
+root_6 h0 h1 h2 h3 h4 h5 = part (root_5 h0 h1 h2 h3 h4) h5 (λ more v after q h. any_follows more)
+
+pub root_7 : {room inner : ℕ} {a0 a1 a2 a3 a4 a5 a6 a7 : List Token} {x1 : Name} {x3 : Name} {x5 : Name} → Is m.Root a0 a1 → Read IsName any room a1 x1 a2 → Is m.Colon a2 a3 → Read IsName any room a3 x3 a4 → Is m.At a4 a5 → Read IsName any room a5 x5 a6 → (Is m.LeftParen a6 a7 × (room ≡ inner + 1)) → Going IsRoot any room a0 RootRest7 (λ v. root_of (tt, (x1, (tt, (x3, (tt, (x5, (tt, v)))))))) inner a7
+root_7 h0 h1 h2 h3 h4 h5 h6 = sign (root_6 h0 h1 h2 h3 h4 h5) h6.0 (opened m.LeftParen (λ r. refl) h6.1)
+
+pub root_8 : {room inner : ℕ} {a0 a1 a2 a3 a4 a5 a6 a7 a8 : List Token} {x1 : Name} {x3 : Name} {x5 : Name} {x7 : List Given} → Is m.Root a0 a1 → Read IsName any room a1 x1 a2 → Is m.Colon a2 a3 → Read IsName any room a3 x3 a4 → Is m.At a4 a5 → Read IsName any room a5 x5 a6 → (Is m.LeftParen a6 a7 × (room ≡ inner + 1)) → Read (Separated m.Comma IsGiven) behind_literals inner a7 x7 a8 → Going IsRoot any room a0 RootRest8 (λ v. root_of (tt, (x1, (tt, (x3, (tt, (x5, (tt, (x7, v))))))))) inner a8
+root_8 h0 h1 h2 h3 h4 h5 h6 h7 = part (root_7 h0 h1 h2 h3 h4 h5 h6) h7 (λ more v after q h. sign_follows m.RightParen behind_literals refl q.first)
+
+pub root_9 : {room inner : ℕ} {a0 a1 a2 a3 a4 a5 a6 a7 a8 a9 : List Token} {x1 : Name} {x3 : Name} {x5 : Name} {x7 : List Given} → Is m.Root a0 a1 → Read IsName any room a1 x1 a2 → Is m.Colon a2 a3 → Read IsName any room a3 x3 a4 → Is m.At a4 a5 → Read IsName any room a5 x5 a6 → (Is m.LeftParen a6 a7 × (room ≡ inner + 1)) → Read (Separated m.Comma IsGiven) behind_literals inner a7 x7 a8 → Is m.RightParen a8 a9 → Going IsRoot any room a0 RootRest9 (λ v. root_of (tt, (x1, (tt, (x3, (tt, (x5, (tt, (x7, (tt, v)))))))))) room a9
+root_9 h0 h1 h2 h3 h4 h5 h6 h7 h8 = sign (root_8 h0 h1 h2 h3 h4 h5 h6 h7) h8 (closed m.RightParen _ (λ r. refl) h6.1)
+
+pub root_10 : {room inner : ℕ} {a0 a1 a2 a3 a4 a5 a6 a7 a8 a9 a10 : List Token} {x1 : Name} {x3 : Name} {x5 : Name} {x7 : List Given} → Is m.Root a0 a1 → Read IsName any room a1 x1 a2 → Is m.Colon a2 a3 → Read IsName any room a3 x3 a4 → Is m.At a4 a5 → Read IsName any room a5 x5 a6 → (Is m.LeftParen a6 a7 × (room ≡ inner + 1)) → Read (Separated m.Comma IsGiven) behind_literals inner a7 x7 a8 → Is m.RightParen a8 a9 → Is m.Semicolon a9 a10 → Going IsRoot any room a0 RootRest10 (λ v. root_of (tt, (x1, (tt, (x3, (tt, (x5, (tt, (x7, (tt, (tt, v))))))))))) room a10
+root_10 h0 h1 h2 h3 h4 h5 h6 h7 h8 h9 = sign (root_9 h0 h1 h2 h3 h4 h5 h6 h7 h8) h9 refl
+
+-- ---- request = name "(" [literal {"," literal}] ")" ";"
+
+abbrev pub RequestTree5 : Type 0
+RequestTree5 = Unit {0}
+
+abbrev pub RequestRest5 : List Token → RequestTree5 → List Token → Type 0
+RequestRest5 = End
+
+abbrev pub RequestTree4 : Type 0
+RequestTree4 = Unit {0} × RequestTree5
+
+abbrev pub RequestRest4 : List Token → RequestTree4 → List Token → Type 0
+RequestRest4 = Then (Sign m.Semicolon) RequestRest5
+
+abbrev pub RequestTree3 : Type 0
+RequestTree3 = Unit {0} × RequestTree4
+
+abbrev pub RequestRest3 : List Token → RequestTree3 → List Token → Type 0
+RequestRest3 = Then (Sign m.RightParen) RequestRest4
+
+abbrev pub RequestTree2 : Type 0
+RequestTree2 = (List Given) × RequestTree3
+
+abbrev pub RequestRest2 : List Token → RequestTree2 → List Token → Type 0
+RequestRest2 = Then (Separated m.Comma IsGiven) RequestRest3
+
+abbrev pub RequestTree1 : Type 0
+RequestTree1 = Unit {0} × RequestTree2
+
+abbrev pub RequestRest1 : List Token → RequestTree1 → List Token → Type 0
+RequestRest1 = Then (Sign m.LeftParen) RequestRest2
+
+abbrev pub RequestTree0 : Type 0
+RequestTree0 = Name × RequestTree1
+
+abbrev pub RequestRest0 : List Token → RequestTree0 → List Token → Type 0
+RequestRest0 = Then IsName RequestRest1
+
+-- what the parts make
+abbrev pub request_of : RequestTree0 → RequestText
+request_of v = record { method = v.0; arguments = v.1.1.0 }
+
+pub request_text_5 : HasText RequestRest5
+request_text_5 = end_text
+
+pub request_text_4 : HasText RequestRest4
+request_text_4 = sign_text m.Semicolon request_text_5
+
+pub request_text_3 : HasText RequestRest3
+request_text_3 = sign_text m.RightParen request_text_4
+
+pub request_text_2 : HasText RequestRest2
+request_text_2 = then_text separated_text request_text_3
+
+pub request_text_1 : HasText RequestRest1
+request_text_1 = sign_text m.LeftParen request_text_2
+
+request_back : {a : List Token} {v : RequestText} {b : List Token} → IsRequest a v b → (x : RequestTree0) × (v ≡ request_of x) × RequestRest0 a x b
+request_back (request {x = p0} {ys = p2} q0 q1 q2 q3 q4) = ((p0, (tt, (p2, (tt, (tt, tt))))), refl, record { mid = _; first = q0; second = record { mid = _; first = q1; second = record { mid = _; first = q2; second = record { mid = _; first = q3; second = record { mid = _; first = q4; second = refl } } } } })
+
+pub request_0 : {room : ℕ} (a : List Token) → Going IsRequest any room a RequestRest0 request_of room a
+request_0 {room = room} a = turn request_of (start IsRequest any room a) (λ more v after p. let p1 = p.second in let p2 = p1.second in let p3 = p2.second in let p4 = p3.second in subst (λ x. IsRequest more (request_of v) x) p4.second (request p.first p1.first p2.first p3.first p4.first)) (λ more v after same p h. request_back p)
+
+pub request_1 : {room : ℕ} {a0 a1 : List Token} {x0 : Name} → Read IsName any room a0 x0 a1 → Going IsRequest any room a0 RequestRest1 (λ v. request_of (x0, v)) room a1
+request_1 h0 = part (request_0 _) h0 (λ more v after q h. any_follows more)
+
+pub request_2 : {room inner : ℕ} {a0 a1 a2 : List Token} {x0 : Name} → Read IsName any room a0 x0 a1 → (Is m.LeftParen a1 a2 × (room ≡ inner + 1)) → Going IsRequest any room a0 RequestRest2 (λ v. request_of (x0, (tt, v))) inner a2
+request_2 h0 h1 = sign (request_1 h0) h1.0 (opened m.LeftParen (λ r. refl) h1.1)
+
+pub request_3 : {room inner : ℕ} {a0 a1 a2 a3 : List Token} {x0 : Name} {x2 : List Given} → Read IsName any room a0 x0 a1 → (Is m.LeftParen a1 a2 × (room ≡ inner + 1)) → Read (Separated m.Comma IsGiven) behind_literals inner a2 x2 a3 → Going IsRequest any room a0 RequestRest3 (λ v. request_of (x0, (tt, (x2, v)))) inner a3
+request_3 h0 h1 h2 = part (request_2 h0 h1) h2 (λ more v after q h. sign_follows m.RightParen behind_literals refl q.first)
+
+pub request_4 : {room inner : ℕ} {a0 a1 a2 a3 a4 : List Token} {x0 : Name} {x2 : List Given} → Read IsName any room a0 x0 a1 → (Is m.LeftParen a1 a2 × (room ≡ inner + 1)) → Read (Separated m.Comma IsGiven) behind_literals inner a2 x2 a3 → Is m.RightParen a3 a4 → Going IsRequest any room a0 RequestRest4 (λ v. request_of (x0, (tt, (x2, (tt, v))))) room a4
+request_4 h0 h1 h2 h3 = sign (request_3 h0 h1 h2) h3 (closed m.RightParen _ (λ r. refl) h1.1)
+
+pub request_5 : {room inner : ℕ} {a0 a1 a2 a3 a4 a5 : List Token} {x0 : Name} {x2 : List Given} → Read IsName any room a0 x0 a1 → (Is m.LeftParen a1 a2 × (room ≡ inner + 1)) → Read (Separated m.Comma IsGiven) behind_literals inner a2 x2 a3 → Is m.RightParen a3 a4 → Is m.Semicolon a4 a5 → Going IsRequest any room a0 RequestRest5 (λ v. request_of (x0, (tt, (x2, (tt, (tt, v)))))) room a5
+request_5 h0 h1 h2 h3 h4 = sign (request_4 h0 h1 h2 h3) h4 refl
+
+-- ---- session = "session" name "{" {request} "}"
+
+abbrev pub SessionTree5 : Type 0
+SessionTree5 = Unit {0}
+
+abbrev pub SessionRest5 : List Token → SessionTree5 → List Token → Type 0
+SessionRest5 = End
+
+abbrev pub SessionTree4 : Type 0
+SessionTree4 = Unit {0} × SessionTree5
+
+abbrev pub SessionRest4 : List Token → SessionTree4 → List Token → Type 0
+SessionRest4 = Then (Sign m.RightBrace) SessionRest5
+
+abbrev pub SessionTree3 : Type 0
+SessionTree3 = (List RequestText) × SessionTree4
+
+abbrev pub SessionRest3 : List Token → SessionTree3 → List Token → Type 0
+SessionRest3 = Then (Repeated IsRequest) SessionRest4
+
+abbrev pub SessionTree2 : Type 0
+SessionTree2 = Unit {0} × SessionTree3
+
+abbrev pub SessionRest2 : List Token → SessionTree2 → List Token → Type 0
+SessionRest2 = Then (Sign m.LeftBrace) SessionRest3
+
+abbrev pub SessionTree1 : Type 0
+SessionTree1 = Name × SessionTree2
+
+abbrev pub SessionRest1 : List Token → SessionTree1 → List Token → Type 0
+SessionRest1 = Then IsName SessionRest2
+
+abbrev pub SessionTree0 : Type 0
+SessionTree0 = Unit {0} × SessionTree1
+
+abbrev pub SessionRest0 : List Token → SessionTree0 → List Token → Type 0
+SessionRest0 = Then (Sign m.Session) SessionRest1
+
+-- what the parts make
+abbrev pub session_of : SessionTree0 → Session
+session_of v = record { worker = v.1.0; requests = v.1.1.1.0 }
+
+pub session_text_5 : HasText SessionRest5
+session_text_5 = end_text
+
+pub session_text_4 : HasText SessionRest4
+session_text_4 = sign_text m.RightBrace session_text_5
+
+pub session_text_3 : HasText SessionRest3
+session_text_3 = then_text repeated_text session_text_4
+
+pub session_text_2 : HasText SessionRest2
+session_text_2 = sign_text m.LeftBrace session_text_3
+
+pub session_text_1 : HasText SessionRest1
+session_text_1 = then_text name_text session_text_2
+
+session_back : {a : List Token} {v : Session} {b : List Token} → IsSession a v b → (x : SessionTree0) × (v ≡ session_of x) × SessionRest0 a x b
+session_back (session {x = p1} {ys = p3} q0 q1 q2 q3 q4) = ((tt, (p1, (tt, (p3, (tt, tt))))), refl, record { mid = _; first = q0; second = record { mid = _; first = q1; second = record { mid = _; first = q2; second = record { mid = _; first = q3; second = record { mid = _; first = q4; second = refl } } } } })
+
+pub session_0 : {room : ℕ} (a : List Token) → Going IsSession any room a SessionRest0 session_of room a
+session_0 {room = room} a = turn session_of (start IsSession any room a) (λ more v after p. let p1 = p.second in let p2 = p1.second in let p3 = p2.second in let p4 = p3.second in subst (λ x. IsSession more (session_of v) x) p4.second (session p.first p1.first p2.first p3.first p4.first)) (λ more v after same p h. session_back p)
+
+pub session_1 : {room : ℕ} {a0 a1 : List Token} → Is m.Session a0 a1 → Going IsSession any room a0 SessionRest1 (λ v. session_of (tt, v)) room a1
+session_1 h0 = sign (session_0 _) h0 refl
+
+pub session_2 : {room : ℕ} {a0 a1 a2 : List Token} {x1 : Name} → Is m.Session a0 a1 → Read IsName any room a1 x1 a2 → Going IsSession any room a0 SessionRest2 (λ v. session_of (tt, (x1, v))) room a2
+session_2 h0 h1 = part (session_1 h0) h1 (λ more v after q h. any_follows more)
+
+pub session_3 : {room inner : ℕ} {a0 a1 a2 a3 : List Token} {x1 : Name} → Is m.Session a0 a1 → Read IsName any room a1 x1 a2 → (Is m.LeftBrace a2 a3 × (room ≡ inner + 1)) → Going IsSession any room a0 SessionRest3 (λ v. session_of (tt, (x1, (tt, v)))) inner a3
+session_3 h0 h1 h2 = sign (session_2 h0 h1) h2.0 (opened m.LeftBrace (λ r. refl) h2.1)
+
+pub session_4 : {room inner : ℕ} {a0 a1 a2 a3 a4 : List Token} {x1 : Name} {x3 : List RequestText} → Is m.Session a0 a1 → Read IsName any room a1 x1 a2 → (Is m.LeftBrace a2 a3 × (room ≡ inner + 1)) → Read (Repeated IsRequest) (behind_list begins_name any) inner a3 x3 a4 → Going IsSession any room a0 SessionRest4 (λ v. session_of (tt, (x1, (tt, (x3, v))))) inner a4
+session_4 h0 h1 h2 h3 = part (session_3 h0 h1 h2) h3 (λ more v after q h. sign_follows m.RightBrace (behind_list begins_name any) refl q.first)
+
+pub session_5 : {room inner : ℕ} {a0 a1 a2 a3 a4 a5 : List Token} {x1 : Name} {x3 : List RequestText} → Is m.Session a0 a1 → Read IsName any room a1 x1 a2 → (Is m.LeftBrace a2 a3 × (room ≡ inner + 1)) → Read (Repeated IsRequest) (behind_list begins_name any) inner a3 x3 a4 → Is m.RightBrace a4 a5 → Going IsSession any room a0 SessionRest5 (λ v. session_of (tt, (x1, (tt, (x3, (tt, v)))))) room a5
+session_5 h0 h1 h2 h3 h4 = sign (session_4 h0 h1 h2 h3) h4 (closed m.RightBrace _ (λ r. refl) h2.1)

@@ -1,16 +1,23 @@
--- What roots, literals, requests and sessions begin with.
+-- What each rule of a run begins with.
 use Rattle.std.proofs.Common.{ℕ, ℤ, ◌<◌, nat_lt, IsTrue, List, refl, sym, subst}
 use Rattle.std.proofs.lemmas.Bool.{lt-ltb}
+use Rattle.fab_base.specs.declared.token.Mark.TheVariants as m
 use Rattle.fab_base.specs.declared.token.Token.{Token}
+use Rattle.fab_tree.specs.declared.event.PostLine.{PostLine}
+use Rattle.fab_tree.specs.declared.event.CrashLine.{CrashLine}
+use Rattle.fab_tree.specs.declared.event.Step.{Step}
+use Rattle.fab_tree.specs.declared.event.Event.{Event}
 use Rattle.fab_tree.specs.declared.start.Literal.{Literal}
 use Rattle.fab_tree.specs.declared.start.Given.{Given}
 use Rattle.fab_tree.specs.declared.start.Root.{Root}
-use Rattle.fab_tree.specs.declared.program.RequestText.{RequestText}
-use Rattle.fab_tree.specs.declared.program.Session.{Session}
-use Rattle.fab_tree.specs.Lists.{is, name}
-use Rattle.fab_tree.specs.Declarations.{IsNumeral, numeral, IsNegated, negative, least, IsLiteral, number, negated, null, root, IsGiven, given, IsRoot}
-use Rattle.fab_tree.specs.Programs.{IsRequest, request, IsSession, session}
+use Rattle.fab_tree.specs.declared.start.RequestText.{RequestText}
+use Rattle.fab_tree.specs.declared.start.Session.{Session}
+use Rattle.fab_tree.specs.Lists.{is, name, IsNumeral, numeral, Ended, ended}
+use Rattle.fab_tree.specs.Runs.{IsNegated, negative, least, IsLiteral, number, negated, null, root, IsGiven, given, IsRoot}
+use Rattle.fab_tree.specs.Runs.{IsRequest, request, IsSession, session, IsPost, IsCrash, IsStep, begin, resume, deliver, idle, recover}
+use Rattle.fab_tree.specs.Runs.{IsEvent, step, crash_in, post, crash}
 use Rattle.fab_reading.specs.Reading.{Starts, begins_name, begins_session, begins_root, begins_literal, begins_numeral, begins_negated}
+use Rattle.fab_bundle.specs.Pieces.{begins_post, begins_crash, begins_step, begins_event}
 
 small : (n : ℕ) → n < 2147483648 → IsTrue (nat_lt n 2147483648)
 small n h = lt-ltb n 2147483648 h
@@ -39,3 +46,29 @@ request_begins a v b (request (name e) p q r s) = subst (λ x. IsTrue (begins_na
 
 pub session_begins : (a : List Token) (v : Session) (b : List Token) → IsSession a v b → Starts begins_session a
 session_begins a v b (session (is e) p q r s) = subst (λ x. IsTrue (begins_session x)) (sym e) refl
+
+pub post_begins : (a : List Token) (v : PostLine) (b : List Token) → IsPost a v b → Starts begins_post a
+post_begins a v b (post (is e) p q r s t) = subst (λ x. IsTrue (begins_post x)) (sym e) refl
+
+pub crash_begins : (a : List Token) (v : CrashLine) (b : List Token) → IsCrash a v b → Starts begins_crash a
+crash_begins a v b (crash (is e) p q r s t) = subst (λ x. IsTrue (begins_crash x)) (sym e) refl
+
+pub step_begins : (a : List Token) (v : Step) (b : List Token) → IsStep a v b → Starts begins_step a
+step_begins a v b (begin (is e) p) = subst (λ x. IsTrue (begins_step x)) (sym e) refl
+step_begins a v b (resume (is e) p) = subst (λ x. IsTrue (begins_step x)) (sym e) refl
+step_begins a v b (deliver (is e) p q) = subst (λ x. IsTrue (begins_step x)) (sym e) refl
+step_begins a v b (idle (is e) p q) = subst (λ x. IsTrue (begins_step x)) (sym e) refl
+step_begins a v b (recover (is e) p) = subst (λ x. IsTrue (begins_step x)) (sym e) refl
+
+pub event_begins : (a : List Token) (v : Event) (b : List Token) → IsEvent a v b → Starts begins_event a
+event_begins a v b (step (begin (is e) p)) = subst (λ x. IsTrue (begins_event x)) (sym e) refl
+event_begins a v b (step (resume (is e) p)) = subst (λ x. IsTrue (begins_event x)) (sym e) refl
+event_begins a v b (step (deliver (is e) p q)) = subst (λ x. IsTrue (begins_event x)) (sym e) refl
+event_begins a v b (step (idle (is e) p q)) = subst (λ x. IsTrue (begins_event x)) (sym e) refl
+event_begins a v b (step (recover (is e) p)) = subst (λ x. IsTrue (begins_event x)) (sym e) refl
+event_begins a v b (crash_in (is e) p q) = subst (λ x. IsTrue (begins_event x)) (sym e) refl
+event_begins a v b (post (is e) p) = subst (λ x. IsTrue (begins_event x)) (sym e) refl
+event_begins a v b (crash (is e) p) = subst (λ x. IsTrue (begins_event x)) (sym e) refl
+
+pub line_begins : (a : List Token) (v : Event) (b : List Token) → Ended m.Semicolon IsEvent a v b → Starts begins_event a
+line_begins a v b (ended p q) = event_begins a v _ p

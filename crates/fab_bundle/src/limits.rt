@@ -1,55 +1,98 @@
-//! The counts of a bundle, and the form that is evaluated.
-ghost use Rattle.std.specs.Prelude.{◌≡◌, ◌≢◌, ◌≤◌, ◌↔◌, IsTrue, All, count_by, length};
-ghost use Rattle.fab_tree.specs.Limits.{KeepsLimits, is_node, is_worker, is_store, is_hostile};
-ghost use Rattle.fab_tree.specs.Evaluation.{IsEvaluated, HasNoNull};
-ghost use Rattle.fab_tree.specs.declared.start.Literal.TheVariants as literals;
-ghost use Rattle.fab_tree.specs.declared.declaration.Sort.TheVariants as sorts;
+//! The limits on the counts of a bundle.
+//!
+//! A count may be more than a number holds. So the long ones take from a room, which is the limit at
+//! first, and answer what is left of it, or none where it doesn't suffice.
+ghost use Rattle.std.specs.Prelude.{◌≡◌, ◌<◌, ◌↔◌, IsTrue, count_by, find, length, map, sum_by};
+ghost use Rattle.fab_tree.specs.Limits.{is_node, locals_of, limit_of, greatest, first_passed, passes};
 
-use fab_tree::{Class, Field, Given, Literal, Node, RequestText, Role, Session, Sort, Start};
+use crate::locals::room_after_locals_of_method;
+use crate::sites::room_after_sites_of_methods;
+use fab_base::What;
+use fab_tree::{Class, Method, Node, Role, Session, Start};
 
-/// The most principals, workers and stores included.
-const PRINCIPALS: usize = 64;
-
-/// The most workers and stores.
-const NODES: usize = 32;
-
-/// The most labels.
-const LABELS: usize = 64;
-
-/// The most classes.
-const CLASSES: usize = 64;
-
-/// The most fields of a class.
-const FIELDS: usize = 16;
-
-/// The most roots.
-const ROOTS: usize = 100_000;
-
-/// The most sessions of a bundle that is evaluated.
-const SESSIONS: usize = 1;
-
-/// Whether each count of the bundle is at most its limit.
-pub fn keeps_limits(start: &Start) -> bool
-    ensures { IsTrue result ↔ KeepsLimits start.now }
+/// The first limit that a bundle passes.
+pub fn first_passed(start: &Start) -> Option<What>
+    ensures { result ≡ first_passed start.now }
 {
-    start.nodes.len() <= PRINCIPALS
-        && nodes(start.nodes.as_slice()) <= NODES
-        && start.labels.len() <= LABELS
-        && start.classes.len() <= CLASSES
-        && have_few_fields(start.classes.as_slice())
-        && start.roots.len() <= ROOTS
+    let order = [
+        What::Principals,
+        What::Nodes,
+        What::Labels,
+        What::Classes,
+        What::Fields,
+        What::Methods,
+        What::Parameters,
+        What::Locals,
+        What::Sites,
+        What::Roots,
+        What::Requests,
+        What::Posts,
+        What::Crashes,
+        What::Events,
+        What::Cache,
+    ];
+    first_of(start, &order)
 }
 
-/// Whether each class has at most 16 fields.
-fn have_few_fields(classes: &[Class]) -> bool
-    ensures { IsTrue result ↔ All (λ c. length c.fields ≤ 16) classes.now }
+/// The first of these limits that a bundle passes.
+fn first_of(start: &Start, order: &[What]) -> Option<What>
+    ensures { result ≡ find (passes start.now) order.now }
 {
-    classes.iter().all(|class| class.fields.len() <= FIELDS)
+    for what in order {
+        if passes(start, *what) {
+            return Some(*what);
+        }
+    }
+    None
+}
+
+/// Whether a bundle has too many of these.
+fn passes(start: &Start, what: What) -> bool
+    ensures { result ≡ passes start.now what }
+{
+    let limit = limit_of(what);
+    let program = &start.program;
+    match what {
+        What::Bytes | What::Depth => false,
+        What::Principals => limit < program.nodes.len(),
+        What::Nodes => limit < nodes(program.nodes.as_slice()),
+        What::Labels => limit < program.labels.len(),
+        What::Classes => limit < program.classes.len(),
+        What::Fields => has_more_fields(program.classes.as_slice(), limit),
+        What::Methods => limit < program.methods.len(),
+        What::Parameters => has_more_parameters(program.methods.as_slice(), limit),
+        What::Locals => has_more_locals(program.methods.as_slice(), limit),
+        What::Sites => room_after_sites_of_methods(limit, program.methods.as_slice()).is_none(),
+        What::Roots => limit < start.roots.len(),
+        What::Requests => has_more_requests(start.sessions.as_slice(), limit),
+        What::Posts => limit < start.posts.len(),
+        What::Crashes => limit < start.crashes.len(),
+        What::Events => limit < start.schedule.len(),
+        What::Cache => limit < start.cache as usize,
+    }
+}
+
+/// How many of these a bundle may have.
+fn limit_of(what: What) -> usize
+    ensures { result ≡ limit_of what }
+{
+    match what {
+        What::Bytes => 4_194_304,
+        What::Nodes => 32,
+        What::Fields | What::Parameters => 16,
+        What::Depth | What::Principals | What::Labels | What::Classes => 64,
+        What::Methods | What::Locals => 256,
+        What::Sites => 65_000,
+        What::Roots | What::Requests | What::Events => 100_000,
+        What::Posts => 10_000,
+        What::Crashes => 1_000,
+        What::Cache => 4_096,
+    }
 }
 
 /// How many workers and stores there are.
 fn nodes(nodes: &[Node]) -> usize
-    ensures { result ≡ count_by (λ x. is_node x.role) nodes.now }
+    ensures { result ≡ count_by (λ n. is_node n.role) nodes.now }
 {
     nodes
         .iter()
@@ -57,98 +100,52 @@ fn nodes(nodes: &[Node]) -> usize
         .count()
 }
 
-/// Whether the bundle is of the form that is evaluated.
-pub fn is_evaluated(start: &Start) -> bool
-    ensures { IsTrue result ↔ IsEvaluated start.now }
+/// Whether some class has more fields.
+fn has_more_fields(classes: &[Class], limit: usize) -> bool
+    ensures { IsTrue result ↔ limit < greatest (map (λ c. length c.fields) classes.now) }
 {
-    let nodes = start.nodes.as_slice();
-    workers(nodes) == 1
-        && stores(nodes) == 1
-        && hostile_ones(nodes) == 0
-        && have_numbers(start.classes.as_slice())
-        && start.sessions.len() <= SESSIONS
-        && give_no_null(start.sessions.as_slice())
-}
-
-/// Whether the fields of each class are numbers.
-fn have_numbers(classes: &[Class]) -> bool
-    ensures { IsTrue result ↔ All (λ c. All (λ f. f.sort ≡ sorts.Int) c.fields) classes.now }
-{
-    classes
-        .iter()
-        .all(|class| are_numbers(class.fields.as_slice()))
-}
-
-fn are_numbers(fields: &[Field]) -> bool
-    ensures { IsTrue result ↔ All (λ f. f.sort ≡ sorts.Int) fields.now }
-{
-    fields.iter().all(|field| is_number(&field.sort))
-}
-
-fn is_number(sort: &Sort) -> bool
-    ensures { IsTrue result ↔ (sort.now ≡ sorts.Int) }
-{
-    matches!(sort, Sort::Int)
-}
-
-/// Whether no argument of the sessions' requests is null.
-fn give_no_null(sessions: &[Session]) -> bool
-    ensures { IsTrue result ↔ All HasNoNull sessions.now }
-{
-    sessions
-        .iter()
-        .all(|session| ask_without_null(session.requests.as_slice()))
-}
-
-fn ask_without_null(requests: &[RequestText]) -> bool
-    ensures { IsTrue result ↔ All (λ r. All (λ g. g.literal ≢ literals.Null) r.arguments) requests.now }
-{
-    requests
-        .iter()
-        .all(|request| have_no_null(request.arguments.as_slice()))
-}
-
-fn have_no_null(arguments: &[Given]) -> bool
-    ensures { IsTrue result ↔ All (λ g. g.literal ≢ literals.Null) arguments.now }
-{
-    arguments.iter().all(|given| is_not_null(&given.literal))
-}
-
-fn is_not_null(literal: &Literal) -> bool
-    ensures { IsTrue result ↔ (literal.now ≢ literals.Null) }
-{
-    !matches!(literal, Literal::Null)
-}
-
-fn workers(nodes: &[Node]) -> usize
-    ensures { result ≡ count_by (λ x. is_worker x.role) nodes.now }
-{
-    nodes
-        .iter()
-        .filter(|node| matches!(node.role, Role::Worker { .. }))
-        .count()
-}
-
-fn stores(nodes: &[Node]) -> usize
-    ensures { result ≡ count_by (λ x. is_store x.role) nodes.now }
-{
-    nodes
-        .iter()
-        .filter(|node| matches!(node.role, Role::Store { .. }))
-        .count()
-}
-
-fn hostile_ones(nodes: &[Node]) -> usize
-    ensures { result ≡ count_by (λ x. is_hostile x.role) nodes.now }
-{
-    nodes.iter().filter(|node| is_hostile(node.role)).count()
-}
-
-fn is_hostile(role: Role) -> bool
-    ensures { result ≡ is_hostile role }
-{
-    match role {
-        Role::Principal => false,
-        Role::Worker { hostile } | Role::Store { hostile } => hostile,
+    for class in classes {
+        if limit < class.fields.len() {
+            return true;
+        }
     }
+    false
+}
+
+/// Whether some method has more parameters.
+fn has_more_parameters(methods: &[Method], limit: usize) -> bool
+    ensures { IsTrue result ↔ limit < greatest (map (λ m. length m.parameters) methods.now) }
+{
+    for method in methods {
+        if limit < method.parameters.len() {
+            return true;
+        }
+    }
+    false
+}
+
+/// Whether some method has more locals.
+fn has_more_locals(methods: &[Method], limit: usize) -> bool
+    ensures { IsTrue result ↔ limit < greatest (map (λ m. length (locals_of m)) methods.now) }
+{
+    for method in methods {
+        if room_after_locals_of_method(limit, method).is_none() {
+            return true;
+        }
+    }
+    false
+}
+
+/// Whether all sessions together have more requests.
+fn has_more_requests(sessions: &[Session], limit: usize) -> bool
+    ensures { IsTrue result ↔ limit < sum_by (λ y. length y.requests) sessions.now }
+{
+    let mut left = limit;
+    for session in sessions {
+        match left.checked_sub(session.requests.len()) {
+            Some(room) => left = room,
+            None => return true,
+        }
+    }
+    false
 }

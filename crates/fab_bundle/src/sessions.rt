@@ -1,12 +1,12 @@
 //! Sessions and their requests.
-ghost use Rattle.std.specs.Prelude.{◌≡◌, ◌↔◌, IsTrue, MatchResult};
-ghost use Rattle.fab_tree.specs.Programs.{IsRequest, IsSession};
+ghost use Rattle.std.specs.Prelude.{◌↔◌, IsTrue, MatchResult};
+ghost use Rattle.fab_tree.specs.Runs.{IsRequest, IsSession};
 ghost use Rattle.fab_reading.specs.Reading.{Read, Stops, Starts, any, begins_session};
 
-use crate::roots::GivenItem;
+use crate::literals::GivenItem;
 use fab_base::{Kind, Mark, Token};
-use fab_tree::{RequestText, Session};
 use fab_reading::{Refusal, Rule, name, next, open, repeated, separated, sign, starts_name};
+use fab_tree::{RequestText, Session};
 use std::alloc::Global;
 
 /// A method, and literals in brackets.
@@ -26,7 +26,7 @@ struct RequestRule;
 
 impl Rule for RequestRule {
     ghost use Rattle.std.specs.Prelude.{refl};
-    ghost use Rattle.fab_tree.specs.Programs.{IsRequest};
+    ghost use Rattle.fab_tree.specs.Runs.{IsRequest};
     ghost use Rattle.fab_reading.specs.Reading.{any, begins_name};
     ghost use Rattle.fab_bundle.specs.Firsts.{request_begins};
 
@@ -78,7 +78,7 @@ pub(crate) struct SessionRule;
 
 impl Rule for SessionRule {
     ghost use Rattle.std.specs.Prelude.{refl};
-    ghost use Rattle.fab_tree.specs.Programs.{IsSession};
+    ghost use Rattle.fab_tree.specs.Runs.{IsSession};
     ghost use Rattle.fab_reading.specs.Reading.{any, begins_session};
     ghost use Rattle.fab_bundle.specs.Firsts.{session_begins};
 

@@ -1,0 +1,193 @@
+-- Numbers and literals, part by part.
+use Rattle.std.proofs.Common.{◌≡◌, ℕ, ℤ, pos, IsTrue, List, [], ◌∷◌, ◌++◌, length, Some, refl, sym, ap, subst, ◌∙◌, append_assoc, arith}
+use Rattle.fab_base.specs.declared.token.Mark.TheVariants as m
+use Rattle.fab_base.specs.declared.token.Kind.{Kind}
+use Rattle.fab_base.specs.declared.token.Kind.TheVariants as k
+use Rattle.fab_base.specs.declared.token.Token.{Token}
+use Rattle.fab_tree.specs.declared.name.Name.{Name}
+use Rattle.fab_tree.specs.declared.start.Literal.{Literal}
+use Rattle.fab_tree.specs.declared.start.Literal.TheVariants as literals
+use Rattle.fab_tree.specs.declared.start.Given.{Given}
+use Rattle.fab_reading.specs.declared.refusal.Refusal.{Refusal}
+use Rattle.fab_reading.specs.declared.refusal.Refusal.TheVariants as refusal
+use Rattle.fab_tree.specs.Depth.{room_by, room_after}
+use Rattle.fab_tree.specs.Lists.{Is, is, IsName, name, IsNumeral, numeral, minus}
+use Rattle.fab_tree.specs.Runs.{IsNegated, negative, least, IsLiteral, number, negated, null, root, IsGiven, given}
+use Rattle.fab_reading.specs.Reading.{Lacks, Starts, Read, Refused, Deep, Stops, SameHead, Follows, any, begins_name, begins_numeral, begins_negated, begins_literal}
+use Rattle.fab_bundle.specs.Firsts.{numeral_begins, negated_begins, literal_begins}
+use Rattle.fab_reading.proofs.ItemRules.{same_starts}
+use Rattle.fab_reading.proofs.Rules.{Then, Sign, HasText, Going, start, turn, leaf, token_of, same_sign, never, here}
+
+-- ---- numbers
+
+numeral_only : {n j : ℕ} {t : Token} {more after : List Token} → t.kind ≡ k.Number n → IsNumeral (t ∷ more) j after → (j ≡ n) × (after ≡ more)
+numeral_only e (numeral g h) = (cc, refl)
+
+pub numeral_read : {room n : ℕ} {a b : List Token} → IsNumeral a n b → Read IsNumeral any room a n b
+numeral_read {room = room} (numeral e h) = leaf refl (ap (λ x. room_by x room) e) (λ more. numeral e h) (λ more v after d. numeral_only e d)
+
+pub numeral_text : HasText IsNumeral
+numeral_text = (record { kind = k.Number 0; at = 0; end = 0 } ∷ [], 0, λ after. numeral refl (omega arith))
+
+pub numeral_refused : {room : ℕ} (a : List Token) → (Starts begins_numeral a → ⊥) → Refused IsNumeral any room a (length a)
+numeral_refused a none = here begins_numeral numeral_begins numeral_text none
+
+negated_only : {n : ℕ} {t : Token} {more after : List Token} {v : ℤ} → t.kind ≡ k.Number n → IsNegated (t ∷ more) v after → (v ≡ minus n) × (after ≡ more)
+negated_only e (negative p) = let x = numeral_only e p in (ap minus x.0, x.1)
+negated_only e (least g) = absurd (cc)
+
+least_only : {t : Token} {more after : List Token} {v : ℤ} → t.kind ≡ k.Least → IsNegated (t ∷ more) v after → (v ≡ minus 2147483648) × (after ≡ more)
+least_only e (negative (numeral g h)) = absurd (cc)
+least_only e (least g) = (refl, refl)
+
+-- a number behind a minus sign
+pub negative_read : {room n : ℕ} {a b : List Token} → IsNumeral a n b → Read IsNegated any room a (minus n) b
+negative_read {room = room} (numeral e h) = leaf refl (ap (λ x. room_by x room) e) (λ more. negative (numeral e h)) (λ more v after d. negated_only e d)
+
+pub least_read : {room : ℕ} {a b : List Token} {t : Token} → a ≡ t ∷ b → t.kind ≡ k.Least → Read IsNegated any room a (minus 2147483648) b
+least_read {room = room} cut e = leaf cut (ap (λ x. room_by x room) e) (λ more. least e) (λ more v after d. least_only e d)
+
+pub negated_text : HasText IsNegated
+negated_text = (record { kind = k.Least; at = 0; end = 0 } ∷ [], minus 2147483648, λ after. least refl)
+
+-- ---- literals
+
+number_only : {n : ℕ} {t : Token} {more after : List Token} {v : Literal} → t.kind ≡ k.Number n → IsLiteral (t ∷ more) v after → (v ≡ literals.Int (pos n)) × (after ≡ more)
+number_only e (number p) = let x = numeral_only e p in (ap (λ y. literals.Int (pos y)) x.0, x.1)
+number_only e (negated (is g) p) = absurd (cc)
+number_only e (null (is g)) = absurd (cc)
+number_only e (root (name g)) = absurd (cc)
+
+pub number_read : {room n : ℕ} {a b : List Token} → IsNumeral a n b → Read IsLiteral any room a (literals.Int (pos n)) b
+number_read {room = room} (numeral e h) = leaf refl (ap (λ x. room_by x room) e) (λ more. number (numeral e h)) (λ more v after d. number_only e d)
+
+null_only : {t : Token} {more after : List Token} {v : Literal} → t.kind ≡ k.Fixed m.Null → IsLiteral (t ∷ more) v after → (v ≡ literals.Null) × (after ≡ more)
+null_only e (number (numeral g h)) = absurd (cc)
+null_only e (negated (is g) p) = absurd (cc)
+null_only e (null (is g)) = (refl, refl)
+null_only e (root (name g)) = absurd (cc)
+
+pub null_read : {room : ℕ} {a b : List Token} → Is m.Null a b → Read IsLiteral any room a literals.Null b
+null_read {room = room} (is e) = leaf refl (ap (λ x. room_by x room) e) (λ more. null (is e)) (λ more v after d. null_only e d)
+
+negated_back : {a c : List Token} {v : Literal} {b : List Token} → Is m.Minus a c → IsLiteral a v b → (x : Unit {0} × ℤ) × (v ≡ literals.Int x.1) × Then (Sign m.Minus) IsNegated a x b
+negated_back (is e) (number (numeral g h)) = absurd (cc)
+negated_back i (negated {b = d} {n = n} j p) = ((tt, n), refl, record { mid = d; first = j; second = p })
+negated_back (is e) (null (is g)) = absurd (cc)
+negated_back (is e) (root (name g)) = absurd (cc)
+
+pub negated_start : {room : ℕ} (a : List Token) {c : List Token} → Is m.Minus a c → Going IsLiteral any room a (Then (Sign m.Minus) IsNegated) (λ v. literals.Int v.1) room a
+negated_start {room = room} a i = turn (λ v. literals.Int v.1) (start IsLiteral any room a) (λ more v after p. negated p.first p.second) (λ more v after same p h. negated_back (same_sign a more i same).1 p)
+
+named_back : {a : List Token} {v : Literal} {b : List Token} → Starts begins_name a → IsLiteral a v b → (y : Name) × (v ≡ literals.Root y) × IsName a y b
+named_back s (number (numeral g h)) = absurd (never (subst (λ x. IsTrue (begins_name x)) g s))
+named_back s (negated (is g) p) = absurd (never (subst (λ x. IsTrue (begins_name x)) g s))
+named_back s (null (is g)) = absurd (never (subst (λ x. IsTrue (begins_name x)) g s))
+named_back s (root {x = y} p) = (y, refl, p)
+
+pub named_start : {room : ℕ} (a : List Token) → Starts begins_name a → Going IsLiteral any room a IsName literals.Root room a
+named_start {room = room} a s = turn literals.Root (start IsLiteral any room a) (λ more v after. root) (λ more v after same d f. named_back (same_starts begins_name a more same s) d)
+
+pub literal_text : HasText IsLiteral
+literal_text = (token_of m.Null ∷ [], literals.Null, λ after. null (is refl))
+
+-- no number, no sign, no name: no literal
+no_literal_begins : (x : Kind) → (IsTrue (begins_numeral x) → ⊥) → (x ≡ k.Fixed m.Minus → ⊥) → (x ≡ k.Fixed m.Null → ⊥) → (IsTrue (begins_name x) → ⊥) → IsTrue (begins_literal x) → ⊥
+no_literal_begins (k.Number n) i g h j l = i l
+no_literal_begins (k.Fixed m.Minus) i g h j l = g refl
+no_literal_begins (k.Fixed m.Null) i g h j l = h refl
+no_literal_begins (k.Name y) i g h j l = j l
+no_literal_begins _ i g h j l = never l
+
+no_literal_starts : (a : List Token) → (Starts begins_numeral a → ⊥) → Lacks m.Minus a → Lacks m.Null a → (Starts begins_name a → ⊥) → Starts begins_literal a → ⊥
+no_literal_starts [] i g h j l = l
+no_literal_starts (t ∷ ts) i g h j l = no_literal_begins t.kind i (λ e. g ts (is e)) (λ e. h ts (is e)) j l
+
+pub literal_refused : {room : ℕ} (a : List Token) → (Starts begins_numeral a → ⊥) → Lacks m.Minus a → Lacks m.Null a → (Starts begins_name a → ⊥) → Refused IsLiteral any room a (length a)
+literal_refused a i g h j = here begins_literal literal_begins literal_text (no_literal_starts a i g h j)
+
+no_negated_begins : (x : Kind) → (IsTrue (begins_numeral x) → ⊥) → (x ≡ k.Least → ⊥) → IsTrue (begins_negated x) → ⊥
+no_negated_begins (k.Number n) i g l = i l
+no_negated_begins k.Least i g l = g refl
+no_negated_begins _ i g l = never l
+
+no_negated_starts : (a : List Token) → (Starts begins_numeral a → ⊥) → ((t : Token) (ts : List Token) → a ≡ t ∷ ts → t.kind ≡ k.Least → ⊥) → Starts begins_negated a → ⊥
+no_negated_starts [] i g l = l
+no_negated_starts (t ∷ ts) i g l = no_negated_begins t.kind i (g t ts refl) l
+
+pub negated_refused : {room : ℕ} (a : List Token) → (Starts begins_numeral a → ⊥) → ((t : Token) (ts : List Token) → a ≡ t ∷ ts → t.kind ≡ k.Least → ⊥) → Refused IsNegated any room a (length a)
+negated_refused a i g = here begins_negated negated_begins negated_text (no_negated_starts a i g)
+
+-- ---- literals with their places
+
+abbrev pub given_at : ℕ → Literal → Given
+given_at at x = record { literal = x; at = at }
+
+given_back : {t : Token} {more : List Token} {v : Given} {b : List Token} → IsGiven (t ∷ more) v b → (x : Literal) × (v ≡ given_at t.at x) × IsLiteral (t ∷ more) x b
+given_back (given {x = x} p) = (x, refl, p)
+
+literal_of : {a b : List Token} {v : Given} → IsGiven a v b → IsLiteral a v.literal b
+literal_of (given p) = p
+
+no_literal : {x : Literal} {b : List Token} → IsLiteral [] x b → ⊥
+no_literal (number p) = elim p [ ]
+no_literal (negated i p) = elim i [ ]
+no_literal (null i) = elim i [ ]
+no_literal (root p) = elim p [ ]
+
+-- what is read as a literal is read as one with its place
+pub given_read : {room : ℕ} {a b c : List Token} {t : Token} {x : Literal} → a ≡ t ∷ c → Read IsLiteral any room a x b → Read IsGiven any room a (given_at t.at x) b
+given_read {room = room} {a = a} {b = b} {c = c} {t = t} {x = x} e r = go r.front r.cut r.level r.reads r.only
+  where
+    same_token : (u : Token) (p : List Token) → a ≡ u ∷ p → u ≡ t
+    same_token u p f = let two : u ∷ p ≡ t ∷ c = sym f ∙ e in cc
+
+    go : (p : List Token) → a ≡ p ++ b → room_after p room ≡ Some room → ((more : List Token) → IsLiteral (p ++ more) x more) → ((more : List Token) → SameHead b more → (u : Literal) (after : List Token) → IsLiteral (p ++ more) u after → Follows any after → (u ≡ x) × (after ≡ more)) → Read IsGiven any room a (given_at t.at x) b
+    go [] cut level reads only = absurd (no_literal (reads []))
+    go (u ∷ p) cut level reads only = let same : u ≡ t = same_token u (p ++ b) cut in record {
+      front = u ∷ p;
+      cut = cut;
+      level = level;
+      reads = λ more. subst (λ z. IsGiven (u ∷ (p ++ more)) (given_at z.at x) more) same (given (reads more));
+      only = λ more sh v after d h.
+          let y = given_back d in
+          let z = only more sh y.0 after y.2 h in
+          (y.1 ∙ ap (given_at u.at) z.0 ∙ ap (λ w. given_at w.at x) same, z.1);
+    }
+
+-- the place is that of the first token, whatever follows
+placed : (front more : List Token) (x : Literal) → ((after : List Token) → IsLiteral (front ++ (more ++ after)) x after) → (v : Given) × ((after : List Token) → IsGiven (front ++ (more ++ after)) v after)
+placed (t ∷ front) more x d = (given_at t.at x, λ after. given (d after))
+placed [] (t ∷ more) x d = (given_at t.at x, λ after. given (d after))
+placed [] [] x d = absurd (no_literal (d []))
+
+pub given_refused : {room left : ℕ} {a : List Token} → Refused IsLiteral any room a left → Refused IsGiven any room a left
+given_refused r = let some = placed r.front r.begins.0 r.begins.1 r.begins.2 in record {
+  front = r.front;
+  back = r.back;
+  cut = r.cut;
+  left_is = r.left_is;
+  level = r.level;
+  begins = (r.begins.0, some.0, some.1);
+  bad = λ more same v after d h. r.bad more same v.literal after (literal_of d) h;
+}
+
+pub given_deep : {room left : ℕ} {a : List Token} → Deep IsLiteral room a left → Deep IsGiven room a left
+given_deep r = let some = placed (r.front ++ r.next ∷ []) r.begins.0 r.begins.1 (λ after. subst (λ z. IsLiteral z r.begins.1 after) (sym (append_assoc r.front (r.next ∷ []) (r.begins.0 ++ after))) (r.begins.2 after)) in record {
+  front = r.front;
+  next = r.next;
+  back = r.back;
+  cut = r.cut;
+  left_is = r.left_is;
+  level = r.level;
+  opens = r.opens;
+  begins = (r.begins.0, some.0, λ after. subst (λ z. IsGiven z some.0 after) (append_assoc r.front (r.next ∷ []) (r.begins.0 ++ after)) (some.1 after));
+}
+
+pub given_stops : (room : ℕ) (a : List Token) (e : Refusal) → Stops IsLiteral any room a e → Stops IsGiven any room a e
+given_stops room a refusal.Memory r = tt
+given_stops room a (refusal.Syntax left) r = given_refused r
+given_stops room a (refusal.Deep left) r = given_deep r
+
+pub given_text : HasText IsGiven
+given_text = (token_of m.Null ∷ [], given_at 0 literals.Null, λ after. given (null (is refl)))
