@@ -5,8 +5,8 @@ use Rattle.std.specs.declared.alloc.Global.{Global}
 use Rattle.clap.specs.Words.{Text, matches_of, takes}
 use Rattle.clap.proofs.WalkLemmas.{list_any-map}
 use Rattle.fab_words.specs.Words.{asked, asked_by, command_of}
-use Rattle.fab_words.specs.Line.{asked_in, begins_with_dash}
-use Rattle.fab_words.proofs.Taken.{line, found_rows, rows_for, words_taken}
+use Rattle.fab_words.specs.Line.{asked_in, begins_with_dash, command_line}
+use Rattle.fab_words.proofs.Taken.{found_rows, rows_for, words_taken}
 
 no_command : (word : Text) → begins_with_dash word ≡ true → command_of word ≡ None
 no_command [] e = cc
@@ -32,9 +32,9 @@ rows_ask [] = refl
 rows_ask (w ∷ []) = refl
 rows_ask (w ∷ v ∷ vs) = refl
 
-pub found_asks : (words : List (String Global)) → have_dash words ≡ false → asked_in (matches_of line (map string_bytes words)) ≡ asked_by words
+pub found_asks : (words : List (String Global)) → have_dash words ≡ false → asked_in (matches_of command_line (map string_bytes words)) ≡ asked_by words
 found_asks words e = ap asked_in (found_rows (map string_bytes words) (no_dash words e)) ∙ rows_ask (map string_bytes words)
 
-pub refused : (words : List (String Global)) → have_dash words ≡ false → (takes line (map string_bytes words) ≡ true → ⊥) → asked_by words ≡ None
+pub refused : (words : List (String Global)) → have_dash words ≡ false → (takes command_line (map string_bytes words) ≡ true → ⊥) → asked_by words ≡ None
 refused [] e untaken = refl
 refused (w ∷ ws) e untaken = absurd (untaken (words_taken (string_bytes w) (map string_bytes ws) (no_dash (w ∷ ws) e)))

@@ -2,40 +2,23 @@
 use Rattle.std.proofs.Common.{◌≡◌, ◌∙◌, ◌==◌, ◌&&◌, ◌||◌, ℕ, Bool, true, false, refl, sym, ap, ap₂, codes, List, [], ◌∷◌, ◌++◌, fold, Option, Some, None, append-nil, append_assoc}
 use Rattle.std.specs.List.{list_any, list_all}
 use Rattle.std.specs.Str.{bytes_eq}
-use Rattle.clap.specs.Words.{App, Row, Rule, Text, is_simple, matches_of, new_app, new_rule, takes, with_rule, built}
-use Rattle.clap.specs.Simple.{Shape, on_top}
+use Rattle.clap.specs.Words.{Row, Text, is_simple, matches_of, takes, built}
+use Rattle.clap.specs.Simple.{Shape}
 use Rattle.clap.specs.Values.{reading_of}
 use Rattle.clap.specs.Lexer.{long_of, short_of}
 use Rattle.clap.specs.Walk.{Walk, positional, idle, walk, walk_from, walked, nothing_held, settled, finished, with_values, with_default}
 use Rattle.clap.specs.Takes.{default_passes, is_valid, level_passes, settle_passes, turn_passes, walk_passes}
-use Rattle.clap.specs.declared.builder.action.ArgAction.TheVariants.{Set, Append}
+use Rattle.clap.specs.declared.builder.action.ArgAction.TheVariants.{Append}
 use Rattle.clap.specs.declared.builder.value_parser.ValueParser.TheVariants as parser
 use Rattle.clap.specs.declared.parser.matches.ValueSource.TheVariants.{CommandLine}
 use Rattle.clap.proofs.OnLiterals.{clap_on_literals}
 use Rattle.clap.proofs.TakesLemmas.{leaf_takes}
-use Rattle.fab_words.specs.Line.{begins_with_dash}
-
--- ---- the command that is built
-
-abbrev pub command_rule : Rule
-command_rule = record (new_rule (codes "command")) { required = true; action = Some Set }
-
-abbrev pub operands_rule : Rule
-operands_rule = record (new_rule (codes "operands")) { action = Some Append }
-
-abbrev pub without_name : App → App
-without_name = on_top (λ s. record s { no_binary_name = true })
-
-abbrev pub without_help : App → App
-without_help = on_top (λ s. record s { disable_help_flag = true })
-
-abbrev pub line : App
-line = with_rule (with_rule (without_help (without_name (new_app (codes "fab")))) command_rule) operands_rule
+use Rattle.fab_words.specs.Line.{begins_with_dash, command_line}
 
 abbrev top : Shape
-top = (built line).top
+top = (built command_line).top
 
-pub is_simple_line : is_simple line ≡ true
+pub is_simple_line : is_simple command_line ≡ true
 unfolding clap_on_literals
 is_simple_line = refl
 
@@ -197,7 +180,7 @@ rows_finished : (words : List Text) → list_any begins_with_dash words ≡ fals
 rows_finished words e = ap (λ rows. fold with_default rows top.rules) (rows_settled words e) ∙ no_defaults words
 
 -- what is found in words that don't begin with `-`
-pub found_rows : (words : List Text) → list_any begins_with_dash words ≡ false → matches_of line words ≡ rows_for words
+pub found_rows : (words : List Text) → list_any begins_with_dash words ≡ false → matches_of command_line words ≡ rows_for words
 found_rows words e = rows_finished words e
 
 others_pass : (w : Text) (vs : List Text) → list_any begins_with_dash vs ≡ false → walk_passes top [] (behind_command w) vs ≡ true
@@ -230,5 +213,5 @@ level_taken w ws e =
     ∙ ap (λ rows. is_valid top rows false) (rows_finished (w ∷ ws) e) ∙ rows_valid w ws
 
 -- one word or more, none of which begins with `-`, are taken
-pub words_taken : (w : Text) (ws : List Text) → list_any begins_with_dash (w ∷ ws) ≡ false → takes line (w ∷ ws) ≡ true
-words_taken w ws e = ap₂ (λ a b. a && b) is_simple_line (leaf_takes (built line) nothing_held (w ∷ ws) refl (level_taken w ws e))
+pub words_taken : (w : Text) (ws : List Text) → list_any begins_with_dash (w ∷ ws) ≡ false → takes command_line (w ∷ ws) ≡ true
+words_taken w ws e = ap₂ (λ a b. a && b) is_simple_line (leaf_takes (built command_line) nothing_held (w ∷ ws) refl (level_taken w ws e))

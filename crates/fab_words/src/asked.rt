@@ -1,9 +1,9 @@
 //! The command that words ask for.
 ghost use Rattle.std.specs.Prelude.{◌≡◌, IfOk, string_bytes};
 ghost use Rattle.std.specs.List.{list_any};
-ghost use Rattle.clap.specs.Words.{found_of, rows_of};
+ghost use Rattle.clap.specs.Words.{app_of, found_of, rows_of};
 ghost use Rattle.fab_words.specs.Words.{asked_by, command_of};
-ghost use Rattle.fab_words.specs.Line.{asked_in, begins_with_dash};
+ghost use Rattle.fab_words.specs.Line.{asked_in, begins_with_dash, command_line};
 
 use crate::command::Command;
 use clap::error::ErrorKind;
@@ -56,6 +56,21 @@ fn asked_of(matches: &ArgMatches) -> Option<Command>
     }
 }
 
+/// A command line: a command's word, and its operands.
+fn command_line<'a>(alloc: Global) -> Result<clap::Command<'a>, NoMemory>
+    ensures { IfOk result (λ line. app_of line ≡ command_line) }
+{
+    let command = Arg::new(alloc, "command")
+        .required(true)
+        .action(ArgAction::Set);
+    let operands = Arg::new(alloc, "operands").action(ArgAction::Append);
+    clap::Command::new(alloc, "fab")
+        .no_binary_name(true)
+        .disable_help_flag(true)
+        .arg(command)?
+        .arg(operands)
+}
+
 /// The command that the words ask for, or none.
 ///
 /// A word that begins with `-` asks for nothing. Of other words `clap` takes the first for the
@@ -66,16 +81,7 @@ pub fn asked_command(alloc: Global, words: &[String]) -> Result<Option<Command>,
     if have_dash(words) {
         return Ok(None);
     }
-    let command = Arg::new(alloc, "command")
-        .required(true)
-        .action(ArgAction::Set);
-    let operands = Arg::new(alloc, "operands").action(ArgAction::Append);
-    let line = clap::Command::new(alloc, "fab")
-        .no_binary_name(true)
-        .disable_help_flag(true)
-        .arg(command)?
-        .arg(operands)?;
-    match line.try_get_matches_from(words) {
+    match command_line(alloc)?.try_get_matches_from(words) {
         Ok(matches) => Ok(asked_of(&matches)),
         Err(error) => match error.kind() {
             ErrorKind::OutOfMemory => Err(AllocError),
