@@ -1,5 +1,5 @@
 -- What words ask for, by what `clap` finds in them.
-use Rattle.std.proofs.Common.{◌≡◌, ◌∙◌, ◌==◌, ◌||◌, ℕ, Bool, true, false, refl, sym, ap, subst, map, codes, List, [], ◌∷◌, Option, Some, None, eqb-true, String, string_bytes}
+use Rattle.std.proofs.Common.{◌≡◌, ◌∙◌, ◌||◌, Bool, true, false, refl, sym, ap, subst, map, List, [], ◌∷◌, None, eqb-true, String, string_bytes}
 use Rattle.std.specs.List.{list_any}
 use Rattle.std.specs.declared.alloc.Global.{Global}
 use Rattle.clap.specs.Words.{Text, matches_of, takes}

@@ -6,7 +6,6 @@ use Rattle.clap.specs.Words.{all_of, first_of, first_value, matched_of, raw_valu
 use Rattle.clap.specs.declared.parser.matches.Found.{Found}
 use Rattle.clap.specs.declared.parser.matches.MatchedArg.{MatchedArg}
 use Rattle.clap.proofs.WalkLemmas.{first_value-rows, raw_values-rows}
-use Rattle.fab_words.specs.declared.command.Command.{Command}
 use Rattle.fab_words.specs.Words.{command_of}
 use Rattle.fab_words.specs.Line.{asked_in}
 

@@ -20,5 +20,7 @@ pub returns : goal.returns
 returns c =
     let words : List Text = map string_bytes c.args.words.now in
     let line_is = c.in_ok-command_line.ensures in
-    record { asked = sym (refused c.args.words.now (search rules)
-        (λ taken. c.in_default.not-OutOfMemory (c.kind.ensures ∙ c.in-Err.ensures.passes (ap (λ (a : App). takes a words) line_is ∙ taken)))) }
+    record {
+      asked = sym (refused c.args.words.now (search rules)
+          (λ taken. c.in_default.not-OutOfMemory (c.kind.ensures ∙ c.in-Err.ensures.passes (ap (λ (a : App). takes a words) line_is ∙ taken))));
+    }

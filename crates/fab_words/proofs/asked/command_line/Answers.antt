@@ -2,7 +2,7 @@ use Rattle.std.proofs.Common.{rules, ap, ap₂, ◌≡◌, ◌∙◌}
 use Rattle.std.proofs.lemmas.Result.{IfOk-weaker}
 use Rattle.clap.specs.Words.{app_of, rule_of, with_rule}
 use Rattle.clap.specs.Simple.{app_of_fields}
-use Rattle.fab_words.specs.Line.{command_line, command_rule, operands_rule, without_help, without_name}
+use Rattle.fab_words.specs.Line.{command_rule, operands_rule, without_help, without_name}
 use Rattle.fab_words.proofs.asked.command_line.Goals as goal
 
 pub returns : goal.returns
