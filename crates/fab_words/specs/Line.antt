@@ -1,0 +1,35 @@
+-- The command line of which `clap` is told, and what its matches ask for.
+use Rattle.std.specs.Prelude.{ℕ, ◌==◌, Bool, true, false, List, [], ◌∷◌, Option, Some, None, is_some, if◌then◌else◌, codes, option_and_then}
+use Rattle.clap.specs.Words.{App, Row, Rule, all_of, first_of, new_app, new_rule, with_rule}
+use Rattle.clap.specs.Simple.{on_top}
+use Rattle.clap.specs.declared.builder.action.ArgAction.TheVariants.{Append, Set}
+use Rattle.fab_words.specs.declared.command.Command.{Command}
+use Rattle.fab_words.specs.Words.{command_of}
+
+-- a command's word, which must be there
+abbrev pub command_rule : Rule
+command_rule = record (new_rule (codes "command")) { required = true; action = Some Set }
+
+-- its operands, as many as come
+abbrev pub operands_rule : Rule
+operands_rule = record (new_rule (codes "operands")) { action = Some Append }
+
+-- words without the program's name, and no flag for help
+abbrev pub without_name : App → App
+without_name = on_top (λ s. record s { no_binary_name = true })
+
+abbrev pub without_help : App → App
+without_help = on_top (λ s. record s { disable_help_flag = true })
+
+-- a command's word and its operands
+abbrev pub command_line : App
+command_line = with_rule (with_rule (without_help (without_name (new_app (codes "fab")))) command_rule) operands_rule
+
+-- the word begins with `-`
+abbrev pub begins_with_dash : List ℕ → Bool
+begins_with_dash [] = false
+begins_with_dash (b ∷ bs) = b == 45
+
+-- the command of matches, which takes no operands
+abbrev pub asked_in : List Row → Option Command
+asked_in rows = option_and_then (λ word. if is_some (all_of (codes "operands") rows) then None else command_of word) (first_of (codes "command") rows)
