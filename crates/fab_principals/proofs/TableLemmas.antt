@@ -1,9 +1,8 @@
 -- Tables of relations, and what one more pair adds to them.
-use Rattle.std.proofs.Common.{◌≡◌, ◌≢◌, ℕ, ◌+◌, ◌<◌, ◌≤◌, Bool, true, false, ◌||◌, ◌&&◌, ◌==◌, ◌⊎◌, ◌↔◌, List, [], ◌∷◌, ◌++◌, length, take, set, replicate, slice_index, get_or, inl, inr, refl, sym, ap, ◌∙◌, subst, arith, Contains, IsTrue}
-use Rattle.std.proofs.lemmas.Bool.{or_cases, or_left, or_right, and_parts, and_from, cases_eq, eqb-true, eq-eqb, cases_Bool, both_ways}
+use Rattle.std.proofs.Common.{◌≡◌, ℕ, ◌+◌, ◌<◌, true, false, ◌||◌, ◌&&◌, ◌==◌, ◌↔◌, List, [], ◌∷◌, ◌++◌, length, take, set, replicate, slice_index, get_or, inl, inr, sym, ap, ◌∙◌, subst, arith, Contains}
+use Rattle.std.proofs.lemmas.Bool.{or_cases, or_left, or_right, and_parts, and_from, cases_eq, eqb-true, eq-eqb, both_ways}
 use Rattle.std.proofs.lemmas.List.{take_more, get_or_default, get_or-replicate, get_or-set_same, get_or-set_other, length-set, length-replicate}
 use Rattle.std.proofs.lemmas.List.Elements.{Contains-append_left, Contains-push, Contains-push_cases}
-use Rattle.fab_base.specs.Principals.{Leads}
 use Rattle.fab_principals.specs.Sets.{in_set}
 use Rattle.fab_principals.specs.Tables.{IsTable, Reaches}
 use Rattle.fab_principals.proofs.SetLemmas.{in_set-zero}

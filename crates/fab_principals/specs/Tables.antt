@@ -1,7 +1,7 @@
 -- Relations of principals as tables, a row of 64 bits for each principal.
 use Rattle.std.specs.Prelude.{◌≡◌, ℕ, zero, suc, ◌<◌, ◌≤◌, ◌↔◌, IsTrue, List, [], ◌∷◌, length, slice_index, bit_and}
 use Rattle.std.specs.Int.{trailing_zeros, w64}
-use Rattle.fab_base.specs.Principals.{Leads, IsNoGreater}
+use Rattle.fab_base.specs.Principals.{Leads}
 use Rattle.fab_principals.specs.Sets.{in_set}
 
 -- row p of the table has bit q exactly where p stands in the relation to q

@@ -1,5 +1,5 @@
 -- What contracts see of an `Acts`, and what its tables hold.
-use Rattle.std.specs.Prelude.{ℕ, ◌<◌, ◌≤◌, ◌^◌, All, Contains}
+use Rattle.std.specs.Prelude.{◌<◌, ◌≤◌, ◌^◌, All, Contains}
 use Rattle.fab_base.specs.Principals.{Delegations}
 use Rattle.fab_principals.specs.declared.acts.Acts.TheInside.{Inside}
 use Rattle.fab_principals.specs.Tables.{IsTable, Reaches}

@@ -25,7 +25,7 @@ fn grant(rows: &mut [u64], a: u16, gained: u64)
     requires { a < 64 }
     ensures { (p q : ℕ) → p < length rows.old
         → in_set (slice_index rows.new p) q
-            ≡ (in_set (slice_index rows.old p) q || (in_set (slice_index rows.old p) a && in_set gained q)) }
+        ≡ (in_set (slice_index rows.old p) q || (in_set (slice_index rows.old p) a && in_set gained q)) }
 {
     for row in rows.iter_mut() {
         if contains(*row, a) {

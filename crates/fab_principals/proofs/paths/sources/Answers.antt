@@ -1,4 +1,4 @@
-use Rattle.std.proofs.Common.{ℕ, ◌<◌, ◌+◌, ◌↔◌, IsTrue, slice_index, arith, subst, sym, ap}
+use Rattle.std.proofs.Common.{ℕ, ◌<◌, ◌+◌, ◌↔◌, IsTrue, slice_index, arith, subst, sym}
 use Rattle.std.proofs.lemmas.Bool.{both_ways}
 use Rattle.fab_principals.specs.Sets.{in_set, Meets}
 use Rattle.fab_principals.proofs.SetLemmas.{in_set-zero, sources_more, sources_same}

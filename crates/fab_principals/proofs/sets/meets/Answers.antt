@@ -1,4 +1,3 @@
-use Rattle.std.proofs.Common.{arith, bit_and, ◌==◌, not}
 use Rattle.std.proofs.lemmas.Bool.{eqb-true, eqb-false, not-true, not-false}
 use Rattle.fab_principals.proofs.SetLemmas.{meets-and}
 use Rattle.fab_principals.proofs.sets.meets.Goals as goal

@@ -1,4 +1,4 @@
-use Rattle.std.proofs.Common.{◌≡◌, ℕ, length, take, subst, sym, ap, ◌∙◌, List, arith}
+use Rattle.std.proofs.Common.{◌≡◌, ℕ, length, subst, sym, ap, ◌∙◌, List, arith}
 use Rattle.std.proofs.lemmas.List.{take_all, with_items_is}
 use Rattle.fab_principals.specs.Tables.{IsTable, Reaches}
 use Rattle.fab_principals.proofs.TableLemmas.{IsTable-start, closed_more, closed_same}

@@ -1,4 +1,4 @@
-use Rattle.std.proofs.Common.{◌<◌, ◌^◌, All, lit<, replicate, get_or, ◌≡◌, ℕ, [], take, Contains, subst, sym, ap, ◌∙◌, List, ◌||◌, arith}
+use Rattle.std.proofs.Common.{◌<◌, ◌^◌, All, lit<, replicate, get_or, ℕ, [], Contains, subst, sym, ap, ◌∙◌, List, ◌||◌, arith}
 use Rattle.std.proofs.lemmas.List.{take_all}
 use Rattle.std.proofs.lemmas.List.Elements.{All-set, All-replicate}
 use Rattle.fab_principals.specs.Sets.{in_set}

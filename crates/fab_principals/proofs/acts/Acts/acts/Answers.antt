@@ -1,9 +1,8 @@
-use Rattle.std.proofs.Common.{◌≡◌, ℕ, ◌<◌, ◌↔◌, IsTrue, ◌==◌, [], length, slice_index, inl, inr, sym, ap, ◌∙◌, subst, arith}
+use Rattle.std.proofs.Common.{◌≡◌, ◌<◌, ◌↔◌, IsTrue, ◌==◌, [], length, slice_index, inl, inr, sym, ap, ◌∙◌, subst, arith}
 use Rattle.std.proofs.lemmas.Bool.{eqb-true, eq-eqb}
 use Rattle.std.proofs.lemmas.List.{get_or_default}
 use Rattle.fab_base.specs.Principals.{Delegations, ActsFor}
 use Rattle.fab_principals.specs.Sets.{in_set}
-use Rattle.fab_principals.specs.Tables.{Reaches}
 use Rattle.fab_principals.specs.Views.{delegations}
 use Rattle.fab_principals.proofs.ChainLemmas.{ActsFor-reaches, Leads-ends}
 use Rattle.fab_principals.proofs.acts.Acts.acts.Goals as goal

@@ -1,7 +1,6 @@
-use Rattle.std.proofs.Common.{◌≡◌, ℕ, ◌<◌, ◌^◌, ◌∷◌, length, true, false, ◌↔◌, List, Option, Some, None, IfSome, IfNone, arith, refl, sym, ap, ◌∙◌, subst, slice_index}
+use Rattle.std.proofs.Common.{length, refl, ◌∙◌, subst}
 use Rattle.std.proofs.lemmas.Bool.{true≢false}
 use Rattle.fab_base.specs.Principals.{Delegations, ActsFor, IsBestChain}
-use Rattle.fab_principals.specs.Tables.{RowsLead, AreRings, inward}
 use Rattle.fab_principals.specs.Views.{delegations}
 use Rattle.fab_principals.proofs.RingLemmas.{walk-best, no_chain, rows_fit}
 use Rattle.fab_principals.proofs.acts.Acts.path.Goals as goal
