@@ -4,14 +4,8 @@
 
 mod classes;
 mod delegations;
-mod expressions;
 mod labels;
-mod methods;
 mod nodes;
-mod statements;
+mod program;
 
-pub use classes::ClassRule;
-pub use delegations::DelegationRule;
-pub use labels::LabelRule;
-pub use methods::MethodRule;
-pub use nodes::NodeRule;
+pub use program::read_program;
