@@ -8,9 +8,12 @@ use Rattle.fab_tree.specs.declared.declaration.PolicyText.{PolicyText}
 use Rattle.fab_tree.specs.declared.declaration.Sort.{Sort}
 use Rattle.fab_tree.specs.declared.declaration.Field.{Field}
 use Rattle.fab_tree.specs.declared.declaration.Class.{Class}
+use Rattle.fab_tree.specs.declared.program.Parameter.{Parameter}
+use Rattle.fab_tree.specs.declared.program.Method.{Method}
 use Rattle.fab_tree.specs.Lists.{is, name}
 use Rattle.fab_tree.specs.Declarations.{worker, store, principal, honest, hostile, IsNode, node, IsDelegation, delegation, IsPolicy, policy, IsLabel, label, IsSort, int, class, IsField, field, IsClass}
-use Rattle.fab_reading.specs.Reading.{Starts, begins_node, begins_name, begins_label, begins_class, begins_sort}
+use Rattle.fab_tree.specs.Programs.{IsParameter, parameter, IsMethod, method}
+use Rattle.fab_reading.specs.Reading.{Starts, begins_node, begins_name, begins_label, begins_class, begins_method, begins_sort}
 
 pub node_begins : (a : List Token) (v : Node) (b : List Token) → IsNode a v b → Starts begins_node a
 node_begins a v b (node (principal (is e)) q r) = subst (λ x. IsTrue (begins_node x)) (sym e) refl
@@ -37,3 +40,8 @@ field_begins a v b (field p q r) = sort_begins a _ _ p
 pub class_begins : (a : List Token) (v : Class) (b : List Token) → IsClass a v b → Starts begins_class a
 class_begins a v b (class (is e) p q r s t u w x) = subst (λ x. IsTrue (begins_class x)) (sym e) refl
 
+pub parameter_begins : (a : List Token) (v : Parameter) (b : List Token) → IsParameter a v b → Starts begins_sort a
+parameter_begins a v b (parameter p q i r) = sort_begins a _ _ p
+
+pub method_begins : (a : List Token) (v : Method) (b : List Token) → IsMethod a v b → Starts begins_method a
+method_begins a v b (method (is e) p q r s t u w x y z f g h) = subst (λ y. IsTrue (begins_method y)) (sym e) refl

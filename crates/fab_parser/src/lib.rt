@@ -4,8 +4,13 @@
 
 mod classes;
 mod delegations;
+mod error;
 mod labels;
+mod methods;
 mod nodes;
-mod program;
+mod programs;
+mod rights;
+mod statements;
 
-pub use program::read_program;
+pub use error::ParseError;
+pub use programs::{program, read_program};

@@ -4,8 +4,8 @@ ghost use Rattle.fab_tree.specs.Declarations.{IsMachine, IsRole, IsNode};
 ghost use Rattle.fab_reading.specs.Reading.{Read, Stops, Starts, BeginsWith, Lacks, any, begins_node};
 
 use fab_base::{Kind, Mark, Token};
-use fab_tree::{Node, Role};
 use fab_reading::{Refusal, Rule, behind, name, next, sign};
+use fab_tree::{Node, Role};
 use std::alloc::Global;
 
 /// Whether a principal, a worker or a store comes next.
