@@ -57,9 +57,7 @@ no_aspect (t ∷ ts) r w h = no_mark t.kind (λ e. r ts (is e)) (λ e. w ts (is 
 
     no_mark : (x : Kind) → (x ≡ k.Fixed m.Arrow → ⊥) → (x ≡ k.Fixed m.BackArrow → ⊥) → IsTrue (begins_aspect x) → ⊥
     no_mark (k.Fixed y) r w h = by_mark y (λ e. r (ap k.Fixed e)) (λ e. w (ap k.Fixed e)) h
-    no_mark (k.Name y) r w h = never h
-    no_mark (k.Number y) r w h = never h
-    no_mark k.Least r w h = never h
+    no_mark _ r w h = never h
 
 aspect_refused : {room : ℕ} {a : List Token} → Lacks m.Arrow a → Lacks m.BackArrow a → Refused IsAspect any room a (length a)
 aspect_refused {a = a} r w = here begins_aspect aspect_begins aspect_text (no_aspect a r w)

@@ -1,7 +1,11 @@
 pub mod ClassRules
 pub mod DelegationRules
-pub mod ExpressionRules
 pub mod LabelRules
 pub mod MethodRules
 pub mod NodeRules
+pub mod PartRules
+pub mod ProgramRules
+pub mod RightRules
+pub mod StatementParts
 pub mod StatementRules
+pub mod TextRules

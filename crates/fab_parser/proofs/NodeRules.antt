@@ -17,59 +17,57 @@ use Rattle.fab_reading.specs.declared.refusal.Refusal.TheVariants as refusal
 use Rattle.fab_reading.proofs.TokenRules.{mark_read}
 use Rattle.fab_reading.proofs.Rules.{Then, End, Sign, HasText, Going, start, turn, here, never, token_of, same_sign, lacks_too}
 
--- ---- place = "worker" | "store"
+-- ---- machine = "worker" | "store"
 
-place_worker : (h : Bool) {a : List Token} {v : Role} {b : List Token} → BeginsWith m.Worker a → IsMachine h a v b → (v ≡ r.Worker h) × Is m.Worker a b
-place_worker h e (worker i) = (refl, i)
-place_worker h e (store (is g)) = absurd (cc)
+machine_worker : (h : Bool) {a : List Token} {v : Role} {b : List Token} → BeginsWith m.Worker a → IsMachine h a v b → (v ≡ r.Worker h) × Is m.Worker a b
+machine_worker h e (worker i) = (refl, i)
+machine_worker h e (store (is g)) = absurd (cc)
 
 pub worker_read : (h : Bool) {room : ℕ} {a b : List Token} → Is m.Worker a b → Read (IsMachine h) any room a (r.Worker h) b
-worker_read h i = mark_read m.Worker i refl (λ x y. worker) (λ x v y. place_worker h)
+worker_read h i = mark_read m.Worker i refl (λ x y. worker) (λ x v y. machine_worker h)
 
-place_store : (h : Bool) {a : List Token} {v : Role} {b : List Token} → BeginsWith m.Store a → IsMachine h a v b → (v ≡ r.Store h) × Is m.Store a b
-place_store h e (store i) = (refl, i)
-place_store h e (worker (is g)) = absurd (cc)
+machine_store : (h : Bool) {a : List Token} {v : Role} {b : List Token} → BeginsWith m.Store a → IsMachine h a v b → (v ≡ r.Store h) × Is m.Store a b
+machine_store h e (store i) = (refl, i)
+machine_store h e (worker (is g)) = absurd (cc)
 
 pub store_read : (h : Bool) {room : ℕ} {a b : List Token} → Is m.Store a b → Read (IsMachine h) any room a (r.Store h) b
-store_read h i = mark_read m.Store i refl (λ x y. store) (λ x v y. place_store h)
+store_read h i = mark_read m.Store i refl (λ x y. store) (λ x v y. machine_store h)
 
-abbrev pub begins_place : Kind → Bool
-begins_place (k.Fixed m.Worker) = true
-begins_place (k.Fixed m.Store) = true
-begins_place _ = false
+abbrev pub begins_machine : Kind → Bool
+begins_machine (k.Fixed m.Worker) = true
+begins_machine (k.Fixed m.Store) = true
+begins_machine _ = false
 
-place_begins : (h : Bool) (a : List Token) (v : Role) (b : List Token) → IsMachine h a v b → Starts begins_place a
-place_begins h a v b (worker (is e)) = subst (λ x. IsTrue (begins_place x)) (sym e) refl
-place_begins h a v b (store (is e)) = subst (λ x. IsTrue (begins_place x)) (sym e) refl
+machine_begins : (h : Bool) (a : List Token) (v : Role) (b : List Token) → IsMachine h a v b → Starts begins_machine a
+machine_begins h a v b (worker (is e)) = subst (λ x. IsTrue (begins_machine x)) (sym e) refl
+machine_begins h a v b (store (is e)) = subst (λ x. IsTrue (begins_machine x)) (sym e) refl
 
-pub place_text : (h : Bool) → HasText (IsMachine h)
-place_text h = (token_of m.Worker ∷ [], r.Worker h, λ after. worker (is refl))
+pub machine_text : (h : Bool) → HasText (IsMachine h)
+machine_text h = (token_of m.Worker ∷ [], r.Worker h, λ after. worker (is refl))
 
-no_place : (a : List Token) → Lacks m.Worker a → Lacks m.Store a → Starts begins_place a → ⊥
-no_place [] w s h = h
-no_place (t ∷ ts) w s h = no_mark t.kind (λ e. w ts (is e)) (λ e. s ts (is e)) h
+no_machine : (a : List Token) → Lacks m.Worker a → Lacks m.Store a → Starts begins_machine a → ⊥
+no_machine [] w s h = h
+no_machine (t ∷ ts) w s h = no_mark t.kind (λ e. w ts (is e)) (λ e. s ts (is e)) h
   where
-    by_mark : (x : Mark) → (x ≡ m.Worker → ⊥) → (x ≡ m.Store → ⊥) → IsTrue (begins_place (k.Fixed x)) → ⊥
+    by_mark : (x : Mark) → (x ≡ m.Worker → ⊥) → (x ≡ m.Store → ⊥) → IsTrue (begins_machine (k.Fixed x)) → ⊥
     by_mark m.Worker w s h = w refl
     by_mark m.Store w s h = s refl
     by_mark _ w s h = never h
 
-    no_mark : (x : Kind) → (x ≡ k.Fixed m.Worker → ⊥) → (x ≡ k.Fixed m.Store → ⊥) → IsTrue (begins_place x) → ⊥
+    no_mark : (x : Kind) → (x ≡ k.Fixed m.Worker → ⊥) → (x ≡ k.Fixed m.Store → ⊥) → IsTrue (begins_machine x) → ⊥
     no_mark (k.Fixed y) w s h = by_mark y (λ e. w (ap k.Fixed e)) (λ e. s (ap k.Fixed e)) h
-    no_mark (k.Name y) w s h = never h
-    no_mark (k.Number y) w s h = never h
-    no_mark k.Least w s h = never h
+    no_mark _ w s h = never h
 
-place_refused : (h : Bool) {room : ℕ} {a : List Token} → Lacks m.Worker a → Lacks m.Store a → Refused (IsMachine h) any room a (length a)
-place_refused h {a = a} w s = here begins_place (place_begins h) (place_text h) (no_place a w s)
+machine_refused : (h : Bool) {room : ℕ} {a : List Token} → Lacks m.Worker a → Lacks m.Store a → Refused (IsMachine h) any room a (length a)
+machine_refused h {a = a} w s = here begins_machine (machine_begins h) (machine_text h) (no_machine a w s)
 
 -- neither a worker nor a store comes
-pub place_stops : (h : Bool) (room : ℕ) (a : List Token) (e : Refusal) → Lacks m.Worker a → CannotRead m.Store a e → Stops (IsMachine h) any room a e
-place_stops h room a refusal.Memory w x = absurd x
-place_stops h room a (refusal.Syntax left) w x = subst (λ y. Refused (IsMachine h) any room a y) (sym x.0) (place_refused h w x.1)
-place_stops h room a (refusal.Deep left) w x = absurd x
+pub machine_stops : (h : Bool) (room : ℕ) (a : List Token) (e : Refusal) → Lacks m.Worker a → CannotRead m.Store a e → Stops (IsMachine h) any room a e
+machine_stops h room a refusal.Memory w x = absurd x
+machine_stops h room a (refusal.Syntax left) w x = subst (λ y. Refused (IsMachine h) any room a y) (sym x.0) (machine_refused h w x.1)
+machine_stops h room a (refusal.Deep left) w x = absurd x
 
--- ---- role = "principal" | ["hostile"] place
+-- ---- role = "principal" | ["hostile"] machine
 
 role_principal : {a : List Token} {v : Role} {b : List Token} → BeginsWith m.Principal a → IsRole a v b → (v ≡ r.Principal) × Is m.Principal a b
 role_principal e (principal i) = (refl, i)

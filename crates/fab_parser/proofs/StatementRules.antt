@@ -1,213 +1,209 @@
--- Statements and blocks, part by part.
-use Rattle.std.proofs.Common.{◌≡◌, ℕ, Bool, IsTrue, List, [], ◌∷◌, length, Option, refl, sym, subst}
-use Rattle.fab_base.specs.declared.token.Mark.TheVariants as m
+-- Which statement comes, and statements in a row.
+use Rattle.std.proofs.Common.{Bool, IsTrue, List, Some, [], length, refl, subst, sym, ℕ, ◌∷◌, ◌≡◌}
 use Rattle.fab_base.specs.declared.token.Kind.{Kind}
 use Rattle.fab_base.specs.declared.token.Kind.TheVariants as k
+use Rattle.fab_base.specs.declared.token.Mark.{Mark}
+use Rattle.fab_base.specs.declared.token.Mark.TheVariants as m
 use Rattle.fab_base.specs.declared.token.Token.{Token}
-use Rattle.fab_tree.specs.declared.name.Name.{Name}
-use Rattle.fab_tree.specs.declared.declaration.Sort.{Sort}
 use Rattle.fab_tree.specs.declared.declaration.Sort.TheVariants as sorts
-use Rattle.fab_tree.specs.declared.program.Expression.{Expression}
-use Rattle.fab_tree.specs.declared.program.Statement.{Statement}
-use Rattle.fab_tree.specs.declared.program.Statement.TheVariants as forms
-use Rattle.fab_tree.specs.Lists.{Is, is, IsName, name, Repeated, no_more, one_more}
-use Rattle.fab_tree.specs.Declarations.{IsSort, int, class}
-use Rattle.fab_tree.specs.Programs.{alone, sum, no_term, primary, local, IsExpression, IsStatement, declare, assign, write, choice, IsOtherwise, no_else, some_else, IsBlock, block, IsStatements, no_statement, one_statement}
-use Rattle.fab_reading.specs.Reading.{Lacks, BeginsWith, Starts, Follows, Refused, any, begins_name, first_place}
-use Rattle.fab_reading.proofs.Rules.{Then, End, Sign, HasText, Going, start, turn, token_of, here, same_sign, lacks_too, begins_too, never, behind_mark}
+use Rattle.fab_tree.specs.declared.name.Name.{Name}
+use Rattle.fab_tree.specs.declared.statement.Statement.{Statement}
+use Rattle.fab_tree.specs.declared.statement.Statement.TheVariants as forms
+use Rattle.fab_tree.specs.Declarations.{class, int}
+use Rattle.fab_tree.specs.Depth.{room_by}
+use Rattle.fab_tree.specs.Lists.{Is, IsName, Repeated, ended, is, name}
+use Rattle.fab_tree.specs.Statements.{IsStatement, assign, atomic, call, choice, declare, fail, loop, write}
+use Rattle.fab_reading.specs.Reading.{Follows, Lacks, Read, Refused, Starts, any, begins_name, first_place}
 use Rattle.fab_reading.proofs.ListRules.{list_meets}
-use Rattle.fab_reading.proofs.ItemRules.{same_starts}
-use Rattle.fab_reading.proofs.ChoiceRules.{Perhaps, without, behind}
-use Rattle.fab_parser.specs.Pieces.{IsValue, value, IsDeclared, declared, begins_statement, after_statement, behind_statements}
-use Rattle.fab_parser.proofs.ExpressionRules.{any_name, any_local}
+use Rattle.fab_reading.proofs.Rules.{Going, HasText, Sign, Then, here, lacks_too, never, same_sign, sign, token_of, turn}
+use Rattle.fab_parser.specs.Pieces.{IsAssigned, IsAttempt, IsChoice, IsDeclared, IsFailure, IsLoop, IsRequested, IsWritten, after_statement, assigned, attempted, begins_statement, behind_statements, bracketed, branched, declared, failed, looped, requested, written}
+use Rattle.fab_parser.proofs.PartRules.{behind_part, behind_word}
 
--- ---- value = expression ";"
+-- ---- which statement comes
 
-abbrev pub ValueParts : Type 0
-ValueParts = Expression × (Unit {0} × Unit {0})
+-- What stands behind the name that a statement begins with.
+pub data Tail (x : Name) : List Token → Statement → List Token → Type 0 where
+  assigns : {a b c : List Token} {u : Statement} → Is m.Equal a b → IsAssigned x b u c → Tail x a u c
+  writes : {a b c : List Token} {u : Statement} → Is m.Dot a b → IsWritten x b u c → Tail x a u c
+  requests : {a b : List Token} {u : Statement} → IsRequested x a u b → Tail x a u b
+  declares : {a b : List Token} {u : Statement} → IsDeclared (sorts.Class x) x.at a u b → Tail x a u b
 
-abbrev pub value_of : ValueParts → Expression
-value_of v = v.0
+-- What stands behind the first token of a statement, which stands at a place.
+data Begun : Kind → ℕ → List Token → Statement → List Token → Type 0 where
+  by_name : {x : List ℕ} {at : ℕ} {a b : List Token} {u : Statement} → Tail (record { text = x; at = at }) a u b → Begun (k.Name x) at a u b
+  by_int : {at : ℕ} {a b : List Token} {u : Statement} → IsDeclared sorts.Int at a u b → Begun (k.Fixed m.Int) at a u b
+  by_if : {at : ℕ} {a b : List Token} {u : Statement} → IsChoice a u b → Begun (k.Fixed m.If) at a u b
+  by_while : {at : ℕ} {a b : List Token} {u : Statement} → IsLoop a u b → Begun (k.Fixed m.While) at a u b
+  by_atomic : {at : ℕ} {a b : List Token} {u : Statement} → IsAttempt at a u b → Begun (k.Fixed m.Atomic) at a u b
+  by_fail : {at : ℕ} {a b : List Token} {u : Statement} → IsFailure at a u b → Begun (k.Fixed m.Fail) at a u b
 
-abbrev pub ValueChain : List Token → ValueParts → List Token → Type 0
-ValueChain = Then IsExpression (Then (Sign m.Semicolon) End)
+begun_at : (t : Token) {more b : List Token} {u : Statement} (x : Kind) → t.kind ≡ x → Begun x t.at more u b → Begun t.kind t.at more u b
+begun_at t {more = more} {b = b} {u = u} x e d = subst (λ y. Begun y t.at more u b) (sym e) d
 
-value_back : {a : List Token} {v : Expression} {b : List Token} → IsValue a v b → (x : ValueParts) × (v ≡ value_of x) × ValueChain a x b
-value_back (value {t = p_given} q0 q1) = ((p_given, (tt, tt)), refl, record { mid = _; first = q0; second = record { mid = _; first = q1; second = refl } })
+begun : {t : Token} {more b : List Token} {u : Statement} → IsStatement (t ∷ more) u b → Begun t.kind t.at more u b
+begun {t = t} (declare (int (is e)) p i q j r l) = begun_at t (k.Fixed m.Int) e (by_int (declared p i q j (ended r l)))
+begun {t = t} (declare (class (name {x = x} e)) p i q j r l) = begun_at t (k.Name x) e (by_name (declares (declared p i q j (ended r l))))
+begun {t = t} (assign (name {x = x} e) i p j) = begun_at t (k.Name x) e (by_name (assigns i (assigned p j)))
+begun {t = t} (write (name {x = x} e) i p j q l) = begun_at t (k.Name x) e (by_name (writes i (written p j (ended q l))))
+begun {t = t} (call (name {x = x} e) i p j l) = begun_at t (k.Name x) e (by_name (requests (requested (bracketed i p j) l)))
+begun {t = t} (choice (is e) i p j q r) = begun_at t (k.Fixed m.If) e (by_if (branched (bracketed i p j) q r))
+begun {t = t} (loop (is e) i p j q) = begun_at t (k.Fixed m.While) e (by_while (looped (bracketed i p j) q))
+begun {t = t} (atomic (is e) p q i r) = begun_at t (k.Fixed m.Atomic) e (by_atomic (attempted p q i r))
+begun {t = t} (fail (is e) i) = begun_at t (k.Fixed m.Fail) e (by_fail (failed i))
 
-pub value_start : {room : ℕ} (a : List Token) → Going IsValue any room a ValueChain value_of room a
-value_start {room = room} a = turn value_of (start IsValue any room a) (λ more v after p. let p1 = p.second in subst (λ x. IsValue more (value_of v) x) p1.second (value p.first p1.first)) (λ more v after same p h. value_back p)
+begun_as : {t : Token} {more b : List Token} {u : Statement} (x : Kind) → t.kind ≡ x → IsStatement (t ∷ more) u b → Begun x t.at more u b
+begun_as {t = t} {more = more} {b = b} {u = u} x e d = subst (λ y. Begun y t.at more u b) e (begun d)
 
-pub value_text : HasText IsValue
-value_text = (any_name ∷ token_of m.Semicolon ∷ [], any_local, λ after. value (alone (sum (primary (local (name refl))) no_term)) (is refl))
+tail_made : {t : Token} {x : List ℕ} {more : List Token} {u : Statement} {b : List Token} → t.kind ≡ k.Name x → Tail (record { text = x; at = t.at }) more u b → IsStatement (t ∷ more) u b
+tail_made e (assigns i (assigned p j)) = assign (name e) i p j
+tail_made e (writes i (written p j (ended q l))) = write (name e) i p j q l
+tail_made e (requests (requested (bracketed i p j) l)) = call (name e) i p j l
+tail_made e (declares (declared p i q j (ended r l))) = declare (class (name e)) p i q j r l
 
--- ---- declared = name ":" name "=" value
+-- ---- statements that begin with a name
 
-abbrev pub DeclaredParts : Type 0
-DeclaredParts = Name × (Unit {0} × (Name × (Unit {0} × (Expression × Unit {0}))))
+name_made : {a b c : List Token} {x : Name} {u : Statement} → IsName a x b → Tail x b u c → IsStatement a u c
+name_made (name e) d = tail_made e d
 
-abbrev pub declared_of : DeclaredParts → Name × Name × Expression
-declared_of v = (v.0, v.1.1.0, v.1.1.1.1.0)
+only_name : {x : List ℕ} {at : ℕ} {a b : List Token} {u : Statement} → Begun (k.Name x) at a u b → Tail (record { text = x; at = at }) a u b
+only_name (by_name d) = d
 
-abbrev pub DeclaredChain : List Token → DeclaredParts → List Token → Type 0
-DeclaredChain = Then IsName (Then (Sign m.Colon) (Then IsName (Then (Sign m.Equal) (Then IsValue End))))
+name_back : {a b c : List Token} {x : Name} {u : Statement} → IsName a x b → IsStatement a u c → Tail x b u c
+name_back (name {x = x} e) d = only_name (begun_as (k.Name x) e d)
 
-declared_back : {a : List Token} {v : Name × Name × Expression} {b : List Token} → IsDeclared a v b → (x : DeclaredParts) × (v ≡ declared_of x) × DeclaredChain a x b
-declared_back (declared {x = p_local} {y = p_label} {t = p_given} q0 q1 q2 q3 q4) = ((p_local, (tt, (p_label, (tt, (p_given, tt))))), refl, record { mid = _; first = q0; second = record { mid = _; first = q1; second = record { mid = _; first = q2; second = record { mid = _; first = q3; second = record { mid = _; first = q4; second = refl } } } } })
+pub named_start : {room : ℕ} {a : List Token} {x : Name} {b : List Token} → Read IsName any room a x b → Going IsStatement after_statement room a (Tail x) (λ v. v) room b
+named_start {x = x} r = behind_part (Tail x) r (λ y more v after. name_made) (λ y more u after p same d h. name_back p d)
 
-pub declared_start : {room : ℕ} (a : List Token) → Going IsDeclared any room a DeclaredChain declared_of room a
-declared_start {room = room} a = turn declared_of (start IsDeclared any room a) (λ more v after p. let p1 = p.second in let p2 = p1.second in let p3 = p2.second in let p4 = p3.second in subst (λ x. IsDeclared more (declared_of v) x) p4.second (declared p.first p1.first p2.first p3.first p4.first)) (λ more v after same p h. declared_back p)
+assigns_back : {x : Name} {a c : List Token} {v : Statement} {b : List Token} → Is m.Equal a c → Tail x a v b → (w : Unit {0} × Statement) × (v ≡ w.1) × Then (Sign m.Equal) (IsAssigned x) a w b
+assigns_back e (assigns {b = b} {u = u} i p) = ((tt, u), refl, record { mid = b; first = i; second = p })
+assigns_back (is e) (writes (is g) p) = absurd (cc)
+assigns_back (is e) (requests (requested (bracketed (is g) p j) l)) = absurd (cc)
+assigns_back (is e) (declares (declared (name g) i q j r)) = absurd (cc)
 
--- ---- statement
+writes_back : {x : Name} {a c : List Token} {v : Statement} {b : List Token} → Is m.Dot a c → Tail x a v b → (w : Unit {0} × Statement) × (v ≡ w.1) × Then (Sign m.Dot) (IsWritten x) a w b
+writes_back (is e) (assigns (is g) p) = absurd (cc)
+writes_back e (writes {b = b} {u = u} i p) = ((tt, u), refl, record { mid = b; first = i; second = p })
+writes_back (is e) (requests (requested (bracketed (is g) p j) l)) = absurd (cc)
+writes_back (is e) (declares (declared (name g) i q j r)) = absurd (cc)
+
+requests_back : {x : Name} {a c : List Token} {v : Statement} {b : List Token} → Is m.LeftParen a c → Tail x a v b → (w : Statement) × (v ≡ w) × IsRequested x a w b
+requests_back (is e) (assigns (is g) p) = absurd (cc)
+requests_back (is e) (writes (is g) p) = absurd (cc)
+requests_back e (requests {u = u} d) = (u, refl, d)
+requests_back (is e) (declares (declared (name g) i q j r)) = absurd (cc)
+
+declares_back : {x : Name} {a : List Token} {v : Statement} {b : List Token} → Lacks m.Equal a → Lacks m.Dot a → Lacks m.LeftParen a → Tail x a v b → (w : Statement) × (v ≡ w) × IsDeclared (sorts.Class x) x.at a w b
+declares_back g h l (assigns i p) = absurd (g _ i)
+declares_back g h l (writes i p) = absurd (h _ i)
+declares_back g h l (requests (requested (bracketed i p j) q)) = absurd (l _ i)
+declares_back g h l (declares {u = u} d) = (u, refl, d)
+
+module _ {A : Type 0} {R : List Token → A → List Token → Type 0} {may : Kind → Bool} {room : ℕ} {a : List Token} {f : Statement → A} {x : Name} {left : ℕ} {b : List Token} where
+  assigns_sign : {c : List Token} → Going R may room a (Tail x) f left b → Is m.Equal b c → Going R may room a (Then (Sign m.Equal) (IsAssigned x)) (λ v. f v.1) left b
+  assigns_sign r i = turn (λ v. v.1) r (λ more v after p. assigns p.first p.second) (λ more v after same p h. assigns_back (same_sign b more i same).1 p)
+
+  pub assigns_start : {c : List Token} → Going R may room a (Tail x) f left b → Is m.Equal b c → Going R may room a (IsAssigned x) f left c
+  assigns_start r i = sign (assigns_sign r i) i refl
+
+  writes_sign : {c : List Token} → Going R may room a (Tail x) f left b → Is m.Dot b c → Going R may room a (Then (Sign m.Dot) (IsWritten x)) (λ v. f v.1) left b
+  writes_sign r i = turn (λ v. v.1) r (λ more v after p. writes p.first p.second) (λ more v after same p h. writes_back (same_sign b more i same).1 p)
+
+  pub writes_start : {c : List Token} → Going R may room a (Tail x) f left b → Is m.Dot b c → Going R may room a (IsWritten x) f left c
+  writes_start r i = sign (writes_sign r i) i refl
+
+  pub requests_start : {c : List Token} → Going R may room a (Tail x) f left b → Is m.LeftParen b c → Going R may room a (IsRequested x) f left b
+  requests_start r i = turn (λ v. v) r (λ more v after. requests) (λ more v after same p h. requests_back (same_sign b more i same).1 p)
+
+  pub declares_start : Going R may room a (Tail x) f left b → Lacks m.Equal b → Lacks m.Dot b → Lacks m.LeftParen b → Going R may room a (IsDeclared (sorts.Class x) x.at) f left b
+  declares_start r g h l = turn (λ v. v) r (λ more v after. declares) (λ more v after same p i. declares_back (λ c j. lacks_too b more c g same j) (λ c j. lacks_too b more c h same j) (λ c j. lacks_too b more c l same j) p)
+
+-- ---- statements that begin with a word
+
+int_made : {t : Token} {more b : List Token} {u : Statement} → t.kind ≡ k.Fixed m.Int → IsDeclared sorts.Int t.at more u b → IsStatement (t ∷ more) u b
+int_made e (declared p i q j (ended r l)) = declare (int (is e)) p i q j r l
+
+only_int : {at : ℕ} {a b : List Token} {u : Statement} → Begun (k.Fixed m.Int) at a u b → IsDeclared sorts.Int at a u b
+only_int (by_int d) = d
+
+if_made : {t : Token} {more b : List Token} {u : Statement} → t.kind ≡ k.Fixed m.If → IsChoice more u b → IsStatement (t ∷ more) u b
+if_made e (branched (bracketed i p j) q r) = choice (is e) i p j q r
+
+only_if : {at : ℕ} {a b : List Token} {u : Statement} → Begun (k.Fixed m.If) at a u b → IsChoice a u b
+only_if (by_if d) = d
+
+while_made : {t : Token} {more b : List Token} {u : Statement} → t.kind ≡ k.Fixed m.While → IsLoop more u b → IsStatement (t ∷ more) u b
+while_made e (looped (bracketed i p j) q) = loop (is e) i p j q
+
+only_while : {at : ℕ} {a b : List Token} {u : Statement} → Begun (k.Fixed m.While) at a u b → IsLoop a u b
+only_while (by_while d) = d
+
+atomic_made : {t : Token} {more b : List Token} {u : Statement} → t.kind ≡ k.Fixed m.Atomic → IsAttempt t.at more u b → IsStatement (t ∷ more) u b
+atomic_made e (attempted p q i r) = atomic (is e) p q i r
+
+only_atomic : {at : ℕ} {a b : List Token} {u : Statement} → Begun (k.Fixed m.Atomic) at a u b → IsAttempt at a u b
+only_atomic (by_atomic d) = d
+
+fail_made : {t : Token} {more b : List Token} {u : Statement} → t.kind ≡ k.Fixed m.Fail → IsFailure t.at more u b → IsStatement (t ∷ more) u b
+fail_made e (failed i) = fail (is e) i
+
+only_fail : {at : ℕ} {a b : List Token} {u : Statement} → Begun (k.Fixed m.Fail) at a u b → IsFailure at a u b
+only_fail (by_fail d) = d
+
+module _ {room at : ℕ} {a c : List Token} where
+  word_start : (S : ℕ → List Token → Statement → List Token → Type 0) (mark : Mark) → room_by (k.Fixed mark) room ≡ Some room → ((t : Token) (more b : List Token) (u : Statement) → t.kind ≡ k.Fixed mark → S t.at more u b → IsStatement (t ∷ more) u b) → ((at : ℕ) (x b : List Token) (u : Statement) → Begun (k.Fixed mark) at x u b → S at x u b) → at ≡ first_place a → Is mark a c → Going IsStatement after_statement room a (S at) (λ v. v) room c
+  word_start S mark level made only e i = behind_word S e i level (λ t g more v after. made t more after v g) (λ t g more u after d. only t.at more after u (begun_as (k.Fixed mark) g d))
+
+  pub int_start : at ≡ first_place a → Is m.Int a c → Going IsStatement after_statement room a (IsDeclared sorts.Int at) (λ v. v) room c
+  int_start = word_start (λ at. IsDeclared sorts.Int at) m.Int refl (λ t more b u. int_made) (λ at x b u. only_int)
+
+  pub if_start : at ≡ first_place a → Is m.If a c → Going IsStatement after_statement room a IsChoice (λ v. v) room c
+  if_start = word_start (λ at. IsChoice) m.If refl (λ t more b u. if_made) (λ at x b u. only_if)
+
+  pub while_start : at ≡ first_place a → Is m.While a c → Going IsStatement after_statement room a IsLoop (λ v. v) room c
+  while_start = word_start (λ at. IsLoop) m.While refl (λ t more b u. while_made) (λ at x b u. only_while)
+
+  pub atomic_start : at ≡ first_place a → Is m.Atomic a c → Going IsStatement after_statement room a (IsAttempt at) (λ v. v) room c
+  atomic_start = word_start (λ at. IsAttempt at) m.Atomic refl (λ t more b u. atomic_made) (λ at x b u. only_atomic)
+
+  pub fail_start : at ≡ first_place a → Is m.Fail a c → Going IsStatement after_statement room a (IsFailure at) (λ v. v) room c
+  fail_start = word_start (λ at. IsFailure at) m.Fail refl (λ t more b u. fail_made) (λ at x b u. only_fail)
+
+-- ---- what a statement begins with, and what may follow one
 
 pub statement_begins : (a : List Token) (t : Statement) (b : List Token) → IsStatement a t b → Starts begins_statement a
 statement_begins a t b (declare (int (is e)) p i q j r l) = subst (λ x. IsTrue (begins_statement x)) (sym e) refl
 statement_begins a t b (declare (class (name e)) p i q j r l) = subst (λ x. IsTrue (begins_statement x)) (sym e) refl
 statement_begins a t b (assign (name e) i p j) = subst (λ x. IsTrue (begins_statement x)) (sym e) refl
 statement_begins a t b (write (name e) i p j q l) = subst (λ x. IsTrue (begins_statement x)) (sym e) refl
-statement_begins a t b (choice (is e) i p j q o) = subst (λ x. IsTrue (begins_statement x)) (sym e) refl
+statement_begins a t b (call (name e) i p j l) = subst (λ x. IsTrue (begins_statement x)) (sym e) refl
+statement_begins a t b (choice (is e) i p j q r) = subst (λ x. IsTrue (begins_statement x)) (sym e) refl
+statement_begins a t b (loop (is e) i p j q) = subst (λ x. IsTrue (begins_statement x)) (sym e) refl
+statement_begins a t b (atomic (is e) p q i r) = subst (λ x. IsTrue (begins_statement x)) (sym e) refl
+statement_begins a t b (fail (is e) i) = subst (λ x. IsTrue (begins_statement x)) (sym e) refl
 
-pub statement_meets : (x : Kind) → IsTrue (begins_statement x) → IsTrue (after_statement x)
-statement_meets (k.Name x) h = refl
-statement_meets (k.Fixed m.Int) h = refl
-statement_meets (k.Fixed m.If) h = refl
-statement_meets _ h = absurd (never h)
-
-statement_text : HasText IsStatement
-statement_text =
-    (any_name ∷ token_of m.Equal ∷ any_name ∷ token_of m.Semicolon ∷ [], forms.Assign (record { text = []; at = 0 }) any_local, λ after. assign (name refl) (is refl) (alone (sum (primary (local (name refl))) no_term)) (is refl))
-
-no_statement_begins : (x : Kind) → (x ≡ k.Fixed m.If → ⊥) → (IsTrue (begins_name x) → ⊥) → (x ≡ k.Fixed m.Int → ⊥) → IsTrue (begins_statement x) → ⊥
-no_statement_begins (k.Name y) g h i s = h s
-no_statement_begins (k.Fixed m.Int) g h i s = i refl
-no_statement_begins (k.Fixed m.If) g h i s = g refl
-no_statement_begins _ g h i s = never s
-
-no_statement_starts : (a : List Token) → Lacks m.If a → (Starts begins_name a → ⊥) → Lacks m.Int a → Starts begins_statement a → ⊥
-no_statement_starts [] g h i s = s
-no_statement_starts (t ∷ ts) g h i s = no_statement_begins t.kind (λ e. g ts (is e)) h (λ e. i ts (is e)) s
-
-pub statement_refused : {room : ℕ} (a : List Token) → Lacks m.If a → (Starts begins_name a → ⊥) → Lacks m.Int a → Refused IsStatement after_statement room a (length a)
-statement_refused a g h i = here begins_statement statement_begins statement_text (no_statement_starts a g h i)
-
-declare_made : {o : Token} {os a b : List Token} {x : Sort} {v : Name × Name × Expression} → IsSort (o ∷ os) x a → IsDeclared a v b → IsStatement (o ∷ os) (forms.Declare x v.0 v.1 v.2 o.at) b
-declare_made s (declared p i q j (value r l)) = declare s p i q j r l
-
--- "int" declared
-int_back : {o : Token} {more : List Token} {v : Statement} {b : List Token} → o.kind ≡ k.Fixed m.Int → IsStatement (o ∷ more) v b → (x : Name × Name × Expression) × (v ≡ forms.Declare sorts.Int x.0 x.1 x.2 o.at) × IsDeclared more x b
-int_back e (declare {y = y} {z = z} {t = t} (int (is g)) p i q j r l) = ((y, z, t), refl, declared p i q j (value r l))
-int_back e (declare (class (name g)) p i q j r l) = absurd (cc)
-int_back e (assign (name g) i p j) = absurd (cc)
-int_back e (write (name g) i p j q l) = absurd (cc)
-int_back e (choice (is g) i p j q o) = absurd (cc)
-
-pub int_start : {room : ℕ} {a c : List Token} → Is m.Int a c → Going IsStatement after_statement room a IsDeclared (λ v. forms.Declare sorts.Int v.0 v.1 v.2 (first_place a)) room c
-int_start i = behind_mark (λ at v. forms.Declare sorts.Int v.0 v.1 v.2 at) i refl (λ t g more v after. declare_made (int (is g))) (λ t g more u after d h. int_back g d)
-
--- What stands behind the name that a statement begins with. The tree is the statement as a function of this name.
-pub data Tail : List Token → (Name → Statement) → List Token → Type 0 where
-  assigns : {a b c : List Token} {t : Expression} → Is m.Equal a b → IsValue b t c → Tail a (λ x. forms.Assign x t) c
-  writes : {a b c d f : List Token} {y : Name} {t : Expression} → Is m.Dot a b → IsName b y c → Is m.Equal c d → IsValue d t f → Tail a (λ x. forms.Write x y t) f
-  declares : {a b : List Token} {v : Name × Name × Expression} → IsDeclared a v b → Tail a (λ x. forms.Declare (sorts.Class x) v.0 v.1 v.2 x.at) b
-
-named_made : {a b c : List Token} {x : Name} {g : Name → Statement} → IsName a x b → Tail b g c → IsStatement a (g x) c
-named_made p (assigns i (value q j)) = assign p i q j
-named_made p (writes i q j (value r l)) = write p i q j r l
-named_made (name e) (declares d) = declare_made (class (name e)) d
-
-named_back : {a : List Token} {v : Statement} {b : List Token} → Starts begins_name a → IsStatement a v b → (x : Name × (Name → Statement)) × (v ≡ x.1 x.0) × Then IsName Tail a x b
-named_back s (declare (int (is g)) p i q j r l) = absurd (never (subst (λ x. IsTrue (begins_name x)) g s))
-named_back s (declare {b = b} {y = y} {z = z} {t = t} (class {x = x} (name {ts = ts} g)) p i q j r l) = ((x, λ n. forms.Declare (sorts.Class n) y z t n.at), refl, record { mid = ts; first = name g; second = declares (declared p i q j (value r l)) })
-named_back s (assign {b = b} {x = x} {t = t} p i q j) = ((x, λ n. forms.Assign n t), refl, record { mid = b; first = p; second = assigns i (value q j) })
-named_back s (write {b = b} {x = x} {y = y} {t = t} p i q j r l) = ((x, λ n. forms.Write n y t), refl, record { mid = b; first = p; second = writes i q j (value r l) })
-named_back s (choice (is g) i p j q o) = absurd (never (subst (λ x. IsTrue (begins_name x)) g s))
-
-pub named_start : {room : ℕ} (a : List Token) → Starts begins_name a → Going IsStatement after_statement room a (Then IsName Tail) (λ v. v.1 v.0) room a
-named_start {room = room} a s = turn (λ v. v.1 v.0) (start IsStatement after_statement room a) (λ more v after p. named_made p.first p.second) (λ more v after same p h. named_back (same_starts begins_name a more same s) p)
-
-pub tail_text : HasText Tail
-tail_text = (token_of m.Equal ∷ value_text.0, λ x. forms.Assign x value_text.1, λ after. assigns (is refl) (value_text.2 after))
-
-assigns_back : {a c : List Token} {v : Name → Statement} {b : List Token} → Is m.Equal a c → Tail a v b → (x : Unit {0} × Expression) × (v ≡ (λ n. forms.Assign n x.1)) × Then (Sign m.Equal) IsValue a x b
-assigns_back e (assigns {b = b} {t = t} i p) = ((tt, t), refl, record { mid = b; first = i; second = p })
-assigns_back (is e) (writes (is g) p j q) = absurd (cc)
-assigns_back (is e) (declares (declared (name g) i q j r)) = absurd (cc)
-
--- "." name "=" value
-abbrev pub Writes : List Token → Unit {0} × (Name × (Unit {0} × Expression)) → List Token → Type 0
-Writes = Then (Sign m.Dot) (Then IsName (Then (Sign m.Equal) IsValue))
-
-writes_back : {a c : List Token} {v : Name → Statement} {b : List Token} → Is m.Dot a c → Tail a v b → (x : Unit {0} × (Name × (Unit {0} × Expression))) × (v ≡ (λ n. forms.Write n x.1.0 x.1.1.1)) × Writes a x b
-writes_back (is e) (assigns (is g) p) = absurd (cc)
-writes_back e (writes {b = b} {c = c} {d = d} {y = y} {t = t} i p j q) = ((tt, (y, (tt, t))), refl, record { mid = b; first = i; second = record { mid = c; first = p; second = record { mid = d; first = j; second = q } } })
-writes_back (is e) (declares (declared (name g) i q j r)) = absurd (cc)
-
-declares_back : {a : List Token} {v : Name → Statement} {b : List Token} → Lacks m.Equal a → Lacks m.Dot a → Tail a v b → (x : Name × Name × Expression) × (v ≡ (λ n. forms.Declare (sorts.Class n) x.0 x.1 x.2 n.at)) × IsDeclared a x b
-declares_back g h (assigns i p) = absurd (g _ i)
-declares_back g h (writes i p j q) = absurd (h _ i)
-declares_back g h (declares {v = v} d) = (v, refl, d)
-
-module _ {A : Type 0} {R : List Token → A → List Token → Type 0} {may : Kind → Bool} {room : ℕ} {a : List Token} {f : (Name → Statement) → A} {left : ℕ} {b : List Token} where
-  pub assigns_start : {c : List Token} → Going R may room a Tail f left b → Is m.Equal b c → Going R may room a (Then (Sign m.Equal) IsValue) (λ v. f (λ n. forms.Assign n v.1)) left b
-  assigns_start r i = turn (λ v n. forms.Assign n v.1) r (λ more v after p. assigns p.first p.second) (λ more v after same p h. assigns_back (same_sign b more i same).1 p)
-
-  pub writes_start : {c : List Token} → Going R may room a Tail f left b → Is m.Dot b c → Going R may room a Writes (λ v. f (λ n. forms.Write n v.1.0 v.1.1.1)) left b
-  writes_start r i = turn (λ v n. forms.Write n v.1.0 v.1.1.1) r (λ more v after p. writes p.first p.second.first p.second.second.first p.second.second.second) (λ more v after same p h. writes_back (same_sign b more i same).1 p)
-
-  pub declares_start : Going R may room a Tail f left b → Lacks m.Equal b → Lacks m.Dot b → Going R may room a IsDeclared (λ v. f (λ n. forms.Declare (sorts.Class n) v.0 v.1 v.2 n.at)) left b
-  declares_start r g h = turn (λ v n. forms.Declare (sorts.Class n) v.0 v.1 v.2 n.at) r (λ more v after p. declares p) (λ more v after same p i. declares_back (λ c j. lacks_too b more c g same j) (λ c j. lacks_too b more c h same j) p)
-
--- ---- "if" "(" expression ")" block ["else" block]
-
-abbrev pub ChoiceParts : Type 0
-ChoiceParts = Unit {0} × (Unit {0} × (Expression × (Unit {0} × (List Statement × Option (List Statement)))))
-
-abbrev pub Choice : List Token → ChoiceParts → List Token → Type 0
-Choice = Then (Sign m.If) (Then (Sign m.LeftParen) (Then IsExpression (Then (Sign m.RightParen) (Then IsBlock (Perhaps m.Else IsBlock)))))
-
-abbrev pub choice_of : ChoiceParts → Statement
-choice_of v = forms.If v.1.1.0 v.1.1.1.1.0 v.1.1.1.1.1
-
-otherwise_made : {a : List Token} {v : Option (List Statement)} {b : List Token} → Perhaps m.Else IsBlock a v b → IsOtherwise a v b
-otherwise_made without = no_else
-otherwise_made (behind i p) = some_else i p
-
-otherwise_back : {a : List Token} {v : Option (List Statement)} {b : List Token} → IsOtherwise a v b → Perhaps m.Else IsBlock a v b
-otherwise_back no_else = without
-otherwise_back (some_else i p) = behind i p
-
-choice_back : {a : List Token} {v : Statement} {b : List Token} → BeginsWith m.If a → IsStatement a v b → (x : ChoiceParts) × (v ≡ choice_of x) × Choice a x b
-choice_back e (declare (int (is g)) p i q j r l) = absurd (cc)
-choice_back e (declare (class (name g)) p i q j r l) = absurd (cc)
-choice_back e (assign (name g) i p j) = absurd (cc)
-choice_back e (write (name g) i p j q l) = absurd (cc)
-choice_back e (choice {t = t} {us = us} {ws = ws} i j p l q o) = ((tt, (tt, (t, (tt, (us, ws))))), refl, record { mid = _; first = i; second = record { mid = _; first = j; second = record { mid = _; first = p; second = record { mid = _; first = l; second = record { mid = _; first = q; second = otherwise_back o } } } } })
-
-pub choice_start : {room : ℕ} (a : List Token) → BeginsWith m.If a → Going IsStatement after_statement room a Choice choice_of room a
-choice_start {room = room} a begins = turn choice_of (start IsStatement after_statement room a) (λ more v after p. let p1 = p.second in let p2 = p1.second in let p3 = p2.second in let p4 = p3.second in choice p.first p1.first p2.first p3.first p4.first (otherwise_made p4.second)) (λ more v after same p h. choice_back (begins_too m.If a more begins same) p)
-
-pub block_text : HasText IsBlock
-block_text = (token_of m.LeftBrace ∷ token_of m.RightBrace ∷ [], [], λ after. block (is refl) no_statement (is refl))
-
--- ---- block = "{" {statement} "}"
-
-statements_made : {a : List Token} {us : List Statement} {b : List Token} → Repeated IsStatement a us b → IsStatements a us b
-statements_made no_more = no_statement
-statements_made (one_more p q) = one_statement p (statements_made q)
-
-statements_back : {a : List Token} {us : List Statement} {b : List Token} → IsStatements a us b → Repeated IsStatement a us b
-statements_back no_statement = no_more
-statements_back (one_statement p q) = one_more p (statements_back q)
-
-abbrev pub Block : List Token → Unit {0} × (List Statement × (Unit {0} × Unit {0})) → List Token → Type 0
-Block = Then (Sign m.LeftBrace) (Then (Repeated IsStatement) (Then (Sign m.RightBrace) End))
-
-block_back : {a : List Token} {v : List Statement} {b : List Token} → IsBlock a v b → (x : Unit {0} × (List Statement × (Unit {0} × Unit {0}))) × (v ≡ x.1.0) × Block a x b
-block_back (block {b = b} {c = c} {d = d} {us = us} i p j) = ((tt, (us, (tt, tt))), refl, record { mid = b; first = i; second = record { mid = c; first = statements_back p; second = record { mid = d; first = j; second = refl } } })
-
-pub block_start : {room : ℕ} (a : List Token) → Going IsBlock any room a Block (λ v. v.1.0) room a
-block_start {room = room} a = turn (λ v. v.1.0) (start IsBlock any room a) (λ more v after p. let p1 = p.second in let p2 = p1.second in subst (λ x. IsBlock more v.1.0 x) p2.second (block p.first (statements_made p1.first) p2.first)) (λ more v after same p h. block_back p)
+statement_meets : (x : Kind) → IsTrue (begins_statement x) → IsTrue (after_statement x)
+statement_meets (k.Fixed m.Else) h = absurd (never h)
+statement_meets _ h = refl
 
 -- what comes behind a statement may follow it
 pub statements_meet : (more : List Token) (v : List Statement) (after : List Token) → Repeated IsStatement more v after → Follows behind_statements after → Follows after_statement more
 statements_meet = list_meets begins_statement after_statement statement_begins statement_meets
+
+statement_text : HasText IsStatement
+statement_text = (token_of m.Fail ∷ token_of m.Semicolon ∷ [], forms.Fail 0, λ after. fail (is refl) (is refl))
+
+no_statement_begins : (x : Kind) → (IsTrue (begins_name x) → ⊥) → (x ≡ k.Fixed m.Int → ⊥) → (x ≡ k.Fixed m.If → ⊥) → (x ≡ k.Fixed m.While → ⊥) → (x ≡ k.Fixed m.Atomic → ⊥) → (x ≡ k.Fixed m.Fail → ⊥) → IsTrue (begins_statement x) → ⊥
+no_statement_begins (k.Name y) n i c w a f s = n s
+no_statement_begins (k.Fixed m.Int) n i c w a f s = i refl
+no_statement_begins (k.Fixed m.If) n i c w a f s = c refl
+no_statement_begins (k.Fixed m.While) n i c w a f s = w refl
+no_statement_begins (k.Fixed m.Atomic) n i c w a f s = a refl
+no_statement_begins (k.Fixed m.Fail) n i c w a f s = f refl
+no_statement_begins _ n i c w a f s = never s
+
+no_statement_starts : (a : List Token) → (Starts begins_name a → ⊥) → Lacks m.Int a → Lacks m.If a → Lacks m.While a → Lacks m.Atomic a → Lacks m.Fail a → Starts begins_statement a → ⊥
+no_statement_starts [] n i c w l f s = s
+no_statement_starts (t ∷ ts) n i c w l f s = no_statement_begins t.kind n (λ e. i ts (is e)) (λ e. c ts (is e)) (λ e. w ts (is e)) (λ e. l ts (is e)) (λ e. f ts (is e)) s
+
+pub statement_refused : {room : ℕ} (a : List Token) → (Starts begins_name a → ⊥) → Lacks m.Int a → Lacks m.If a → Lacks m.While a → Lacks m.Atomic a → Lacks m.Fail a → Refused IsStatement after_statement room a (length a)
+statement_refused a n i c w l f = here begins_statement statement_begins statement_text (no_statement_starts a n i c w l f)

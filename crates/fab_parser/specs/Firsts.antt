@@ -44,4 +44,4 @@ pub parameter_begins : (a : List Token) (v : Parameter) (b : List Token) → IsP
 parameter_begins a v b (parameter p q i r) = sort_begins a _ _ p
 
 pub method_begins : (a : List Token) (v : Method) (b : List Token) → IsMethod a v b → Starts begins_method a
-method_begins a v b (method (is e) p q r s t u w x) = subst (λ y. IsTrue (begins_method y)) (sym e) refl
+method_begins a v b (method (is e) p q r s t u w x y z f g h) = subst (λ y. IsTrue (begins_method y)) (sym e) refl

@@ -1,2 +1,3 @@
 pub mod Firsts
 pub mod Pieces
+pub mod Texts

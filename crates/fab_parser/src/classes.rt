@@ -4,8 +4,8 @@ ghost use Rattle.fab_tree.specs.Declarations.{IsSort, IsField, IsClass};
 ghost use Rattle.fab_reading.specs.Reading.{Read, Stops, Starts, any, begins_sort, begins_class};
 
 use fab_base::{Kind, Mark, Token};
-use fab_tree::{Class, Field, Sort};
 use fab_reading::{Refusal, Rule, behind, name, next, open, repeated, sign};
+use fab_tree::{Class, Field, Sort};
 use std::alloc::Global;
 
 /// A type.

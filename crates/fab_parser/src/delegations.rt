@@ -4,8 +4,8 @@ ghost use Rattle.fab_tree.specs.Declarations.{IsDelegation};
 ghost use Rattle.fab_reading.specs.Reading.{Read, Stops, any};
 
 use fab_base::{Mark, Token};
-use fab_tree::Delegation;
 use fab_reading::{Refusal, Rule, name, sign, starts_name};
+use fab_tree::Delegation;
 use std::alloc::Global;
 
 /// A name, `actsfor`, a name and a semicolon.

@@ -4,10 +4,8 @@ ghost use Rattle.fab_tree.specs.Declarations.{IsAspect, IsPolicy, IsLabel};
 ghost use Rattle.fab_reading.specs.Reading.{Read, Stops, Starts, any, begins_label, behind_names};
 
 use fab_base::{Kind, Mark, Token};
+use fab_reading::{Item, Refusal, Rule, behind, name, next, open, separated, sign, starts_name};
 use fab_tree::{Aspect, LabelText, Name, PolicyText};
-use fab_reading::{
-    Item, Refusal, Rule, behind, name, next, open, separated, sign, starts_name,
-};
 use std::alloc::Global;
 
 /// A name in a list with commas.

@@ -4,14 +4,13 @@
 
 mod classes;
 mod delegations;
-mod expressions;
+mod error;
 mod labels;
 mod methods;
 mod nodes;
+mod programs;
+mod rights;
 mod statements;
 
-pub use classes::ClassRule;
-pub use delegations::DelegationRule;
-pub use labels::LabelRule;
-pub use methods::MethodRule;
-pub use nodes::NodeRule;
+pub use error::ParseError;
+pub use programs::{program, read_program};

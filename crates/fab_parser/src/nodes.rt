@@ -4,8 +4,8 @@ ghost use Rattle.fab_tree.specs.Declarations.{IsMachine, IsRole, IsNode};
 ghost use Rattle.fab_reading.specs.Reading.{Read, Stops, Starts, BeginsWith, Lacks, any, begins_node};
 
 use fab_base::{Kind, Mark, Token};
-use fab_tree::{Node, Role};
 use fab_reading::{Refusal, Rule, behind, name, next, sign};
+use fab_tree::{Node, Role};
 use std::alloc::Global;
 
 /// Whether a principal, a worker or a store comes next.
@@ -22,7 +22,7 @@ fn starts_node(tokens: &[Token]) -> bool
 }
 
 /// A worker or a store.
-fn place(tokens: &[Token], hostile: bool, room: u8) -> Result<(Role, &[Token]), Refusal>
+fn machine(tokens: &[Token], hostile: bool, room: u8) -> Result<(Role, &[Token]), Refusal>
     ensures { MatchResult result (λ x. Read (IsMachine hostile) any room tokens.now x.0 x.1.now) (λ e. Stops (IsMachine hostile) any room tokens.now e) }
 {
     match behind(tokens, Mark::Worker) {
@@ -43,11 +43,11 @@ fn role(tokens: &[Token], room: u8) -> Result<(Role, &[Token]), Refusal>
     }
     match behind(tokens, Mark::Hostile) {
         Some(rest) => {
-            let (role, rest) = place(rest, true, room)?;
+            let (role, rest) = machine(rest, true, room)?;
             Ok((role, rest))
         }
         None => {
-            let (role, rest) = place(tokens, false, room)?;
+            let (role, rest) = machine(tokens, false, room)?;
             Ok((role, rest))
         }
     }

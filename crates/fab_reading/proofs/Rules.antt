@@ -44,7 +44,7 @@ room_append (t ∷ p) q room r e = go (λ s h. room_append p q s r h) (room_by t
     go ih None h = absurd (let no : None ≡ Some r = h in cc)
     go ih (Some s) h = ih s h
 
-same_refl : (a : List Token) → SameHead a a
+pub same_refl : (a : List Token) → SameHead a a
 same_refl [] = tt
 same_refl (t ∷ ts) = refl
 
@@ -396,7 +396,7 @@ SameTwo [] more = SameHead [] more
 SameTwo (t ∷ ts) [] = ⊥
 SameTwo (t ∷ ts) (u ∷ us) = (t ≡ u) × SameHead ts us
 
-two_same : (t : Token) (p b more : List Token) → SameHead b more → SameTwo (t ∷ (p ++ b)) (t ∷ (p ++ more))
+pub two_same : (t : Token) (p b more : List Token) → SameHead b more → SameTwo (t ∷ (p ++ b)) (t ∷ (p ++ more))
 two_same t p b more same = (refl, same_append p b more same)
 
 module _ {A B : Type 0} {R : List Token → A → List Token → Type 0} {P : List Token → B → List Token → Type 0} {may : Kind → Bool} {room : ℕ} {a : List Token} (g : B → A) where

@@ -19,7 +19,7 @@ no_name_begins _ h i = never i
 pub name_text : HasText IsName
 name_text = (record { kind = k.Name []; at = 0; end = 0 } ∷ [], record { text = []; at = 0 }, λ after. name refl)
 
-name_only : {x : List ℕ} {t : Token} {more : List Token} {v : Name} {after : List Token} → t.kind ≡ k.Name x → IsName (t ∷ more) v after → (v ≡ record { text = x; at = t.at }) × (after ≡ more)
+pub name_only : {x : List ℕ} {t : Token} {more : List Token} {v : Name} {after : List Token} → t.kind ≡ k.Name x → IsName (t ∷ more) v after → (v ≡ record { text = x; at = t.at }) × (after ≡ more)
 name_only {x = x} {t = t} h (name {x = y} g) = let same : y ≡ x = cc in (ap (λ z. let n : Name = record { text = z; at = t.at } in n) same, refl)
 
 pub name_read : {room : ℕ} {x : List ℕ} {a b : List Token} {t : Token} → a ≡ t ∷ b → t.kind ≡ k.Name x → Read IsName any room a (record { text = x; at = t.at }) b

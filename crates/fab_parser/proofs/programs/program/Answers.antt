@@ -1,0 +1,18 @@
+use Rattle.std.proofs.Common.{refl}
+use Rattle.fab_parser.proofs.TextRules.{part_found, bad_token, bad_bracket}
+use Rattle.fab_parser.proofs.programs.program.Goals as goal
+
+pub returns-in-Ok-clause-found : goal.returns-in-Ok-clause-found
+returns-in-Ok-clause-found c = let r = rw c.behind.ensures at c.in-Ok.ensures in part_found r refl
+
+pub returns-in-Err-Syntax-clause-refused : goal.returns-in-Err-Syntax-clause-refused
+returns-in-Err-Syntax-clause-refused c =
+    let s = rw c.in-Err-Syntax.field-0-is at c.in-Err-Syntax.ensures in
+    let r = rw c.behind.ensures at s in
+    bad_token c.requires.within r refl
+
+pub returns-in-Err-Deep-clause-refused : goal.returns-in-Err-Deep-clause-refused
+returns-in-Err-Deep-clause-refused c =
+    let s = rw c.in-Err-Deep.field-0-is at c.in-Err-Deep.ensures in
+    let r = rw c.behind.ensures at s in
+    bad_bracket c.requires.within r refl
