@@ -2,7 +2,6 @@
 use Rattle.std.specs.Prelude.{◌≡◌, ◌≢◌, ℕ, ◌≤◌, ◌/◌, ◌%◌, ◌==◌, Bool, false, option_map, slice_get, List, [], ◌∷◌, ◌++◌, map, length, count_by, codes, All, Option, Some, None, find}
 use Rattle.std.specs.List.{flat_map}
 use Rattle.std.specs.Fmt.{decimal, signed_decimal, digit_glyph}
-use Rattle.fab_base.specs.declared.token.Token.{Token}
 use Rattle.fab_base.specs.declared.object.Oid.{Oid}
 use Rattle.fab_base.specs.declared.object.Object.{Object}
 use Rattle.fab_base.specs.declared.object.Value.{Value}
@@ -11,7 +10,6 @@ use Rattle.fab_base.specs.declared.object.Stop.{Stop}
 use Rattle.fab_base.specs.declared.object.Stop.TheVariants.{Fuel, Depth, Reads, Writes}
 use Rattle.fab_base.specs.FieldSpelling.{oid_bytes}
 use Rattle.fab_base.specs.FlatMap.{FlatMap, map_of, is_same}
-use Rattle.fab_base.specs.Tokens.{Lexes}
 use Rattle.fab_plain.specs.declared.start.Literal.TheVariants as literals
 use Rattle.fab_plain.specs.declared.start.Sort.TheVariants as sorts
 use Rattle.fab_plain.specs.declared.start.Start.{Start}
@@ -19,11 +17,7 @@ use Rattle.fab_plain.specs.declared.program.Session.{Session}
 use Rattle.fab_plain.specs.declared.resolved.Request.{Request}
 use Rattle.fab_plain.specs.declared.resolved.Resolved.{Resolved}
 use Rattle.fab_plain.specs.declared.resolved.Root.{Root}
-use Rattle.fab_plain.specs.Syntax.{IsText}
-use Rattle.fab_plain.specs.Depth.{KeepsDepth}
-use Rattle.fab_plain.specs.Limits.{is_worker, is_store, is_hostile, KeepsLimits}
-use Rattle.fab_plain.specs.Counts.{KeepsCounts}
-use Rattle.fab_plain.specs.Methods.{KeepsRules}
+use Rattle.fab_plain.specs.Limits.{is_worker, is_store, is_hostile}
 use Rattle.fab_plain.specs.Meaning.{Ending, Ended, Failed, Stopped, Missing}
 use Rattle.fab_plain.specs.Requests.{Course, in_turn}
 
@@ -43,18 +37,6 @@ pub record IsEvaluated (s : Start) : Type 0 where
   pub numbers : All (λ c. All (λ f. f.sort ≡ sorts.Int) c.fields) s.classes
   pub few_sessions : length s.sessions ≤ 1
   pub no_null : All HasNoNull s.sessions
-
--- The text spells this bundle: it has at most 1,000,000 bytes, its tokens stand for the bundle, and the bundle is of the form, within the limits and true to the rules of names and types.
-pub record Spells (text : List ℕ) (s : Start) : Type 0 where
-  pub short : length text ≤ 1000000
-  pub tokens : List Token
-  pub lexed : Lexes 0 text tokens
-  pub parsed : IsText tokens s
-  pub depth : KeepsDepth tokens
-  pub limits : KeepsLimits s
-  pub counts : KeepsCounts s
-  pub rules : KeepsRules s
-  pub form : IsEvaluated s
 
 -- the objects of roots, in the order of the text
 abbrev pub rows_of : List Root → List (Oid × Object)

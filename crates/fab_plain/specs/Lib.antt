@@ -1,14 +1,9 @@
 pub mod Counts
-pub mod Declarations
-pub mod Depth
 pub mod Evaluation
 pub mod Limits
-pub mod Lists
 pub mod Meaning
 pub mod Methods
 pub mod Names
 pub mod Numbering
-pub mod Programs
 pub mod Requests
 pub mod Resolution
-pub mod Syntax

@@ -1,4 +1,0 @@
-pub mod CountRules
-pub mod RootRules
-pub mod SessionRules
-pub mod TextRules

@@ -1,5 +1,0 @@
-use Rattle.fab_plain_reading.proofs.NumberRules.{numeral_at}
-use Rattle.fab_plain_reading.proofs.numbers.numeral.Goals as goal
-
-pub returns-in-Some-small_number : goal.returns-in-Some-small_number
-returns-in-Some-small_number c = numeral_at c.in-Some.ensures c.in-Some-small_number.ensures

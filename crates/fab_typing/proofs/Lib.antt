@@ -1,5 +1,0 @@
-pub mod KnownBlocks
-pub mod KnownLocals
-pub mod KnownRequests
-pub mod ShortTexts
-pub mod StartObjects
