@@ -1,3 +1,4 @@
 pub mod Bytes
 pub mod Endings
-pub mod Words
+pub mod Fronts
+pub mod Replying

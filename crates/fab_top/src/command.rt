@@ -1,28 +1,86 @@
 //! What the words ask for, and the reply.
-ghost use Rattle.std.specs.Prelude.{◌≡◌, ◌≢◌, ◌⊎◌, ◌↔◌, ◌≤◌, IsTrue, List, ℕ, length, codes, IfOk, IfSome, IsErrOf};
-ghost use Rattle.std.specs.Io.KnownBytes.{Appends, Keeps, IsAtEnd};
-ghost use Rattle.fab_plain.specs.Evaluation.{line};
+ghost use Rattle.std.specs.Prelude.{◌≡◌, ◌≢◌, ◌⊎◌, ◌≤◌, List, ℕ, Some, None as Nothing, codes, IfOk, IfSome, IsErrOf, MatchOption};
+ghost use Rattle.std.specs.Io.KnownBytes.{Keeps, IsAtEnd};
 ghost use Rattle.fab_base.specs.Faults.{Rose};
-ghost use Rattle.fab_top.specs.Reply.{AskEvaluation, Replies, IsInput, Ends, Exactly, SpellsSome, SpellsNone, WritesEvaluation, RepliesInPart, RepliesWith};
+ghost use Rattle.fab_words.specs.Words.{asked_by};
+ghost use Rattle.fab_top.specs.Reply.{Replies, IsReply, IsInput, Ends, ComesTo, SpeaksOfText, RepliesInPart, IsEvaluableAs, IsNotEvaluable, line};
+ghost use Rattle.fab_top.specs.Front.{IsFront};
 ghost use Rattle.fab_top.specs.Reading.{TakesAtMost};
 ghost use Rattle.fab_top.specs.declared.reading.ReadError.TheVariants.{Fault};
-ghost use Rattle.fab_top.specs.declared.status.Status.TheVariants.{Ok, Usage, ReadFault, WriteFault, Memory, NotBuilt};
+ghost use Rattle.fab_top.specs.declared.status.Status.{Status as AnyStatus};
+ghost use Rattle.fab_top.specs.declared.status.Status.TheVariants.{Usage, ReadFault, WriteFault, Memory};
 
+use crate::front::{Outcome, front};
+use crate::lines::{limit_line, syntax_line};
 use crate::reading::{ReadError, read_all};
-use crate::spelling::spelled;
 use crate::status::Status;
 use crate::writing::write_all;
-use fab_base::{Seq, Sink, SinkError, Source};
+use fab_base::{NoMemory, Seq, Sink, SinkError, Source};
 use fab_evaluation::evaluation;
+use fab_plain::Resolved;
+use fab_plain_form::evaluated;
+use fab_print::print_start;
+use fab_tree::Start;
+use fab_words::{Command, asked_command};
 use std::alloc::Global;
 
-/// Whether the words are the one word `eval`.
-fn ask_evaluation(words: &[String]) -> bool
-    ensures { IsTrue result ↔ AskEvaluation words.now }
+/// The most bytes of a text whose bundle is evaluated.
+const EVALUATED: usize = 1_000_000;
+
+/// The bundle of a text with numbers for names, if it is of the form that is evaluated.
+fn evaluable(alloc: Global, text: &[u8], start: Start) -> Result<Option<Resolved>, NoMemory>
+    ensures { IfOk result (λ found. MatchOption found (IsNotEvaluable text.now start) (λ r. IsEvaluableAs text.now start r)) }
 {
-    match words {
-        [word] => word.as_str() == "eval",
-        _ => false,
+    if text.len() > EVALUATED {
+        return Ok(None);
+    }
+    evaluated(alloc, start)
+}
+
+/// What `eval` replies to a text with this bundle.
+fn evaluate(alloc: Global, text: &[u8], start: Start) -> Result<(Status, Seq<u8>), NoMemory>
+    requires { IsFront text.now (Outcome.Bundle start) }
+    ensures { IfOk result (λ r. IsReply (Some Command.Evaluate) text.now r.0 r.1) }
+{
+    match evaluable(alloc, text, start)? {
+        Some(resolved) => {
+            let reply = evaluation(alloc, resolved)?;
+            Ok((Status::Ok, reply))
+        }
+        None => {
+            let reply = Seq::from_slice(alloc, b"not built\n")?;
+            Ok((Status::NotBuilt, reply))
+        }
+    }
+}
+
+/// What `fmt` replies to a text with this bundle.
+fn format(alloc: Global, text: &[u8], start: &Start) -> Result<(Status, Seq<u8>), NoMemory>
+    requires { IsFront text.now (Outcome.Bundle start.now) }
+    ensures { IfOk result (λ r. IsReply (Some Command.Format) text.now r.0 r.1) }
+{
+    let _text = text;
+    let reply = print_start(alloc, start)?;
+    Ok((Status::Ok, reply))
+}
+
+/// What a command replies to a text.
+fn replied(alloc: Global, command: Command, text: &[u8]) -> Result<(Status, Seq<u8>), NoMemory>
+    ensures { IfOk result (λ r. IsReply (Some command) text.now r.0 r.1) }
+{
+    match front(alloc, text)? {
+        Outcome::Syntax { at } => {
+            let reply = syntax_line(alloc, at)?;
+            Ok((Status::Syntax { at }, reply))
+        }
+        Outcome::Limit { what } => {
+            let reply = limit_line(alloc, what)?;
+            Ok((Status::Limit { what }, reply))
+        }
+        Outcome::Bundle(start) => match command {
+            Command::Evaluate => evaluate(alloc, text, start),
+            Command::Format => format(alloc, text, &start),
+        },
     }
 }
 
@@ -32,29 +90,29 @@ fn reply<S: Source>(
     words: &[String],
     source: &mut S,
 ) -> Result<(Status, Seq<u8>), ReadError>
-    ensures given { IfOk result (λ r. (text : List ℕ) × IsInput words.now (S.left source.old) (S.left source.new) text × Replies words.now text r.0 r.1) }
-    ensures unread { (AskEvaluation words.now → ⊥) → source.new ≡ source.old }
-    ensures taken { TakesAtMost 1000001 (S.left source.old) (S.left source.new) }
+    ensures given { IfOk result (λ r. (text : List ℕ) × IsInput (asked_by words.now) (S.left source.old) (S.left source.new) text × IsReply (asked_by words.now) text r.0 r.1) }
+    ensures unread { asked_by words.now ≡ Nothing → source.new ≡ source.old }
+    ensures taken { TakesAtMost 4194305 (S.left source.old) (S.left source.new) }
     ensures later { S.faults source.old ≤ S.faults source.new }
     ensures failed { IsErrOf result Fault → Rose (S.faults source.old) (S.faults source.new) }
-    ensures asked { IsErrOf result Fault → AskEvaluation words.now }
+    ensures asked { IsErrOf result Fault → asked_by words.now ≢ Nothing }
 {
-    if !ask_evaluation(words) {
-        return Ok((Status::Usage, Seq::from_slice(alloc, b"usage\n")?));
-    }
-    let text = read_all(alloc, source)?;
-    match spelled(alloc, &text)? {
-        Some(start) => Ok((Status::Ok, evaluation(alloc, start)?)),
-        None => Ok((Status::NotBuilt, Seq::from_slice(alloc, b"not built\n")?)),
+    match asked_command(alloc, words)? {
+        None => Ok((Status::Usage, Seq::from_slice(alloc, b"usage\n")?)),
+        Some(command) => {
+            let text = read_all(alloc, source)?;
+            Ok(replied(alloc, command, &text)?)
+        }
     }
 }
 
 /// Replies, and says how it ended.
 fn run<S: Source, K: Sink>(alloc: Global, words: &[String], source: &mut S, sink: &mut K) -> Status
-    ensures ends { Ends words.now result (S.left source.old) (S.left source.new) (K.written sink.old) (K.written sink.new) }
-    ensures unread { (AskEvaluation words.now → ⊥) → source.new ≡ source.old }
-    ensures taken { TakesAtMost 1000001 (S.left source.old) (S.left source.new) }
+    ensures means { Ends (asked_by words.now) result (S.left source.old) (S.left source.new) (K.written sink.old) (K.written sink.new) }
+    ensures unread { asked_by words.now ≡ Nothing → source.new ≡ source.old }
+    ensures taken { TakesAtMost 4194305 (S.left source.old) (S.left source.new) }
     ensures read { result ≡ ReadFault → Rose (S.faults source.old) (S.faults source.new) }
+    ensures asked { result ≡ ReadFault → asked_by words.now ≢ Nothing }
     ensures unwritten { result ≡ ReadFault → sink.new ≡ sink.old }
     ensures write { result ≡ WriteFault → Rose (K.faults sink.old) (K.faults sink.new) }
     ensures source_faults { S.faults source.old ≤ S.faults source.new }
@@ -74,38 +132,31 @@ fn run<S: Source, K: Sink>(alloc: Global, words: &[String], source: &mut S, sink
 
 /// Does what the words ask for, and says how it ended.
 ///
-/// The one word `eval` asks for the evaluation of the bundle that the source has: at most
-/// 1,000,000 bytes. Of what the source has left and the sink holds, the clauses speak where these
-/// tell it.
+/// `eval` asks for the evaluation of the bundle that the source has, `fmt` for its canonical text.
+/// A text has at most 4,194,304 bytes, and one that is evaluated 1,000,000. Of what the source has
+/// left and the sink holds, the clauses speak where these tell it.
 pub fn fab<S: Source, K: Sink>(
     alloc: Global,
     words: &[String],
     source: &mut S,
     sink: &mut K,
 ) -> Status
-    // `Usage` comes exactly where the words aren't `eval`; it has a line of its own, and nothing is read.
-    ensures usage { Exactly result Usage (AskEvaluation words.now → ⊥) }
-    ensures usage_line { result ≡ Usage → Appends (K.written sink.old) (K.written sink.new) (line (codes "usage")) }
-    ensures unread { (AskEvaluation words.now → ⊥) → source.new ≡ source.old }
+    // What each status says of what was read and of what was written.
+    ensures means { Ends (asked_by words.now) result (S.left source.old) (S.left source.new) (K.written sink.old) (K.written sink.new) }
 
-    // Never more than 1,000,001 bytes are read, and a text that isn't longer than it may be is read to its end.
-    ensures taken { TakesAtMost 1000001 (S.left source.old) (S.left source.new) }
-    ensures whole { (result ≡ Ok) ⊎ (result ≡ NotBuilt) → IfSome (S.left source.old) (λ text. length text ≤ 1000000 → IsAtEnd (S.left source.new)) }
+    // Whatever reply the words and the text have is the one that comes, whole, unless memory runs
+    // out or the sink fails; so each refusal comes exactly where it should.
+    ensures exact { result ≢ ReadFault → IfSome (S.left source.old) (λ text. (status : AnyStatus) (reply : List ℕ) → Replies (asked_by words.now) text status reply → ComesTo result status (K.written sink.old) (K.written sink.new) reply) }
 
-    // `Ok` comes exactly where the text spells a bundle of the form. It spells no other, each request of
-    // the bundle ends, and its evaluation is written.
-    ensures ok { AskEvaluation words.now → result ≢ ReadFault → IfSome (S.left source.old) (λ text. Exactly result Ok (SpellsSome text)) }
-    ensures ok_text { result ≡ Ok → IfSome (S.left source.old) (λ text. WritesEvaluation text (K.written sink.old) (K.written sink.new)) }
+    // `Usage` comes exactly where the words ask for nothing, and nothing is read then.
+    ensures usage { asked_by words.now ≡ Nothing → ComesTo result Usage (K.written sink.old) (K.written sink.new) (line (codes "usage")) }
+    ensures usage_only { result ≡ Usage → asked_by words.now ≡ Nothing }
+    ensures unread { asked_by words.now ≡ Nothing → source.new ≡ source.old }
 
-    // Of a source that doesn't tell: what was written is the evaluation of some text.
-    ensures ok_reply { result ≡ Ok → RepliesWith Ok words.now (S.left source.old) (S.left source.new) (K.written sink.old) (K.written sink.new) }
-
-    // `NotBuilt` comes exactly where it spells none, and has a line of its own.
-    ensures not_built { AskEvaluation words.now → result ≢ ReadFault → IfSome (S.left source.old) (λ text. Exactly result NotBuilt (SpellsNone text)) }
-    ensures not_built_line { result ≡ NotBuilt → Appends (K.written sink.old) (K.written sink.new) (line (codes "not built")) }
-
-    // It is the reply to what was read: a text to its end, or 1,000,001 bytes.
-    ensures not_built_reply { result ≡ NotBuilt → RepliesWith NotBuilt words.now (S.left source.old) (S.left source.new) (K.written sink.old) (K.written sink.new) }
+    // Never more than 4,194,305 bytes are read, and with each status that speaks of the text, but
+    // the limit on bytes, it was read to its end.
+    ensures taken { TakesAtMost 4194305 (S.left source.old) (S.left source.new) }
+    ensures whole { SpeaksOfText result → IsAtEnd (S.left source.new) }
 
     // `ReadFault` comes only where the source's faults rose, and nothing is written.
     ensures read_fault { result ≡ ReadFault → Rose (S.faults source.old) (S.faults source.new) }
@@ -113,11 +164,10 @@ pub fn fab<S: Source, K: Sink>(
 
     // `WriteFault` comes only where the sink's faults rose, and a front of the reply is written.
     ensures write_fault { result ≡ WriteFault → Rose (K.faults sink.old) (K.faults sink.new) }
-    ensures write_fault_front { result ≡ WriteFault → RepliesInPart words.now (S.left source.old) (S.left source.new) (K.written sink.old) (K.written sink.new) }
+    ensures write_fault_front { result ≡ WriteFault → RepliesInPart (asked_by words.now) (S.left source.old) (S.left source.new) (K.written sink.old) (K.written sink.new) }
 
-    // With `Memory` nothing is written, or a front of the reply to what was read, which is the text to
-    // its end or 1,000,001 bytes, and nothing where the words ask for nothing.
-    ensures memory { result ≡ Memory → Keeps (K.written sink.old) (K.written sink.new) ⊎ RepliesInPart words.now (S.left source.old) (S.left source.new) (K.written sink.old) (K.written sink.new) }
+    // With `Memory` nothing is written, or a front of the reply to what was read.
+    ensures memory { result ≡ Memory → Keeps (K.written sink.old) (K.written sink.new) ⊎ RepliesInPart (asked_by words.now) (S.left source.old) (S.left source.new) (K.written sink.old) (K.written sink.new) }
     ensures source_faults { S.faults source.old ≤ S.faults source.new }
     ensures sink_faults { K.faults sink.old ≤ K.faults sink.new }
 {

@@ -2,17 +2,10 @@
 #![tactic(auto)]
 
 mod command;
-#[cfg(test)]
-mod declared_tests;
-#[cfg(test)]
-mod limit_tests;
+mod front;
+mod lines;
 mod reading;
-#[cfg(test)]
-mod requests_tests;
-mod spelling;
 mod status;
-#[cfg(test)]
-mod tests;
 mod writing;
 
 pub use command::fab;

@@ -12,7 +12,7 @@ use std::alloc::{AllocError, AllocFailed, Global};
 const PIECE: usize = 65_536;
 
 /// One byte more than a text may have.
-const LIMIT: usize = 1_000_001;
+const LIMIT: usize = 4_194_305;
 
 /// Why a source isn't read: memory ran out, or it failed.
 #[derive(Clone, Copy, Debug, PartialEq, Eq)]
@@ -45,10 +45,10 @@ impl From<Failed> for ReadError {
     }
 }
 
-/// Reads to the end, or until 1,000,001 bytes were taken.
+/// Reads to the end, or until 4,194,305 bytes were taken.
 pub fn read_all<S: Source>(alloc: Global, source: &mut S) -> Result<Vec<u8>, ReadError>
     ensures text { IfOk result (λ v. ReadsText (S.left source.old) (S.left source.new) v.items) }
-    ensures taken { TakesAtMost 1000001 (S.left source.old) (S.left source.new) }
+    ensures taken { TakesAtMost 4194305 (S.left source.old) (S.left source.new) }
     ensures later { S.faults source.old ≤ S.faults source.new }
     ensures failed { IsErrOf result Fault → Rose (S.faults source.old) (S.faults source.new) }
 {
@@ -66,7 +66,7 @@ fn room(alloc: Global, len: usize) -> Result<Vec<u8>, AllocError>
 fn read_by<S: Source>(alloc: Global, source: &mut S, buf: &mut [u8]) -> Result<Vec<u8>, ReadError>
     requires { 0 < length buf.old }
     ensures text { IfOk result (λ v. ReadsText (S.left source.old) (S.left source.new) v.items) }
-    ensures taken { TakesAtMost 1000001 (S.left source.old) (S.left source.new) }
+    ensures taken { TakesAtMost 4194305 (S.left source.old) (S.left source.new) }
     ensures later { S.faults source.old ≤ S.faults source.new }
     ensures failed { IsErrOf result Fault → Rose (S.faults source.old) (S.faults source.new) }
 {

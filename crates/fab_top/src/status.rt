@@ -1,5 +1,9 @@
-ghost use Rattle.std.specs.Prelude.{◌≡◌};
+//! How a run of the program ended.
+ghost use Rattle.std.specs.Prelude.{◌≡◌, ℕ};
+ghost use Rattle.fab_base.specs.declared.limit.What.{What as WhatHasALimit};
 ghost use Rattle.fab_top.specs.declared.status.Status.TheVariants as status;
+
+use fab_base::What;
 
 /// How a run of the program ended.
 #[derive(Clone, Copy, Debug, PartialEq, Eq)]
@@ -14,7 +18,12 @@ pub enum Status {
     WriteFault,
     /// Memory ran out.
     Memory,
-    /// The text isn't of the form that is built so far.
+    /// The text isn't of the language. `at` is the place of the first byte or token that doesn't
+    /// fit, or the text's length.
+    Syntax { at: u32 },
+    /// The bundle has too many of something.
+    Limit { what: What },
+    /// The bundle isn't of the form that is evaluated so far.
     NotBuilt,
 }
 
@@ -26,6 +35,8 @@ impl Status {
         ensures read_fault { self ≡ status.ReadFault → result ≡ 2 }
         ensures write_fault { self ≡ status.WriteFault → result ≡ 3 }
         ensures memory { self ≡ status.Memory → result ≡ 4 }
+        ensures syntax { (at : ℕ) → self ≡ status.Syntax at → result ≡ 5 }
+        ensures limit { (what : WhatHasALimit) → self ≡ status.Limit what → result ≡ 8 }
         ensures not_built { self ≡ status.NotBuilt → result ≡ 11 }
     {
         match self {
@@ -34,6 +45,8 @@ impl Status {
             Status::ReadFault => 2,
             Status::WriteFault => 3,
             Status::Memory => 4,
+            Status::Syntax { .. } => 5,
+            Status::Limit { .. } => 8,
             Status::NotBuilt => 11,
         }
     }

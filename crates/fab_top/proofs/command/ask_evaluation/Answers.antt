@@ -1,5 +1,0 @@
-use Rattle.fab_top.proofs.Words.{one_word}
-use Rattle.fab_top.proofs.command.ask_evaluation.Goals as goal
-
-pub returns-in-len1 : goal.returns-in-len1
-returns-in-len1 c = one_word c.args.words.now c.word-item.result c.as_str.result.now c.eq.result c.in-len1.len_at_least c.in-len1.len_below c.word-item.is c.as_str.ensures.value c.eq.ensures
