@@ -1,6 +1,7 @@
+mod Examples
+pub mod Added
 pub mod Cutting
 pub mod DeclarationsAgain
-mod Examples
 pub mod ExpressionsAgain
 pub mod Forms
 pub mod Inks

@@ -1,0 +1,214 @@
+//! Expressions, with brackets exactly where they are needed.
+ghost use Rattle.std.specs.Prelude.{◌≡◌, OnOk, map};
+ghost use Rattle.fab_tree.specs.Print as print;
+ghost use Rattle.fab_print.specs.Adding.{Adds, IsSpelled, beside};
+
+use crate::list::print_in_brackets;
+use crate::piece::{Print, put_integer, put_name};
+use fab_base::{NoMemory, Seq};
+use fab_tree::{Comparison, Expression, Form, Operand, Operator};
+use std::alloc::Global;
+
+/// How an operator is written.
+fn operator_text(operator: Operator) -> &'static str
+    ensures { IsSpelled (print.operator operator) result.now }
+{
+    match operator {
+        Operator::Or => "|",
+        Operator::And => "&",
+        Operator::Add => "+",
+        Operator::Subtract => "-",
+        Operator::Multiply => "*",
+        Operator::Divide => "/",
+    }
+}
+
+/// How a comparison is written.
+fn comparison_text(comparison: Comparison) -> &'static str
+    ensures { IsSpelled (print.comparison comparison) result.now }
+{
+    match comparison {
+        Comparison::Equal => "==",
+        Comparison::NotEqual => "!=",
+        Comparison::Less => "<",
+        Comparison::LessEqual => "<=",
+        Comparison::Greater => ">",
+        Comparison::GreaterEqual => ">=",
+    }
+}
+
+/// The level of an operator in the grammar.
+fn level_of(operator: Operator) -> u8
+    ensures { result ≡ print.level_of operator }
+{
+    match operator {
+        Operator::Or => 0,
+        Operator::And => 1,
+        Operator::Add | Operator::Subtract => 3,
+        Operator::Multiply | Operator::Divide => 4,
+    }
+}
+
+/// The level of an expression in the grammar, without brackets round it.
+fn level(expression: &Expression) -> u8
+    ensures { result ≡ (print.shown expression.now).level }
+{
+    match &expression.form {
+        Form::Number(number) => {
+            if *number < 0 {
+                5
+            } else {
+                6
+            }
+        }
+        Form::Null | Form::Local(_) | Form::Read { .. } => 6,
+        Form::Negative(_) | Form::Not(_) => 5,
+        Form::Chain { first, others } => match others.as_slice().split_first() {
+            None => level(first.get()),
+            Some((operand, _)) => level_of(operand.operator),
+        },
+        Form::Compared { .. } => 2,
+    }
+}
+
+/// An expression at a place that allows this level and those above it.
+#[cycle(expression)]
+fn put_at_level(
+    alloc: Global,
+    out: &mut Seq<u8>,
+    least: u8,
+    expression: &Expression,
+) -> Result<(), NoMemory>
+    ensures { OnOk result (Adds (print.at_level least (print.shown expression.now)) out.old out.new) }
+{
+    if level(expression) < least {
+        out.push(b'(')?;
+        put_form(alloc, out, expression)?;
+        out.push(b')')?;
+        Ok(())
+    } else {
+        put_form(alloc, out, expression)?;
+        Ok(())
+    }
+}
+
+/// An expression without brackets round it.
+#[cycle(expression)]
+fn put_form(alloc: Global, out: &mut Seq<u8>, expression: &Expression) -> Result<(), NoMemory>
+    ensures { OnOk result (Adds (print.shown expression.now).inks out.old out.new) }
+{
+    match &expression.form {
+        Form::Number(number) => {
+            put_integer(alloc, out, *number)?;
+            Ok(())
+        }
+        Form::Null => {
+            out.extend(b"null")?;
+            Ok(())
+        }
+        Form::Local(x) => {
+            put_name(out, x)?;
+            Ok(())
+        }
+        Form::Read { object, field } => {
+            put_name(out, object)?;
+            out.push(b'.')?;
+            put_name(out, field)?;
+            Ok(())
+        }
+        Form::Negative(operand) => {
+            out.push(b'-')?;
+            put_at_level(alloc, out, 6, operand.get())?;
+            Ok(())
+        }
+        Form::Not(operand) => {
+            out.push(b'!')?;
+            put_at_level(alloc, out, 6, operand.get())?;
+            Ok(())
+        }
+        Form::Chain { first, others } => {
+            put_chain(alloc, out, first.get(), others.as_slice())
+        }
+        Form::Compared {
+            left,
+            comparison,
+            right,
+        } => {
+            put_at_level(alloc, out, 3, left.get())?;
+            out.push(b' ')?;
+            out.extend(comparison_text(*comparison).as_bytes())?;
+            out.push(b' ')?;
+            put_at_level(alloc, out, 3, right.get())?;
+            Ok(())
+        }
+    }
+}
+
+/// A chain: its first operand, at the level above that of the first operator, and the others.
+#[cycle(expression)]
+fn put_chain(
+    alloc: Global,
+    out: &mut Seq<u8>,
+    first: &Expression,
+    others: &[Operand],
+) -> Result<(), NoMemory>
+    ensures { OnOk result (Adds (print.shown_chain (print.shown first.now) (map beside others.now)).inks out.old out.new) }
+{
+    match others.split_first() {
+        None => {
+            put_form(alloc, out, first)?;
+            Ok(())
+        }
+        Some((operand, _)) => {
+            put_at_level(alloc, out, level_of(operand.operator) + 1, first)?;
+            put_operands(alloc, out, others)?;
+            Ok(())
+        }
+    }
+}
+
+/// Operands behind the first, each behind its operator.
+#[cycle(expression)]
+fn put_operands(alloc: Global, out: &mut Seq<u8>, others: &[Operand]) -> Result<(), NoMemory>
+    ensures { OnOk result (Adds (print.operands (map beside others.now)) out.old out.new) }
+{
+    'operands: for operand in others {
+        out.push(b' ')?;
+        out.extend(operator_text(operand.operator).as_bytes())?;
+        out.push(b' ')?;
+        put_at_level(alloc, out, level_of(operand.operator) + 1, &operand.operand)?;
+    }
+    Ok(())
+}
+
+impl Print for Expression {
+    ghost use Rattle.fab_tree.specs.Print.{expression};
+
+    ghost inks = { expression };
+
+    fn print(&self, alloc: Global, out: &mut Seq<u8>) -> Result<(), NoMemory> {
+        put_expression(alloc, out, self)
+    }
+}
+
+/// An expression where the grammar has one.
+pub(crate) fn put_expression(
+    alloc: Global,
+    out: &mut Seq<u8>,
+    expression: &Expression,
+) -> Result<(), NoMemory>
+    ensures { OnOk result (Adds (print.expression expression.now) out.old out.new) }
+{
+    put_at_level(alloc, out, 0, expression)
+}
+
+/// Arguments in brackets.
+pub(crate) fn put_arguments(
+    alloc: Global,
+    out: &mut Seq<u8>,
+    arguments: &[Expression],
+) -> Result<(), NoMemory>
+    ensures { OnOk result (Adds (print.arguments arguments.now) out.old out.new) }
+{
+    print_in_brackets(alloc, out, arguments)
+}
