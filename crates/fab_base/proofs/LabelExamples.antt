@@ -1,10 +1,10 @@
 -- Delegations, chains and flows, good and bad. Alice is 0, Bob 1, Carol 2, and Carol acts for Alice.
 use Rattle.std.proofs.Common.{◌≡◌, ℕ, zero, suc, List, [], ◌∷◌, refl, arith, inl, inr, lit<, sym, ap, subst}
-use Rattle.std.specs.Prelude.{Contains, Any, All}
+use Rattle.std.specs.Prelude.{Contains, Any, All, Some}
 use Rattle.fab_base.specs.declared.label.Policy.{Policy}
 use Rattle.fab_base.specs.declared.label.Label.{Label}
 use Rattle.fab_base.specs.Principals.{Delegations, ActsFor, IsNoGreater}
-use Rattle.fab_base.specs.Labels.{PolicyDenies, Deny, FlowsConf}
+use Rattle.fab_base.specs.Labels.{PolicyDenies, Deny, FlowsConf, Covers, IsFirstCover, alone}
 
 abbrev d : Delegations
 d = record { count = 3; pairs = (2, 0) ∷ [] }
@@ -69,3 +69,15 @@ fewer_readers p group (suc k, policy, within, is, denied) = absurd (omega arith)
 -- `Alice ->` denies Alice's reading by Bob, and `Alice -> Bob` doesn't
 pub more_readers : ¬ FlowsConf d to_nobody to_bob
 more_readers flows = bob_may (flows 0 (1 ∷ []) (zero, record { owner = 0; others = [] }, lit< tt, refl, record { owner = alice_for_alice; outside = not_bob }))
+
+-- `Alice -> Bob` doesn't cover `Alice ->`, since Bob doesn't act for Alice
+bob_covers_not : ¬ Covers d (record { owner = 0; others = 1 ∷ [] }) (alone 0)
+bob_covers_not covers = not_bob 0 1 (lit< tt) (covers.members 0 1 (lit< tt))
+
+-- so of these two the second is the first that covers it
+pub the_second_covers : IsFirstCover d (record { owner = 0; others = 1 ∷ [] } ∷ alone 0 ∷ []) (alone 0) (Some 1)
+the_second_covers = (record { owner = alice_for_alice; members = λ k m within. absurd (omega (arith, within)) }, none)
+  where
+    none : ¬ Any (λ j. Covers d j (alone 0)) (record { owner = 0; others = 1 ∷ [] } ∷ [])
+    none (zero, j, within, is, covers) = bob_covers_not (subst (λ (w : Policy). Covers d w (alone 0)) (sym is) covers)
+    none (suc k, j, within, is, covers) = omega arith
