@@ -1,1 +1,3 @@
 pub mod Added
+pub mod Forms
+pub mod Stated
