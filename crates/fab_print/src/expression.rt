@@ -55,13 +55,7 @@ fn level(expression: &Expression) -> u8
     ensures { result ≡ (print.shown expression.now).level }
 {
     match &expression.form {
-        Form::Number(number) => {
-            if *number < 0 {
-                5
-            } else {
-                6
-            }
-        }
+        Form::Number(number) => { if *number < 0 { 5 } else { 6 } }
         Form::Null | Form::Local(_) | Form::Read { .. } => 6,
         Form::Negative(_) | Form::Not(_) => 5,
         Form::Chain { first, others } => match others.as_slice().split_first() {

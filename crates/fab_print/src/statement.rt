@@ -1,5 +1,5 @@
 //! Statements and blocks.
-ghost use Rattle.std.specs.Prelude.{◌≡◌, OnOk, map, option_map};
+ghost use Rattle.std.specs.Prelude.{◌≡◌, OnOk, map};
 ghost use Rattle.fab_base.specs.declared.token.Mark.{Mark};
 ghost use Rattle.fab_base.specs.Tokens.{mark_text};
 ghost use Rattle.fab_tree.specs.declared.statement.Right.TheVariants as rights;
@@ -92,7 +92,7 @@ pub(crate) fn put_statements(
     level: usize,
     statements: &[Statement],
 ) -> Result<(), NoMemory>
-    ensures { OnOk result (Adds (print.all (map (λ x. x level) (map print.statement statements.now))) out.old out.new) }
+    ensures { OnOk result (Adds (print.all (map (λ x. print.statement x level) statements.now)) out.old out.new) }
 {
     'statements: for statement in statements {
         put_statement(alloc, out, level, statement)?;
@@ -124,22 +124,20 @@ fn put_statement(
             field,
             value,
         } => put_write(alloc, out, level, object, field, value),
-        Statement::Call { method, arguments } => {
-            put_call(alloc, out, level, method, arguments.as_slice())
-        }
+        Statement::Call { method, arguments } => put_call(alloc, out, level, method, arguments),
         Statement::If {
             condition,
             block,
             otherwise,
         } => {
             put_guarded(alloc, out, level, b"if", block.as_slice(), condition)?;
-            put_otherwise(alloc, out, level, otherwise)?;
-            Ok(())
+            match otherwise {
+                None => put_end(out),
+                Some(other) => put_else(alloc, out, level, other.as_slice()),
+            }
         }
         Statement::While { condition, block } => {
-            put_guarded(alloc, out, level, b"while", block.as_slice(), condition)?;
-            put_end(out)?;
-            Ok(())
+            put_loop(alloc, out, level, block.as_slice(), condition)
         }
         Statement::Atomic {
             label,
@@ -148,8 +146,7 @@ fn put_statement(
             at: _,
         } => {
             put_atomic(alloc, out, level, block.as_slice(), label)?;
-            put_else(alloc, out, level, otherwise.as_slice())?;
-            Ok(())
+            put_else(alloc, out, level, otherwise.as_slice())
         }
         Statement::Fail { at: _ } => put_fail(out, level),
     }
@@ -224,13 +221,13 @@ fn put_call(
     out: &mut Seq<u8>,
     level: usize,
     method: &Name,
-    arguments: &[Expression],
+    arguments: &Seq<Expression>,
 ) -> Result<(), NoMemory>
     ensures { OnOk result (Adds (print.statement_step (forms.Call method.now arguments.now) level) out.old out.new) }
 {
     put_indent(out, level)?;
     put_name(out, method)?;
-    put_arguments(alloc, out, arguments)?;
+    put_arguments(alloc, out, arguments.as_slice())?;
     out.extend(b";\n")?;
     Ok(())
 }
@@ -315,20 +312,20 @@ fn put_atomic(
     Ok(())
 }
 
-/// The end of a choice, with or without `else`.
+/// A loop.
 #[cycle(statement)]
-fn put_otherwise(
+fn put_loop(
     alloc: Global,
     out: &mut Seq<u8>,
     level: usize,
-    otherwise: &Option<Seq<Statement>>,
+    block: &[Statement],
+    condition: &Expression,
 ) -> Result<(), NoMemory>
-    ensures { OnOk result (Adds (ended (print.otherwise level (option_map (map print.statement) otherwise.now))) out.old out.new) }
+    ensures { OnOk result (Adds (print.statement_step (forms.While condition.now (map print.statement block.now)) level) out.old out.new) }
 {
-    match otherwise {
-        None => put_end(out),
-        Some(other) => put_else(alloc, out, level, other.as_slice()),
-    }
+    put_guarded(alloc, out, level, b"while", block, condition)?;
+    put_end(out)?;
+    Ok(())
 }
 
 /// The block behind `else`, at the end of its line.

@@ -3,4 +3,4 @@ use Rattle.fab_tree.specs.Print.{Ink, text_of, all, statement}
 use Rattle.fab_print.proofs.statement.+statement.Given as goal
 
 abbrev pub invariant-put_statements-statements : goal.invariant-put_statements-statements
-invariant-put_statements-statements l = (more : List Ink) → l.out ++ text_of (all (map (λ x. x l.level) (map statement (drop l.statement-index l.statements))) more) ≡ l.fn.out ++ text_of (all (map (λ x. x l.level) (map statement l.statements)) more)
+invariant-put_statements-statements l = (more : List Ink) → l.out ++ text_of (all (map (λ x. statement x l.level) (drop l.statement-index l.statements)) more) ≡ l.fn.out ++ text_of (all (map (λ x. statement x l.level) l.statements) more)
