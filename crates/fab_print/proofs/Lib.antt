@@ -10,3 +10,4 @@ pub mod Pieces
 pub mod ProgramsAgain
 pub mod RunsAgain
 pub mod StatementsAgain
+pub mod Stated

@@ -1,12 +1,13 @@
 //! Expressions, with brackets exactly where they are needed.
 ghost use Rattle.std.specs.Prelude.{◌≡◌, OnOk, map};
+ghost use Rattle.fab_base.specs.declared.token.Mark.TheVariants as m;
 ghost use Rattle.fab_tree.specs.Print as print;
-ghost use Rattle.fab_print.specs.Adding.{Adds, IsSpelled, beside};
+ghost use Rattle.fab_print.specs.Adding.{Adds, IsSpelled, beside, field_of, spaced};
 
 use crate::list::print_in_brackets;
 use crate::piece::{Print, put_integer, put_name};
 use fab_base::{NoMemory, Seq};
-use fab_tree::{Comparison, Expression, Form, Operand, Operator};
+use fab_tree::{Comparison, Expression, Form, Name, Operand, Operator};
 use std::alloc::Global;
 
 /// How an operator is written.
@@ -54,13 +55,7 @@ fn level(expression: &Expression) -> u8
     ensures { result ≡ (print.shown expression.now).level }
 {
     match &expression.form {
-        Form::Number(number) => {
-            if *number < 0 {
-                5
-            } else {
-                6
-            }
-        }
+        Form::Number(number) => { if *number < 0 { 5 } else { 6 } }
         Form::Null | Form::Local(_) | Form::Read { .. } => 6,
         Form::Negative(_) | Form::Not(_) => 5,
         Form::Chain { first, others } => match others.as_slice().split_first() {
@@ -92,30 +87,17 @@ fn put_at_level(
     }
 }
 
-/// An expression without brackets round it.
+/// An expression without brackets round it. The first operand of a chain stands at the level above
+/// that of the first operator.
 #[cycle(expression)]
 fn put_form(alloc: Global, out: &mut Seq<u8>, expression: &Expression) -> Result<(), NoMemory>
     ensures { OnOk result (Adds (print.shown expression.now).inks out.old out.new) }
 {
     match &expression.form {
-        Form::Number(number) => {
-            put_integer(alloc, out, *number)?;
-            Ok(())
-        }
-        Form::Null => {
-            out.extend(b"null")?;
-            Ok(())
-        }
-        Form::Local(x) => {
-            put_name(out, x)?;
-            Ok(())
-        }
-        Form::Read { object, field } => {
-            put_name(out, object)?;
-            out.push(b'.')?;
-            put_name(out, field)?;
-            Ok(())
-        }
+        Form::Number(number) => put_integer(alloc, out, *number),
+        Form::Null => put_null(out),
+        Form::Local(x) => put_name(out, x),
+        Form::Read { object, field } => put_read(out, object, field),
         Form::Negative(operand) => {
             out.push(b'-')?;
             put_at_level(alloc, out, 6, operand.get())?;
@@ -126,45 +108,63 @@ fn put_form(alloc: Global, out: &mut Seq<u8>, expression: &Expression) -> Result
             put_at_level(alloc, out, 6, operand.get())?;
             Ok(())
         }
-        Form::Chain { first, others } => {
-            put_chain(alloc, out, first.get(), others.as_slice())
-        }
+        Form::Chain { first, others } => match others.as_slice().split_first() {
+            None => put_form(alloc, out, first.get()),
+            Some((operand, _)) => {
+                put_at_level(alloc, out, level_of(operand.operator) + 1, first.get())?;
+                put_operands(alloc, out, others.as_slice())?;
+                Ok(())
+            }
+        },
         Form::Compared {
             left,
             comparison,
             right,
         } => {
             put_at_level(alloc, out, 3, left.get())?;
-            out.push(b' ')?;
-            out.extend(comparison_text(*comparison).as_bytes())?;
-            out.push(b' ')?;
+            put_comparison(out, *comparison)?;
             put_at_level(alloc, out, 3, right.get())?;
             Ok(())
         }
     }
 }
 
-/// A chain: its first operand, at the level above that of the first operator, and the others.
-#[cycle(expression)]
-fn put_chain(
-    alloc: Global,
-    out: &mut Seq<u8>,
-    first: &Expression,
-    others: &[Operand],
-) -> Result<(), NoMemory>
-    ensures { OnOk result (Adds (print.shown_chain (print.shown first.now) (map beside others.now)).inks out.old out.new) }
+/// The literal of no object.
+pub(crate) fn put_null(out: &mut Seq<u8>) -> Result<(), NoMemory>
+    ensures { OnOk result (Adds (print.mark m.Null) out.old out.new) }
 {
-    match others.split_first() {
-        None => {
-            put_form(alloc, out, first)?;
-            Ok(())
-        }
-        Some((operand, _)) => {
-            put_at_level(alloc, out, level_of(operand.operator) + 1, first)?;
-            put_operands(alloc, out, others)?;
-            Ok(())
-        }
-    }
+    out.extend(b"null")?;
+    Ok(())
+}
+
+/// A local's field.
+fn put_read(out: &mut Seq<u8>, object: &Name, field: &Name) -> Result<(), NoMemory>
+    ensures { OnOk result (Adds (field_of object.now field.now) out.old out.new) }
+{
+    put_name(out, object)?;
+    out.push(b'.')?;
+    put_name(out, field)?;
+    Ok(())
+}
+
+/// A comparison between spaces.
+fn put_comparison(out: &mut Seq<u8>, comparison: Comparison) -> Result<(), NoMemory>
+    ensures { OnOk result (Adds (spaced (print.comparison comparison)) out.old out.new) }
+{
+    out.push(b' ')?;
+    out.extend(comparison_text(comparison).as_bytes())?;
+    out.push(b' ')?;
+    Ok(())
+}
+
+/// An operator between spaces.
+fn put_operator(out: &mut Seq<u8>, operator: Operator) -> Result<(), NoMemory>
+    ensures { OnOk result (Adds (spaced (print.operator operator)) out.old out.new) }
+{
+    out.push(b' ')?;
+    out.extend(operator_text(operator).as_bytes())?;
+    out.push(b' ')?;
+    Ok(())
 }
 
 /// Operands behind the first, each behind its operator.
@@ -173,9 +173,7 @@ fn put_operands(alloc: Global, out: &mut Seq<u8>, others: &[Operand]) -> Result<
     ensures { OnOk result (Adds (print.operands (map beside others.now)) out.old out.new) }
 {
     'operands: for operand in others {
-        out.push(b' ')?;
-        out.extend(operator_text(operand.operator).as_bytes())?;
-        out.push(b' ')?;
+        put_operator(out, operand.operator)?;
         put_at_level(alloc, out, level_of(operand.operator) + 1, &operand.operand)?;
     }
     Ok(())

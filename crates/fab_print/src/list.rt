@@ -37,7 +37,7 @@ fn print_each_behind<T: Print>(
     ensures { OnOk result ((x : Mark) → mark_text x ≡ between.now → Adds (print.each_behind x (map T.inks items.now)) out.old out.new) }
 {
     let mut rest = items;
-    'items: while let Some((item, after)) = rest.split_first() {
+    'others: while let Some((item, after)) = rest.split_first() {
         out.extend(between)?;
         out.push(b' ')?;
         item.print(alloc, out)?;

@@ -69,11 +69,7 @@ fn put_authority(alloc: Global, out: &mut Seq<u8>, names: &[Name]) -> Result<(),
 }
 
 /// The line of a method's result, where it has one.
-fn put_result(
-    alloc: Global,
-    out: &mut Seq<u8>,
-    returned: &Option<Return>,
-) -> Result<(), NoMemory>
+fn put_result(alloc: Global, out: &mut Seq<u8>, returned: &Option<Return>) -> Result<(), NoMemory>
     ensures { OnOk result (Adds (print.result returned.now) out.old out.new) }
 {
     match returned {

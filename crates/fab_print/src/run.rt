@@ -3,6 +3,7 @@ ghost use Rattle.std.specs.Prelude.{◌≡◌, OnOk};
 ghost use Rattle.fab_tree.specs.Print as print;
 ghost use Rattle.fab_print.specs.Adding.{Adds};
 
+use crate::expression::put_null;
 use crate::list::{print_all, print_in_brackets};
 use crate::piece::{Print, put_bytes, put_integer, put_name, put_number};
 use fab_base::{NoMemory, Seq};
@@ -17,10 +18,7 @@ impl Print for Given {
     fn print(&self, alloc: Global, out: &mut Seq<u8>) -> Result<(), NoMemory> {
         match &self.literal {
             Literal::Int(number) => put_integer(alloc, out, *number),
-            Literal::Null => {
-                out.extend(b"null")?;
-                Ok(())
-            }
+            Literal::Null => put_null(out),
             Literal::Root(root) => put_name(out, root),
         }
     }

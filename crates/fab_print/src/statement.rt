@@ -1,11 +1,11 @@
 //! Statements and blocks.
-ghost use Rattle.std.specs.Prelude.{◌≡◌, OnOk, map, option_map};
+ghost use Rattle.std.specs.Prelude.{◌≡◌, OnOk, map};
 ghost use Rattle.fab_base.specs.declared.token.Mark.{Mark};
 ghost use Rattle.fab_base.specs.Tokens.{mark_text};
 ghost use Rattle.fab_tree.specs.declared.statement.Right.TheVariants as rights;
 ghost use Rattle.fab_tree.specs.declared.statement.Statement.TheOpen as forms;
 ghost use Rattle.fab_tree.specs.Print as print;
-ghost use Rattle.fab_print.specs.Adding.{Adds, IsSpelled};
+ghost use Rattle.fab_print.specs.Adding.{Adds, IsSpelled, atomic, ended, guarded};
 
 use crate::declaration::put_sort;
 use crate::expression::{put_arguments, put_expression};
@@ -92,7 +92,7 @@ pub(crate) fn put_statements(
     level: usize,
     statements: &[Statement],
 ) -> Result<(), NoMemory>
-    ensures { OnOk result (Adds (print.all (map (λ x. x level) (map print.statement statements.now))) out.old out.new) }
+    ensures { OnOk result (Adds (print.all (map (λ x. print.statement x level) statements.now)) out.old out.new) }
 {
     'statements: for statement in statements {
         put_statement(alloc, out, level, statement)?;
@@ -124,23 +124,30 @@ fn put_statement(
             field,
             value,
         } => put_write(alloc, out, level, object, field, value),
-        Statement::Call { method, arguments } => {
-            put_call(alloc, out, level, method, arguments.as_slice())
-        }
+        Statement::Call { method, arguments } => put_call(alloc, out, level, method, arguments),
         Statement::If {
             condition,
             block,
             otherwise,
-        } => put_choice(alloc, out, level, condition, block.as_slice(), otherwise),
+        } => {
+            put_guarded(alloc, out, level, b"if", block.as_slice(), condition)?;
+            match otherwise {
+                None => put_end(out),
+                Some(other) => put_else(alloc, out, level, other.as_slice()),
+            }
+        }
         Statement::While { condition, block } => {
-            put_loop(alloc, out, level, condition, block.as_slice())
+            put_loop(alloc, out, level, block.as_slice(), condition)
         }
         Statement::Atomic {
             label,
             block,
             otherwise,
             at: _,
-        } => put_atomic(alloc, out, level, label, block.as_slice(), otherwise.as_slice()),
+        } => {
+            put_atomic(alloc, out, level, block.as_slice(), label)?;
+            put_else(alloc, out, level, otherwise.as_slice())
+        }
         Statement::Fail { at: _ } => put_fail(out, level),
     }
 }
@@ -214,13 +221,13 @@ fn put_call(
     out: &mut Seq<u8>,
     level: usize,
     method: &Name,
-    arguments: &[Expression],
+    arguments: &Seq<Expression>,
 ) -> Result<(), NoMemory>
     ensures { OnOk result (Adds (print.statement_step (forms.Call method.now arguments.now) level) out.old out.new) }
 {
     put_indent(out, level)?;
     put_name(out, method)?;
-    put_arguments(alloc, out, arguments)?;
+    put_arguments(alloc, out, arguments.as_slice())?;
     out.extend(b";\n")?;
     Ok(())
 }
@@ -268,33 +275,41 @@ fn put_block(
     Ok(())
 }
 
-/// A choice, with or without `else`.
+/// A block behind a keyword, which is spelled so, and a condition.
 #[cycle(statement)]
-fn put_choice(
+fn put_guarded(
     alloc: Global,
     out: &mut Seq<u8>,
     level: usize,
-    condition: &Expression,
+    keyword: &[u8],
     block: &[Statement],
-    otherwise: &Option<Seq<Statement>>,
+    condition: &Expression,
 ) -> Result<(), NoMemory>
-    ensures { OnOk result (Adds (print.statement_step (forms.If condition.now (map print.statement block.now) (option_map (map print.statement) otherwise.now)) level) out.old out.new) }
+    ensures { OnOk result ((x : Mark) → mark_text x ≡ keyword.now → Adds (guarded level x condition.now (map print.statement block.now)) out.old out.new) }
 {
     put_indent(out, level)?;
-    put_head(alloc, out, b"if", condition)?;
+    put_head(alloc, out, keyword, condition)?;
     put_block(alloc, out, level, block)?;
-    match otherwise {
-        None => {
-            out.push(b'\n')?;
-            Ok(())
-        }
-        Some(other) => {
-            out.extend(b" else ")?;
-            put_block(alloc, out, level, other.as_slice())?;
-            out.push(b'\n')?;
-            Ok(())
-        }
-    }
+    Ok(())
+}
+
+/// An atomic block.
+#[cycle(statement)]
+fn put_atomic(
+    alloc: Global,
+    out: &mut Seq<u8>,
+    level: usize,
+    block: &[Statement],
+    label: &Name,
+) -> Result<(), NoMemory>
+    ensures { OnOk result (Adds (atomic level label.now (map print.statement block.now)) out.old out.new) }
+{
+    put_indent(out, level)?;
+    out.extend(b"atomic ")?;
+    put_name(out, label)?;
+    out.push(b' ')?;
+    put_block(alloc, out, level, block)?;
+    Ok(())
 }
 
 /// A loop.
@@ -303,37 +318,36 @@ fn put_loop(
     alloc: Global,
     out: &mut Seq<u8>,
     level: usize,
-    condition: &Expression,
     block: &[Statement],
+    condition: &Expression,
 ) -> Result<(), NoMemory>
     ensures { OnOk result (Adds (print.statement_step (forms.While condition.now (map print.statement block.now)) level) out.old out.new) }
 {
-    put_indent(out, level)?;
-    put_head(alloc, out, b"while", condition)?;
-    put_block(alloc, out, level, block)?;
-    out.push(b'\n')?;
+    put_guarded(alloc, out, level, b"while", block, condition)?;
+    put_end(out)?;
     Ok(())
 }
 
-/// An atomic block, and what is done where it fails.
+/// The block behind `else`, at the end of its line.
 #[cycle(statement)]
-fn put_atomic(
+fn put_else(
     alloc: Global,
     out: &mut Seq<u8>,
     level: usize,
-    label: &Name,
     block: &[Statement],
-    otherwise: &[Statement],
 ) -> Result<(), NoMemory>
-    ensures { OnOk result (Adds (print.statement_step (forms.Atomic label.now (map print.statement block.now) (map print.statement otherwise.now) 0) level) out.old out.new) }
+    ensures { OnOk result (Adds (ended (print.else_block level (map print.statement block.now))) out.old out.new) }
 {
-    put_indent(out, level)?;
-    out.extend(b"atomic ")?;
-    put_name(out, label)?;
-    out.push(b' ')?;
-    put_block(alloc, out, level, block)?;
     out.extend(b" else ")?;
-    put_block(alloc, out, level, otherwise)?;
+    put_block(alloc, out, level, block)?;
+    put_end(out)?;
+    Ok(())
+}
+
+/// The end of a line.
+fn put_end(out: &mut Seq<u8>) -> Result<(), NoMemory>
+    ensures { OnOk result (Adds print.line_end out.old out.new) }
+{
     out.push(b'\n')?;
     Ok(())
 }

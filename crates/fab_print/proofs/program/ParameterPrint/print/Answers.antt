@@ -1,0 +1,8 @@
+use Rattle.std.proofs.Common.{refl}
+use Rattle.fab_base.specs.declared.token.Mark.TheVariants as m
+use Rattle.fab_tree.specs.Print.{◌>>◌, space, mark}
+use Rattle.fab_print.proofs.Added.{both, word}
+use Rattle.fab_print.proofs.program.ParameterPrint.print.Goals as goal
+
+pub returns : goal.returns
+returns c = both (c.in_ok-put_sort.ensures) (both (word _ (space) c.in_ok-push.ensures.ok (λ _. refl)) (both (c.in_ok-put_name.ensures) (both (word _ (space >> mark m.Colon >> space) c.in_ok-extend.ensures.ok (λ _. refl)) (c.in_ok-put_name-2.ensures))))

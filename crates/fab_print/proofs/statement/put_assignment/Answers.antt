@@ -1,0 +1,8 @@
+use Rattle.std.proofs.Common.{refl}
+use Rattle.fab_base.specs.declared.token.Mark.TheVariants as m
+use Rattle.fab_tree.specs.Print.{◌>>◌, space, line_end, mark}
+use Rattle.fab_print.proofs.Added.{both, word}
+use Rattle.fab_print.proofs.statement.put_assignment.Goals as goal
+
+pub returns : goal.returns
+returns c = both (c.in_ok-put_indent.ensures) (both (c.in_ok-put_name.ensures) (both (word _ (space >> mark m.Equal >> space) c.in_ok-extend.ensures.ok (λ _. refl)) (both (c.in_ok-put_right.ensures) (word _ (mark m.Semicolon >> line_end) c.in_ok-extend-2.ensures.ok (λ _. refl)))))
