@@ -2,10 +2,20 @@
 #![tactic(auto)]
 
 mod command;
+#[cfg(test)]
+mod eval_tests;
 mod front;
+#[cfg(test)]
+mod limit_tests;
 mod lines;
+#[cfg(test)]
+mod print_tests;
 mod reading;
 mod status;
+#[cfg(test)]
+mod syntax_tests;
+#[cfg(test)]
+mod tests;
 mod writing;
 
 pub use command::fab;
