@@ -1,10 +1,11 @@
 //! A whole program.
-ghost use Rattle.std.specs.Prelude.{◌≡◌, ◌≤◌, ◌<◌, ℕ, length, drop, MatchResult, IfOk, IfErr};
+ghost use Rattle.std.specs.Prelude.{◌≡◌, ◌≤◌, ◌<◌, ◌^◌, ℕ, length, drop, MatchResult, IfOk, IfErr};
 ghost use Rattle.fab_tree.specs.Programs.{IsProgram};
+ghost use Rattle.fab_tree.specs.Depth.{KeepsDepth};
 ghost use Rattle.fab_tree.specs.declared.program.Program.{Program as ProgramTree};
 ghost use Rattle.fab_reading.specs.Reading.{Read, Stops};
 ghost use Rattle.fab_parser.specs.Pieces.{after_program};
-ghost use Rattle.fab_parser.specs.Texts.{IsPart, Ends, RefusedAt, IsLimit};
+ghost use Rattle.fab_parser.specs.Texts.{IsPart, Ends, GoesNoFurther, RefusedAt, IsLimit, TooDeep, between};
 
 use crate::classes::ClassRule;
 use crate::delegations::DelegationRule;
@@ -58,14 +59,19 @@ pub fn program(
     tokens: &[Token],
     from_token: u32,
 ) -> Result<(Program, u32), ParseError>
-    requires few { length tokens.now < 4294967295 }
+    requires few { length tokens.now < 2 ^ 32 }
     requires within { from_token ≤ length tokens.now }
     // What is read stands there.
     ensures found { IfOk result (λ x. IsPart tokens.now from_token x.0 x.1) }
+    // It is read as far as it goes: with the token behind it, the tokens begin no program.
+    ensures farthest { IfOk result (λ x. GoesNoFurther (between tokens.now from_token x.1) (drop x.1 tokens.now)) }
     // What stands there, with no further part of a program behind it, is read as that one, unless memory or brackets run out.
     ensures only { (p : ProgramTree) (next : ℕ) → IsPart tokens.now from_token p next → Ends tokens.now next → MatchResult result (λ x. (x.0 ≡ p) × (x.1 ≡ next)) IsLimit }
     // A token is refused exactly where those before it begin a program, and with it they begin none.
     ensures refused { IfErr result (λ e. RefusedAt tokens.now from_token e) }
+    // No more than 64 brackets are open at once, and more where the limit is refused.
+    ensures depth { IfOk result (λ x. KeepsDepth (between tokens.now from_token x.1)) }
+    ensures deep { IfErr result (λ e. TooDeep tokens.now from_token e) }
 {
     match read_program(alloc, behind(tokens, from_token), DEPTH) {
         Ok((found, rest)) => Ok((found, (tokens.len() - rest.len()) as u32)),
