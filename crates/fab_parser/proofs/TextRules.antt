@@ -1,8 +1,7 @@
 -- Where a program stands among tokens, and where they are refused.
-use Rattle.std.proofs.Common.{◌≡◌, ◌+◌, ◌-◌, ◌≤◌, ℕ, Bool, Some, None, option_and_then, IsSome, List, [], ◌∷◌, ◌++◌, length, take, drop, refl, sym, ap, ◌∙◌, subst, append_assoc, append-nil, length-append, length-drop, arith}
+use Rattle.std.proofs.Common.{◌≡◌, ◌+◌, ◌-◌, ◌≤◌, ℕ, Some, None, option_and_then, IsSome, List, [], ◌∷◌, ◌++◌, length, take, drop, refl, sym, ap, ◌∙◌, subst, append_assoc, length-append, length-drop, arith}
 use Rattle.std.proofs.Math.Seq.{drop-append_seam, take-append_seam}
 use Rattle.std.proofs.lemmas.List.{take-append-drop}
-use Rattle.fab_base.specs.declared.token.Kind.{Kind}
 use Rattle.fab_base.specs.declared.token.Token.{Token}
 use Rattle.fab_tree.specs.declared.program.Program.{Program}
 use Rattle.fab_tree.specs.Depth.{room_by, room_after, KeepsDepth}
@@ -10,8 +9,9 @@ use Rattle.fab_tree.specs.Programs.{IsProgram}
 use Rattle.fab_reading.specs.Reading.{SameHead, Follows, Read, Refused, Deep}
 use Rattle.fab_reading.proofs.Rules.{same_refl, room_append}
 use Rattle.fab_parser.specs.Pieces.{after_program}
-use Rattle.fab_parser.specs.Texts.{IsPart, Ends, between, BeginsProgram, GoesNoFurther, BadNext, BadToken, BadBracket}
+use Rattle.fab_parser.specs.Texts.{IsPart, Ends, between, BeginsProgram, GoesNoFurther, BadToken, BadBracket}
 use Rattle.fab_parser.proofs.PartRules.{read_here}
+use Rattle.fab_parser.proofs.WholeRules.{taken}
 
 module _ (ts front rest : List Token) (from : ℕ) where
   whole_cut : drop from ts ≡ front ++ rest → ts ≡ (take from ts ++ front) ++ rest
@@ -68,18 +68,19 @@ part_only {ts = ts} {rest = rest} r e q n part ends =
 pub no_part : {ts : List Token} {from left : ℕ} → Refused IsProgram after_program 64 (drop from ts) left → (q : Program) (n : ℕ) → IsPart ts from q n → Ends ts n → ⊥
 no_part {ts = ts} r q n part ends = r.bad r.back (same_refl r.back) q (drop n ts) (subst (λ y. IsProgram y q (drop n ts)) r.cut part.reads) ends
 
-bad_next : (may : Kind → Bool) (front back : List Token) → ((more : List Token) → SameHead back more → (t : Program) (after : List Token) → IsProgram (front ++ more) t after → Follows may after → ⊥) → BadNext front back
-bad_next may front [] bad = λ s d. bad [] tt s [] (subst (λ x. IsProgram x s []) (sym (append-nil front)) d) tt
-bad_next may front (t ∷ back) bad = λ b. bad (t ∷ b.0) refl b.1 [] (subst (λ x. IsProgram x b.1 []) (append_assoc front (t ∷ []) b.0) b.2) tt
+bad_next : (front back : List Token) → ((more : List Token) → SameHead back more → (t : Program) (after : List Token) → IsProgram (front ++ more) t after → Follows after_program after → ⊥) → GoesNoFurther front back
+bad_next front [] bad = tt
+bad_next front (t ∷ back) bad = λ b. bad (t ∷ b.0) refl b.1 [] (subst (λ x. IsProgram x b.1 []) (append_assoc front (t ∷ []) b.0) b.2) tt
 
-pub bad_token : {ts : List Token} {from left token : ℕ} → from ≤ length ts → Refused IsProgram after_program 64 (drop from ts) left → token ≡ length ts - left → BadToken ts from token
-bad_token {ts = ts} {from = from} {left = left} {token = token} within r e = record {
+pub bad_token : {ts : List Token} {from left token : ℕ} → from ≤ length ts → Refused IsProgram after_program 64 (drop from ts) left → ((p : Program) → IsProgram (take (length (drop from ts) - left) (drop from ts)) p [] → ⊥) → token ≡ length ts - left → BadToken ts from token
+bad_token {ts = ts} {from = from} {left = left} {token = token} within r none e = record {
   front = r.front;
   back = r.back;
   cut = r.cut;
   token_is = before ts r.front r.back from left token within r.cut r.left_is e;
   before = (r.begins.0 ++ [], r.begins.1, r.begins.2 []);
-  with_it = bad_next after_program r.front r.back r.bad;
+  no_program = λ p d. none p (subst (λ x. IsProgram x p []) (sym (taken (drop from ts) r.front r.back left r.cut r.left_is)) d);
+  with_it = bad_next r.front r.back r.bad;
   level = r.level;
 }
 

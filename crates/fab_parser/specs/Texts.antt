@@ -4,6 +4,8 @@ use Rattle.fab_base.specs.declared.token.Token.{Token}
 use Rattle.fab_tree.specs.declared.program.Program.{Program}
 use Rattle.fab_tree.specs.Programs.{IsProgram}
 use Rattle.fab_tree.specs.Depth.{room_by, room_after, KeepsDepth}
+use Rattle.fab_reading.specs.declared.refusal.Refusal.{Refusal}
+use Rattle.fab_reading.specs.declared.refusal.Refusal.TheVariants as refusal
 use Rattle.fab_reading.specs.Reading.{Follows}
 use Rattle.fab_parser.specs.Pieces.{after_program}
 use Rattle.fab_parser.specs.declared.error.ParseError.{ParseError}
@@ -31,19 +33,15 @@ abbrev pub GoesNoFurther : List Token → List Token → Type 0
 GoesNoFurther front [] = Unit {0}
 GoesNoFurther front (t ∷ ts) = BeginsProgram (front ++ (t ∷ [])) → ⊥
 
--- with the next token they begin no program; where there is none, they are no program
-abbrev pub BadNext : List Token → List Token → Type 0
-BadNext front [] = (p : Program) → IsProgram front p [] → ⊥
-BadNext front (t ∷ ts) = BeginsProgram (front ++ (t ∷ [])) → ⊥
-
--- The tokens from one on, up to another, begin a program, and with this other one they begin none.
+-- The tokens from one on, up to another, begin a program and are none, and with this other one they begin none.
 pub record BadToken (ts : List Token) (from token : ℕ) : Type 0 where
   pub front : List Token
   pub back : List Token
   pub cut : drop from ts ≡ front ++ back
   pub token_is : from + length front ≡ token
   pub before : BeginsProgram front
-  pub with_it : BadNext front back
+  pub no_program : (p : Program) → IsProgram front p [] → ⊥
+  pub with_it : GoesNoFurther front back
   pub level : (r : ℕ) × (room_after front 64 ≡ Some r)
 
 -- The tokens from one on, up to another, which opens a 65th bracket, begin a program with this other one.
@@ -74,3 +72,9 @@ abbrev pub TooDeep : List Token → ℕ → ParseError → Type 0
 TooDeep ts from (error.DepthLimit token) = KeepsDepth (between ts from (token + 1)) → ⊥
 TooDeep ts from error.Memory = Unit {0}
 TooDeep ts from (error.Syntax token) = Unit {0}
+
+-- the tokens before one that is refused are no program
+abbrev pub NoneYet : List Token → Refusal → Type 0
+NoneYet ts (refusal.Syntax left) = (p : Program) → IsProgram (take (length ts - left) ts) p [] → ⊥
+NoneYet ts refusal.Memory = Unit {0}
+NoneYet ts (refusal.Deep left) = Unit {0}
