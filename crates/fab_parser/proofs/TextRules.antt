@@ -1,15 +1,15 @@
 -- Where a program stands among tokens, and where they are refused.
-use Rattle.std.proofs.Common.{◌≡◌, ◌+◌, ◌-◌, ◌≤◌, ℕ, Some, None, option_and_then, IsSome, List, [], ◌∷◌, ◌++◌, length, take, drop, refl, sym, ap, ◌∙◌, subst, append_assoc, length-append, length-drop, arith}
+use Rattle.std.proofs.Common.{◌≡◌, ◌+◌, ◌-◌, ◌≤◌, ℕ, None, option_and_then, IsSome, List, [], ◌∷◌, ◌++◌, length, take, drop, refl, sym, ap, ◌∙◌, subst, append_assoc, length-append, length-drop, arith}
 use Rattle.std.proofs.Math.Seq.{drop-append_seam, take-append_seam}
 use Rattle.std.proofs.lemmas.List.{take-append-drop}
 use Rattle.fab_base.specs.declared.token.Token.{Token}
 use Rattle.fab_tree.specs.declared.program.Program.{Program}
-use Rattle.fab_tree.specs.Depth.{room_by, room_after, KeepsDepth}
+use Rattle.fab_tree.specs.Depth.{room_after, KeepsDepth}
 use Rattle.fab_tree.specs.Programs.{IsProgram}
 use Rattle.fab_reading.specs.Reading.{SameHead, Follows, Read, Refused, Deep}
 use Rattle.fab_reading.proofs.Rules.{same_refl, room_append}
 use Rattle.fab_parser.specs.Pieces.{after_program}
-use Rattle.fab_parser.specs.Texts.{IsPart, Ends, between, BeginsProgram, GoesNoFurther, BadToken, BadBracket}
+use Rattle.fab_parser.specs.Texts.{IsPart, Ends, between, GoesNoFurther, BadToken, BadBracket}
 use Rattle.fab_parser.proofs.PartRules.{read_here}
 use Rattle.fab_parser.proofs.WholeRules.{taken}
 

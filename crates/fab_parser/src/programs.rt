@@ -63,8 +63,7 @@ fn behind(tokens: &[Token], from_token: u32) -> &[Token]
 
 /// The program whose tokens begin with the one of this number, and the number of the first token
 /// behind it. What can't belong to the program any more is left to the caller, whatever it is: of a
-/// label with a node behind it the label alone is answered, and the node isn't refused. Unless
-/// memory runs out, one answer alone meets the clauses.
+/// label with a node behind it the label alone is answered, and the node isn't refused.
 pub fn program(
     alloc: Global,
     tokens: &[Token],
