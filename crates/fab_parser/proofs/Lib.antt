@@ -1,6 +1,7 @@
 pub mod ClassRules
 pub mod DelegationRules
 pub mod LabelRules
+pub mod LongerTexts
 pub mod MethodRules
 pub mod NodeRules
 pub mod PartRules
@@ -9,3 +10,4 @@ pub mod RightRules
 pub mod StatementParts
 pub mod StatementRules
 pub mod TextRules
+pub mod WholeRules

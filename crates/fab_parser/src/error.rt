@@ -4,7 +4,7 @@ use thiserror::Error;
 
 /// Why tokens are no program. `token` is the number of a token, counted from 0: the first with
 /// which those from the start of the program on begin none, or one that opens a 65th bracket.
-#[derive(Debug, Drop, PartialEq, Eq, Error)]
+#[derive(Clone, Copy, Debug, PartialEq, Eq, Drop, Error)]
 pub enum ParseError {
     #[error("out of memory")]
     Memory,
