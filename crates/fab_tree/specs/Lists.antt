@@ -3,7 +3,6 @@
 -- IsX a t b says: the tokens a begin with those of the tree t, and b is what follows. In the rules in comments, [x] is at most one x, {x} any number, and quoted marks stand for themselves.
 use Rattle.std.specs.Prelude.{◌≡◌, ◌<◌, ℕ, List, [], ◌∷◌, Option, Some, None, ℤ, pos, negsuc, zero, suc}
 use Rattle.fab_base.specs.declared.token.Mark.{Mark}
-use Rattle.fab_base.specs.declared.token.Mark.TheVariants as m
 use Rattle.fab_base.specs.declared.token.Kind.TheVariants as k
 use Rattle.fab_base.specs.declared.token.Token.{Token}
 use Rattle.fab_tree.specs.declared.name.Name.{Name}

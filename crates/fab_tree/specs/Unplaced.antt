@@ -1,5 +1,5 @@
 -- A bundle without the places in its text: two bundles that differ in places alone are one without them.
-use Rattle.std.specs.Prelude.{ℕ, List, map, Option, option_map}
+use Rattle.std.specs.Prelude.{List, map, option_map}
 use Rattle.fab_tree.specs.declared.name.Name.{Name}
 use Rattle.fab_tree.specs.declared.declaration.Node.{Node}
 use Rattle.fab_tree.specs.declared.declaration.Delegation.{Delegation}

@@ -1,0 +1,3 @@
+mod LimitExamples
+mod SiteExamples
+mod StatementExamples
