@@ -153,7 +153,7 @@ fn bytes(rt: HostRuntime) -> Result<(), Fail> {
     Ok(())
 }
 
-/// A product of 04 is not evaluated either where the divisor is 1.
+/// A quotient isn't evaluated, not even where the divisor is 1.
 const DIVISION: &str = "principal Bank;
 worker w1;
 store s1;

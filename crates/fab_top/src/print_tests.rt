@@ -151,7 +151,7 @@ fn small_bundles(rt: HostRuntime) -> Result<(), Fail> {
     Ok(())
 }
 
-/// The method and the label of two bundles are as one may write them by hand.
+/// A method of one `if`, with a label that has a policy and one that has none.
 #[test]
 fn a_method(rt: HostRuntime) -> Result<(), Fail> {
     let text = "principal A;label S={A->};label P={};class C label P access P{int f;}\
