@@ -1,7 +1,4 @@
-pub mod Noting
+pub mod Arguments
+pub mod Making
+pub mod Running
 pub mod Settling
-pub mod Blocks
-pub mod Few
-pub mod Locality
-pub mod Progress
-mod TypedExamples

@@ -1,6 +1,6 @@
+pub mod Attempts
+pub mod Points
 pub mod Gives
-pub mod Locality
 pub mod Outcomes
-pub mod Runs
+pub mod Pieces
 pub mod Settles
-pub mod Typed

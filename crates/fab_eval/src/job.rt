@@ -1,8 +1,7 @@
 //! What is evaluated, and what that may come to.
 
 use fab_base::{Object, Oid, Seq, Stop, Tid, Value};
-use fab_plain::Resolved;
-use fab_plain::resolved::Request;
+use fab_tree::resolved::{Request, Resolved};
 use std::sync::Arc;
 
 /// A request in a program, the attempt that runs it, and the objects that were answered so far,

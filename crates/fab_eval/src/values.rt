@@ -1,10 +1,12 @@
 //! What is computed from values alone.
-ghost use Rattle.std.specs.Prelude.{◌≡◌, IfOk};
-ghost use Rattle.fab_plain.specs.Meaning.{added, compares, equals, field_of, holds, int_of, with_field};
+ghost use Rattle.std.specs.Prelude.{◌≡◌};
+ghost use Rattle.fab_language.specs.Meaning.{compares, equals, holds, int_of, operate, truth};
+ghost use Rattle.fab_eval.specs.Points.{Point};
+ghost use Rattle.fab_eval.specs.Gives.{Gives};
 
-use fab_base::{NoMemory, Object, Seq, Value, java_add, java_sub};
-use fab_plain::{Comparison, Sign};
-use std::alloc::Global;
+use crate::halt::{End, Halt};
+use fab_base::{Value, java_add, java_div, java_mul, java_sub};
+use fab_tree::{Comparison, Operator};
 
 /// The number that a value is; no other value is asked for one.
 pub(crate) fn int_of(value: Value) -> i32
@@ -26,8 +28,15 @@ pub(crate) fn holds(value: Value) -> bool
     }
 }
 
+/// 1 for true, 0 for false.
+pub(crate) fn truth(answer: bool) -> Value
+    ensures { result ≡ truth answer }
+{
+    Value::Int(if answer { 1 } else { 0 })
+}
+
 /// Whether two values are the same number, both null, or the same object.
-pub(crate) fn equals(left: Value, right: Value) -> bool
+fn equals(left: Value, right: Value) -> bool
     ensures { result ≡ equals left right }
 {
     match (left, right) {
@@ -52,43 +61,21 @@ pub(crate) fn compares(comparison: Comparison, left: Value, right: Value) -> boo
     }
 }
 
-/// A sum so far with one more term.
-pub(crate) fn added(sign: Sign, sum: Value, term: Value) -> Value
-    ensures { result ≡ added sign sum term }
+/// What an operator makes of two values.
+pub(crate) fn operate(operator: Operator, left: Value, right: Value) -> Result<Value, Halt>
+    ensures { (p : Point) → Gives result p (operate operator left right p.state) }
 {
-    match sign {
-        Sign::Plus => Value::Int(java_add(int_of(sum), int_of(term))),
-        Sign::Minus => Value::Int(java_sub(int_of(sum), int_of(term))),
+    let a = int_of(left);
+    let b = int_of(right);
+    match operator {
+        Operator::Or => Ok(Value::Int(a | b)),
+        Operator::And => Ok(Value::Int(a & b)),
+        Operator::Add => Ok(Value::Int(java_add(a, b))),
+        Operator::Subtract => Ok(Value::Int(java_sub(a, b))),
+        Operator::Multiply => Ok(Value::Int(java_mul(a, b))),
+        Operator::Divide => match java_div(a, b) {
+            Some(n) => Ok(Value::Int(n)),
+            None => Err(Halt::Ended(End::Failed)),
+        },
     }
-}
-
-/// A field of an object.
-pub(crate) fn field_of(object: &Object, field: u16) -> Value
-    ensures { result ≡ field_of field object.now }
-{
-    object
-        .fields
-        .as_slice()
-        .get(field as usize)
-        .copied()
-        .unwrap_or(Value::Null)
-}
-
-/// A copy of an object, with another value in a field.
-pub(crate) fn with_field(
-    alloc: Global,
-    object: &Object,
-    field: u16,
-    value: Value,
-) -> Result<Object, NoMemory>
-    ensures { IfOk result (λ x. x ≡ with_field field value object.now) }
-{
-    let mut fields = Vec::from_slice(alloc, object.fields.as_slice())?;
-    if (field as usize) < fields.len() {
-        fields[field as usize] = value;
-    }
-    Ok(Object {
-        class: object.class,
-        fields: Seq::from_vec(fields),
-    })
 }

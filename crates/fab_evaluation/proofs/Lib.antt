@@ -1,2 +1,6 @@
-mod InARow
+pub mod Answering
+pub mod Few
+pub mod Meeting
+pub mod Old
 pub mod RootObjects
+pub mod Sessions

@@ -1,24 +1,24 @@
 -- The objects of roots have names of their own, and no request made them.
-use Rattle.std.proofs.Common.{◌≡◌, ◌+◌, ◌<◌, ℕ, zero, suc, Bool, true, false, if◌then◌else◌, List, [], ◌∷◌, Option, Some, None, slice_get, subst, refl, sym, ap, ◌∙◌, arith}
+use Rattle.std.proofs.Common.{◌≡◌, ◌+◌, ◌<◌, ℕ, zero, suc, true, false, if◌then◌else◌, List, [], ◌∷◌, Option, Some, None, slice_get, subst, refl, sym, ap, ◌∙◌, arith}
 use Rattle.std.specs.List.{IsDistinct, AllByRecursion}
 use Rattle.std.specs.Map.{keys_of}
 use Rattle.fab_base.specs.declared.object.Oid.{Oid}
-use Rattle.fab_base.specs.FlatMap.{is_same}
-use Rattle.fab_plain.specs.declared.start.Root.{Root as WrittenRoot}
-use Rattle.fab_plain.specs.declared.start.Start.{Start}
-use Rattle.fab_plain.specs.declared.resolved.Root.{Root}
-use Rattle.fab_plain.specs.Resolution.{roots_from}
-use Rattle.fab_plain.specs.Numbering.{resolved}
-use Rattle.fab_forms.specs.Numbered.{AreNumbered}
-use Rattle.fab_forms.proofs.Roots.{NumberedFrom, behind_first, same_number, not_same}
-use Rattle.fab_plain.specs.Evaluation.{rows_of}
-use Rattle.fab_base.specs.declared.object.Object.{Object}
-use Rattle.fab_base.specs.FlatMap.{get, map_of, parts_of}
+use Rattle.fab_base.specs.declared.object.Tid.{Tid}
+use Rattle.fab_base.specs.FlatMap.{is_same, get, map_of}
+use Rattle.fab_map.proofs.Order.{one_name}
 use Rattle.fab_map.proofs.Made.{get-map_of}
-use Rattle.fab_requests.specs.Answered.{AreOld}
-use Rattle.fab_plain.specs.declared.resolved.Resolved.{Resolved}
-use Rattle.fab_evaluation.specs.Roots.{IsResolved, AreUnmade}
-use Rattle.std.proofs.lemmas.Slice.Eq.{bytes_eq-Decides}
+use Rattle.fab_tree.specs.declared.start.Root.{Root as WrittenRoot}
+use Rattle.fab_tree.specs.declared.start.Start.{Start}
+use Rattle.fab_tree.specs.declared.resolved.Root.{Root}
+use Rattle.fab_tree.specs.declared.resolved.Resolved.{Resolved}
+use Rattle.fab_language.specs.Numbers.{resolved, roots_from, oid_of, values_of}
+use Rattle.fab_language.specs.Evaluation.{rows_of}
+use Rattle.fab_laws.specs.Changes.{IsUnmade}
+use Rattle.fab_lines.specs.Numbered.{AreNumbered}
+use Rattle.fab_lines.proofs.Roots.{NumberedFrom, behind_first, same_number, not_same}
+use Rattle.fab_evaluation.specs.Roots.{IsResolved}
+
+-- ---- names
 
 apart : (o : Oid) (k : ℕ) (roots : List Root) → NumberedFrom k roots → o.number < k → AllByRecursion (λ p. is_same o p ≡ false) (keys_of (rows_of roots))
 apart o k [] h l = tt
@@ -49,44 +49,24 @@ numbered_from s k (y ∷ ys) zero x e = let a = first_is s k y ys x e in omega (
 numbered_from s k (y ∷ ys) (suc n) x e = let a = numbered_from s (suc k) ys n x e in omega (arith, a)
 
 -- the roots of a bundle stand at their numbers
-numbered : (s : Start) → AreNumbered (resolved s).roots
+pub numbered : (s : Start) → AreNumbered (resolved s).roots
 numbered s n x e = let a = numbered_from s 0 s.roots n x e in omega (arith, a)
 
--- ---- boots
+-- ---- attempts
 
-unmade_from : (s : Start) (k : ℕ) (roots : List WrittenRoot) → AreUnmade (roots_from s k roots)
-unmade_from s k [] n d w = absurd (omega (arith, w))
-unmade_from s k (y ∷ ys) zero d w = refl
-unmade_from s k (y ∷ ys) (suc n) d w = unmade_from s (suc k) ys n d (omega (arith, w))
+-- no root was made in an attempt of boot 1
+none_of : (s : Start) (k : ℕ) (roots : List WrittenRoot) (o : Oid) → o.boot ≡ 1 → get (rows_of (roots_from s k roots)) o ≡ None
+none_of s k [] o h = refl
+none_of s k (y ∷ ys) o h =
+    elim (is_same (oid_of s k y) o) as (λ b. is_same (oid_of s k y) o ≡ b → (if b then Some (record { class = (oid_of s k y).class; fields = values_of s y.values }) else get (rows_of (roots_from s (suc k) ys)) o) ≡ None) [
+      | true ↦ λ e. let boots : 0 ≡ o.boot = ap (λ (q : Oid). q.boot) (one_name (oid_of s k y) o e) in absurd (omega (arith, boots, h))
+      | false ↦ λ e. none_of s (suc k) ys o h
+    ] refl
 
--- the names of a bundle's roots have boot 0
-unmade : (s : Start) → AreUnmade (resolved s).roots
-unmade s = unmade_from s 0 s.roots
-
-same_boots : (a b : Oid) → parts_of a ≡ parts_of b → a.boot ≡ b.boot
-same_boots a b e = cc
-
-same_boot : (a b : Oid) → is_same a b ≡ true → a.boot ≡ b.boot
-same_boot a b h = same_boots a b ((bytes_eq-Decides (parts_of a) (parts_of b)).0 h)
-
-behind_unmade : (x : Root) (xs : List Root) → AreUnmade (x ∷ xs) → AreUnmade xs
-behind_unmade x xs h n d w = h (suc n) d (omega (arith, w))
-
-old_rows : (roots : List Root) → AreUnmade roots → (o : Oid) (x : Object) → get (rows_of roots) o ≡ Some x → o.boot ≡ 0
-old_rows [] h o x e = absurd (cc)
-old_rows (r ∷ rs) h o x e = by (is_same r.oid o) refl (old_rows rs (behind_unmade r rs h) o x) e
-  where
-    by : (b : Bool) → is_same r.oid o ≡ b → (get (rows_of rs) o ≡ Some x → o.boot ≡ 0) → (if b then Some (record { class = r.oid.class; fields = r.values }) else get (rows_of rs) o) ≡ Some x → o.boot ≡ 0
-    by true s later f = sym (same_boot r.oid o s) ∙ h 0 r (omega arith)
-    by false s later f = later f
-
-pub old_at_start : (roots : List Root) → AreNumbered roots → AreUnmade roots → AreOld (map_of (rows_of roots))
-old_at_start roots n h o x e = old_rows roots h o x (sym (get-map_of (rows_of roots) o (distinct roots n)) ∙ e)
+pub unmade_at_start : (s : Start) (t : Tid) → t.boot ≡ 1 → IsUnmade t (map_of (rows_of (resolved s).roots))
+unmade_at_start s t h o own = get-map_of (rows_of (resolved s).roots) o (distinct (resolved s).roots (numbered s)) ∙ none_of s 0 s.roots o (own.boot ∙ h)
 
 -- ---- the roots of a bundle with numbers for names
 
 pub are_numbered : (q r : Resolved) → q ≡ r → IsResolved r → AreNumbered q.roots
-are_numbered q r e h = subst (λ z. AreNumbered z.roots) (sym (e ∙ h.1)) (numbered h.0)
-
-pub are_unmade : (q r : Resolved) → q ≡ r → IsResolved r → AreUnmade q.roots
-are_unmade q r e h = subst (λ z. AreUnmade z.roots) (sym (e ∙ h.1)) (unmade h.0)
+are_numbered q r e h = subst (λ z. AreNumbered z.roots) (sym (e ∙ h.is)) (numbered h.start)

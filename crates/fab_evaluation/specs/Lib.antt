@@ -1,1 +1,4 @@
+pub mod Answered
+pub mod Attempts
 pub mod Roots
+pub mod Turns

@@ -1,14 +1,14 @@
--- Bundles with numbers for names, and the names of their roots.
-use Rattle.std.specs.Prelude.{◌≡◌, List, All}
-use Rattle.fab_plain.specs.declared.start.Start.{Start}
-use Rattle.fab_plain.specs.declared.resolved.Resolved.{Resolved}
-use Rattle.fab_plain.specs.declared.resolved.Root.{Root}
-use Rattle.fab_plain.specs.Numbering.{resolved}
+-- Bundles with numbers for names.
+use Rattle.std.specs.Prelude.{◌≡◌, [], None}
+use Rattle.fab_tree.specs.declared.start.Start.{Start}
+use Rattle.fab_tree.specs.declared.resolved.Resolved.{Resolved}
+use Rattle.fab_tree.specs.Limits.{first_passed}
+use Rattle.fab_language.specs.Faults.{faults}
+use Rattle.fab_language.specs.Numbers.{resolved}
 
--- these are the numbers of some bundle
-abbrev pub IsResolved : Resolved → Type 0
-IsResolved r = (s : Start) × (r ≡ resolved s)
-
--- none of these was made by a request, all of which have a boot from 1 on
-abbrev pub AreUnmade : List Root → Type 0
-AreUnmade roots = All (λ x. x.oid.boot ≡ 0) roots
+-- these are the numbers of a bundle within the limits that keeps the rules of names and types
+pub record IsResolved (r : Resolved) : Type 0 where
+  pub start : Start
+  pub within : first_passed start ≡ None
+  pub right : faults start ≡ []
+  pub is : r ≡ resolved start

@@ -2,8 +2,11 @@
 //! start.
 #![tactic(auto)]
 
+mod answers;
 mod objects;
 mod outcomes;
+mod sequence;
+mod single;
 mod text;
 
 pub use text::evaluation;

@@ -1,14 +1,11 @@
 //! The objects that there are from the start.
 ghost use Rattle.std.specs.Prelude.{◌≡◌, IfOk};
-ghost use Rattle.fab_plain.specs.Evaluation.{rows_of, map_at_start};
-ghost use Rattle.fab_forms.specs.Numbered.{AreNumbered};
-ghost use Rattle.fab_requests.specs.Answered.{AreOld};
-ghost use Rattle.fab_evaluation.specs.Roots.{AreUnmade};
+ghost use Rattle.fab_language.specs.Evaluation.{rows_of, map_at_start};
+ghost use Rattle.fab_lines.specs.Numbered.{AreNumbered};
 
 use fab_base::{NoMemory, Object, Oid, Seq};
 use fab_map::ObjectMap;
-use fab_plain::Resolved;
-use fab_plain::resolved::Root;
+use fab_tree::resolved::{Resolved, Root};
 use std::alloc::Global;
 
 /// The objects of the roots, in the order of the text.
@@ -30,10 +27,8 @@ fn rows(alloc: Global, roots: &[Root]) -> Result<Vec<(Oid, Object)>, NoMemory>
 
 /// The objects that there are from the start.
 pub(crate) fn at_start(alloc: Global, start: &Resolved) -> Result<ObjectMap, NoMemory>
-    requires numbered { AreNumbered start.now.roots }
-    requires unmade { AreUnmade start.now.roots }
-    ensures map { IfOk result (λ m. m ≡ map_at_start start.now) }
-    ensures old { IfOk result AreOld }
+    requires { AreNumbered start.now.roots }
+    ensures { IfOk result (λ m. m ≡ map_at_start start.now) }
 {
     let rows = rows(alloc, start.roots.as_slice())?;
     Ok(ObjectMap::from_rows(rows))

@@ -1,44 +1,16 @@
 //! How requests ended, as lines at the end of a text.
-ghost use Rattle.std.specs.Prelude.{◌≡◌, ◌++◌, OnOk, map};
-ghost use Rattle.fab_plain.specs.Evaluation.{ending_words, outcome_line, outcomes_text, result_text, spaced, stop_text};
-ghost use Rattle.fab_forms.specs.Numbered.{AreNumbered};
-ghost use Rattle.fab_requests.specs.Turns.{ending_of};
+ghost use Rattle.std.specs.Prelude.{◌≡◌, ◌++◌, OnOk};
+ghost use Rattle.fab_language.specs.Evaluation.{ending_words, outcome_line, outcomes_text};
+ghost use Rattle.fab_language.specs.Words.{spaced};
+ghost use Rattle.fab_lines.specs.Numbered.{AreNumbered};
 
-use fab_base::{NoMemory, Seq, Stop, Value};
-use fab_forms::{node_name, put_name, put_value, put_word};
-use fab_plain::resolved::{Request, Resolved};
-use fab_requests::Ending;
+use fab_base::{NoMemory, Seq};
+use fab_language::Ending;
+use fab_lines::{node_name, put_result, put_word, stop_word};
+use fab_tree::resolved::{Request, Resolved};
 use std::alloc::Global;
 
-/// A limit that was met.
-fn stop_text(stop: Stop) -> &'static str
-    ensures { result.now ≡ stop_text stop }
-{
-    match stop {
-        Stop::Fuel => "fuel",
-        Stop::Depth => "depth",
-        Stop::Reads => "reads",
-        Stop::Writes => "writes",
-    }
-}
-
-/// A value, or `none`.
-fn put_result(
-    alloc: Global,
-    out: &mut Seq<u8>,
-    start: &Resolved,
-    value: Option<Value>,
-) -> Result<(), NoMemory>
-    requires { AreNumbered start.now.roots }
-    ensures { OnOk result (out.new ≡ out.old ++ result_text start.now value) }
-{
-    match value {
-        Some(value) => put_value(alloc, out, start, value),
-        None => out.extend(b"none"),
-    }
-}
-
-/// How a request ended, each word behind a space.
+/// How a request ended, each word behind a space. Want of an object has no words.
 fn put_ending(
     alloc: Global,
     out: &mut Seq<u8>,
@@ -46,7 +18,7 @@ fn put_ending(
     ending: Ending,
 ) -> Result<(), NoMemory>
     requires { AreNumbered start.now.roots }
-    ensures { OnOk result (out.new ≡ out.old ++ spaced (ending_words start.now (ending_of ending))) }
+    ensures { OnOk result (out.new ≡ out.old ++ spaced (ending_words start.now ending)) }
 {
     match ending {
         Ending::Ended(value) => {
@@ -57,13 +29,9 @@ fn put_ending(
         Ending::Failed => put_word(out, "failed"),
         Ending::Stopped(stop) => {
             put_word(out, "stopped")?;
-            put_word(out, stop_text(stop))
+            put_word(out, stop_word(stop))
         }
-        Ending::Missing { oid, .. } => {
-            put_word(out, "missing")?;
-            out.push(b' ')?;
-            put_name(out, start, oid)
-        }
+        Ending::Missing { .. } => Ok(()),
     }
 }
 
@@ -76,7 +44,7 @@ fn put_outcome(
     ending: Ending,
 ) -> Result<(), NoMemory>
     requires { AreNumbered start.now.roots }
-    ensures { OnOk result (out.new ≡ out.old ++ outcome_line start.now request.now (ending_of ending)) }
+    ensures { OnOk result (out.new ≡ out.old ++ outcome_line start.now request.now ending) }
 {
     let number = request.number;
     let number = format!(in alloc; "{number}")?;
@@ -96,7 +64,7 @@ pub(crate) fn put_outcomes(
     endings: &[Ending],
 ) -> Result<(), NoMemory>
     requires { AreNumbered start.now.roots }
-    ensures { OnOk result (out.new ≡ out.old ++ outcomes_text start.now requests.now (map ending_of endings.now)) }
+    ensures { OnOk result (out.new ≡ out.old ++ outcomes_text start.now requests.now endings.now) }
 {
     let mut rest = requests;
     let mut others = endings;

@@ -1,4 +1,4 @@
-ghost use Rattle.std.specs.Prelude.{◌<◌, ◌≤◌, ◌^◌, ◌↔◌, length, slice_get, IsTrue, IfSome};
+ghost use Rattle.std.specs.Prelude.{◌≡◌, ◌<◌, ◌≤◌, ◌^◌, ◌↔◌, length, slice_get, IsTrue, IfSome};
 ghost use Rattle.fab_base.specs.Labels.{FlowsConf, FlowsInteg, Flows, DeclassifyOk, EndorseOk, IsFirstCover};
 
 use crate::policies::{are_covered, are_covered_with, first_cover};
@@ -42,13 +42,24 @@ pub fn endorse_ok(acts: &Acts, a: &Label, b: &Label, authority: u64) -> bool
         && are_covered_with(acts, b.integ.as_slice(), a.integ.as_slice(), authority)
 }
 
+/// A place as a number of 32 bits.
+fn narrow(place: Option<usize>) -> Option<u32>
+    requires { IfSome place (λ k. k < 2 ^ 32) }
+    ensures { result ≡ place }
+{
+    match place {
+        Some(k) => Some(k as u32),
+        None => None,
+    }
+}
+
 /// The first confidentiality policy of b that covers policy i of a.
 pub fn cover_conf(acts: &Acts, a: &Label, b: &Label, i: u32) -> Option<u32>
     requires within { i < length a.now.conf }
     requires countable { length b.now.conf ≤ 2 ^ 32 }
     ensures first { IfSome (slice_get a.now.conf i) (λ policy. IsFirstCover acts.now b.now.conf policy result) }
 {
-    first_cover(acts, b.conf.as_slice(), &a.conf.as_slice()[i as usize])
+    narrow(first_cover(acts, b.conf.as_slice(), &a.conf.as_slice()[i as usize]))
 }
 
 /// The first integrity policy of a that covers policy j of b.
@@ -57,5 +68,5 @@ pub fn cover_integ(acts: &Acts, a: &Label, b: &Label, j: u32) -> Option<u32>
     requires countable { length a.now.integ ≤ 2 ^ 32 }
     ensures first { IfSome (slice_get b.now.integ j) (λ policy. IsFirstCover acts.now a.now.integ policy result) }
 {
-    first_cover(acts, a.integ.as_slice(), &b.integ.as_slice()[j as usize])
+    narrow(first_cover(acts, a.integ.as_slice(), &b.integ.as_slice()[j as usize]))
 }

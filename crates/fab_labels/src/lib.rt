@@ -8,4 +8,5 @@ mod policies;
 mod tests;
 
 pub use flow::{cover_conf, cover_integ, declass_ok, endorse_ok, flows, flows_conf, flows_integ};
-pub use laws::{confidentiality_laws, flow_laws};
+pub use laws::{confidentiality_laws, cover_laws, flow_laws};
+pub use policies::first_cover;

@@ -1,6 +1,6 @@
 //! Policies that cover policies.
 
-ghost use Rattle.std.specs.Prelude.{◌≡◌, ℕ, ◌<◌, ◌≤◌, ◌^◌, ◌↔◌, ◌⊎◌, ◌∷◌, length, IsTrue, IsBitSet, Any, All};
+ghost use Rattle.std.specs.Prelude.{◌≡◌, ℕ, ◌<◌, ◌≤◌, ◌^◌, ◌↔◌, ◌⊎◌, ◌∷◌, length, IfSome, IsTrue, IsBitSet, Any, All};
 ghost use Rattle.fab_base.specs.Principals.{ActsFor};
 ghost use Rattle.fab_base.specs.Labels.{ActsForOne, Covers, IsFirstCover};
 ghost use Rattle.fab_labels.specs.Covered.{HasAuthority};
@@ -107,14 +107,14 @@ pub fn are_covered_with(acts: &Acts, policies: &[Policy], by: &[Policy], set: u6
     true
 }
 
-/// The place of the first policy that covers the other.
-pub fn first_cover(acts: &Acts, by: &[Policy], i: &Policy) -> Option<u32>
-    requires { length by.now ≤ 2 ^ 32 }
-    ensures { IsFirstCover acts.now by.now i.now result }
+/// The place of the first of these policies that covers another.
+pub fn first_cover(acts: &Acts, by: &[Policy], i: &Policy) -> Option<usize>
+    ensures first { IsFirstCover acts.now by.now i.now result }
+    ensures within { IfSome result (λ k. k < length by.now) }
 {
     for (k, j) in by.iter().enumerate() {
         if covers(acts, j, i) {
-            return Some(k as u32);
+            return Some(k);
         }
     }
     None

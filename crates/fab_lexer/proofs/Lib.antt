@@ -1,5 +1,6 @@
 mod CutExamples
 mod MarkExamples
+pub mod FirstLemmas
 pub mod Lexing
 pub mod PieceLemmas
 pub mod QuotedLemmas

@@ -1,6 +1,6 @@
 //! The tokens of a text.
-ghost use Rattle.std.specs.Prelude.{◌≡◌, ◌<◌, ◌≤◌, ◌^◌, ◌-◌, length, List, IfOk, IfErr};
-ghost use Rattle.std.specs.List.{AllPass};
+ghost use Rattle.std.specs.Prelude.{◌≡◌, ◌<◌, ◌≤◌, ◌^◌, ◌-◌, nat_eq, length, List, IfOk, IfErr, codes};
+ghost use Rattle.std.specs.List.{AllPass, starts_with};
 ghost use Rattle.fab_base.specs.Tokens.{Lexes, front_at, is_word_byte, line_len, sign_at, sign_piece, spelled, word_at, word_kind};
 ghost use Rattle.fab_base.specs.declared.token.Token.{Token as TokenTree};
 ghost use Rattle.fab_lexer.specs.Cuts.{CutError};
@@ -30,6 +30,13 @@ fn word_len(bytes: &[u8]) -> usize
     bytes.iter().take_while(|byte| is_of_word(**byte)).count()
 }
 
+/// Whether a comment begins here.
+fn starts_comment(bytes: &[u8]) -> bool
+    ensures { result ≡ starts_with nat_eq bytes.now (codes "//") }
+{
+    matches!(bytes, [b'/', b'/', ..])
+}
+
 /// How many bytes there are before the next line feed, or the end.
 fn line_end(bytes: &[u8]) -> usize
     ensures { result ≡ line_len bytes.now }
@@ -45,7 +52,7 @@ fn piece_before(alloc: Global, bytes: &[u8]) -> Result<Front, NoMemory>
     if is_blank(bytes[0]) {
         return Ok(Front::Stands(Piece::Blank { len: 1 }));
     }
-    if bytes.starts_with(b"//") {
+    if starts_comment(bytes) {
         return Ok(Front::Stands(Piece::Blank {
             len: line_end(bytes),
         }));

@@ -53,11 +53,11 @@ pub placed_by_derived : (rows : FlatMap) → ascends rows ≡ true → (o : Oid)
 placed_by_derived rows h o r bound by = placed rows h o r bound (subst (λ R. IsBinarySearchResult (λ row. R row.0 o) rows r) {y = name_cmp} (λ i p q. derived_is p q i) by)
 
 -- ---- a name that is there
-at_tail : (row : Oid × Object) (rows : FlatMap) (o : Oid) (i : ℕ) → IsAt (row ∷ rows) o (suc i) → IsAt rows o i
+pub at_tail : (row : Oid × Object) (rows : FlatMap) (o : Oid) (i : ℕ) → IsAt (row ∷ rows) o (suc i) → IsAt rows o i
 at_tail row rows o i at = record { in_range = omega (arith, at.in_range); name = at.name }
 
 -- the first row is before one behind it
-first_before : (row : Oid × Object) (rows : FlatMap) (o : Oid) (i : ℕ) → ascends (row ∷ rows) ≡ true → IsAt (row ∷ rows) o (suc i) → is_before row.0 o ≡ true
+pub first_before : (row : Oid × Object) (rows : FlatMap) (o : Oid) (i : ℕ) → ascends (row ∷ rows) ≡ true → IsAt (row ∷ rows) o (suc i) → is_before row.0 o ≡ true
 first_before row rows o i h at =
     ap (is_before row.0) (sym (at.name row))
     ∙ leads_all row.0 rows (ascends_rest row rows h) (ascends_leads row rows h) i row (omega (arith, at.in_range))

@@ -1,4 +1,5 @@
 pub mod Bytes
+pub mod Changing
 pub mod Found
 pub mod Made
 pub mod Order

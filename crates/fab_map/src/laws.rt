@@ -1,5 +1,5 @@
 //! Laws of the flat map.
-ghost use Rattle.std.specs.Prelude.{◌≡◌, ◌≢◌, ◌↔◌, ◌⊎◌, List, Some, true, false};
+ghost use Rattle.std.specs.Prelude.{◌≡◌, ◌≢◌, ◌↔◌, ◌⊎◌, ℕ, List, Some, None, true, false, unwrap_or};
 ghost use Rattle.std.specs.List.{IsDistinct};
 ghost use Rattle.std.specs.List.Sorted.{IsPermutation};
 ghost use Rattle.std.specs.Map.{keys_of};
@@ -7,8 +7,10 @@ ghost use Rattle.std.specs.declared.cmp.Ordering.{Ordering};
 ghost use Rattle.std.specs.declared.cmp.Ordering.TheVariants.{Less, Equal};
 ghost use Rattle.fab_base.specs.declared.object.Oid.{Oid as AnyOid};
 ghost use Rattle.fab_base.specs.declared.object.Object.{Object as AnyObject};
+ghost use Rattle.fab_base.specs.declared.object.Value.{Value as AnyValue};
 ghost use Rattle.fab_base.specs.FieldSpelling.{IsOid, oid_bytes};
 ghost use Rattle.fab_base.specs.FlatMap.{FlatMap, is_before, is_same, precedes, get, put, map_of, ascends};
+ghost use Rattle.fab_map.specs.Changes.{field_in, put_field, removed};
 
 use fab_base::Oid;
 
@@ -48,4 +50,11 @@ pub fn rows_of_map()
     ensures any_order { (rows others : FlatMap) → IsPermutation rows others → IsDistinct is_same (keys_of rows) → map_of rows ≡ map_of others }
     ensures distinct { (m : FlatMap) → ascends m ≡ true → IsDistinct is_same (keys_of m) }
     ensures own { (m : FlatMap) → ascends m ≡ true → map_of m ≡ m }
+{}
+
+/// What was done to a map can be undone: an object of a new name is taken away again, and what a
+/// field held is written again.
+pub fn changes_undone()
+    ensures put { (o : AnyOid) (x : AnyObject) (m : FlatMap) → get m o ≡ None → removed o (put o x m) ≡ m }
+    ensures field { (o : AnyOid) (i : ℕ) (v d : AnyValue) (m : FlatMap) → ascends m ≡ true → put_field o i (unwrap_or (field_in i (get m o)) d) (put_field o i v m) ≡ m }
 {}

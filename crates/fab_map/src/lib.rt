@@ -6,5 +6,7 @@ mod map;
 #[cfg(test)]
 mod tests;
 
-pub use laws::{ascending_rows, found_after_put, names_compared, names_in_order, rows_of_map};
+pub use laws::{
+    ascending_rows, changes_undone, found_after_put, names_compared, names_in_order, rows_of_map,
+};
 pub use map::ObjectMap;

@@ -1,3 +1,0 @@
-pub mod KeptRules
-pub mod Names
-pub mod RootTable

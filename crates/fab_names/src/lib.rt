@@ -1,15 +1,8 @@
-//! The rules of names, and which number each name has.
+//! Bundles with numbers for names, or the first fault of their names and types.
 #![tactic(auto)]
 
-mod declared;
-mod named;
-mod numbered;
-mod numbers;
+mod error;
 mod resolution;
-mod rules;
-mod types;
 
-pub use declared::Declared;
-pub use named::{Named, are_distinct, copied, first_named, is_named, number_of};
-pub use numbers::use_of;
-pub use types::{are_same, is_known_sort};
+pub use error::NameError;
+pub use resolution::resolve;

@@ -46,6 +46,13 @@ impl Acts {
         })
     }
 
+    /// How many principals there are.
+    pub fn count(&self) -> u16
+        ensures { result ≡ self.now.count }
+    {
+        self.count
+    }
+
     /// Whether p acts for q. A number that is no principal acts for itself alone.
     pub fn acts(&self, p: u16, q: u16) -> bool
         ensures exact { IsTrue result ↔ ActsFor self.now p q }

@@ -4,7 +4,7 @@ use Rattle.std.specs.Io.KnownBytes.{Appends, IsAtEnd, Consumes}
 use Rattle.fab_base.specs.declared.limit.What.TheVariants.{Bytes}
 use Rattle.fab_words.specs.declared.command.Command.{Command}
 use Rattle.fab_top.specs.declared.status.Status.{Status}
-use Rattle.fab_top.specs.declared.status.Status.TheVariants.{Ok, Usage, ReadFault, WriteFault, Memory, Syntax, Limit, NotBuilt}
+use Rattle.fab_top.specs.declared.status.Status.TheVariants.{Ok, Usage, ReadFault, WriteFault, Memory, Syntax, Limit, Name}
 use Rattle.fab_top.specs.Front.{IsTooLong}
 use Rattle.fab_top.specs.Reply.{Replies, usage, IsReply, IsInput, unasked, read, RepliesWith, Ends, ComesTo, SpeaksOfText, line, what_word}
 use Rattle.fab_top.proofs.Fronts.{one_of_long}
@@ -63,7 +63,7 @@ module _ (command : Option Command) (l l' w w' : Option (List ℕ)) where
   exactly Memory e f = all_some l (λ text s r p. inr (inl refl))
   exactly (Syntax at) e f = with_reply e
   exactly (Limit what) e f = with_reply e
-  exactly NotBuilt e f = with_reply e
+  exactly (Name x at) e f = with_reply e
 
   speaks_not : {status : Status} → SpeaksOfText status → Limit Bytes ≡ status → ⊥
   speaks_not s e = let h = subst SpeaksOfText (sym e) s in h
@@ -91,4 +91,21 @@ module _ (command : Option Command) (l l' w w' : Option (List ℕ)) where
   read_whole Memory e s = absurd s
   read_whole (Syntax at) e s = to_end s e
   read_whole (Limit what) e s = to_end s e
-  read_whole NotBuilt e s = to_end s e
+  read_whole (Name x at) e s = to_end s e
+
+  -- where nothing is asked, `usage` comes
+  as_usage : {status : Status} → command ≡ None → RepliesWith status command l l' w w' → ComesTo status Usage w w' (line (codes "usage"))
+  as_usage {status = status} none e =
+      let r = subst (λ c. IsReply c e.text status e.reply) none e.replies in
+      let same = r.only Usage (line (codes "usage")) usage in
+      inl (sym same.0, subst (Appends w w') (sym same.1) e.all)
+
+  pub usage_comes : (status : Status) → Ends command status l l' w w' → (status ≡ ReadFault → command ≢ None) → command ≡ None → ComesTo status Usage w w' (line (codes "usage"))
+  usage_comes Ok e f none = as_usage none e
+  usage_comes Usage e f none = as_usage none e
+  usage_comes ReadFault e f none = absurd (f refl none)
+  usage_comes WriteFault e f none = inr (inr refl)
+  usage_comes Memory e f none = inr (inl refl)
+  usage_comes (Syntax at) e f none = as_usage none e
+  usage_comes (Limit what) e f none = as_usage none e
+  usage_comes (Name x at) e f none = as_usage none e

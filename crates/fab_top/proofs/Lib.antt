@@ -1,4 +1,6 @@
+pub mod Answering
 pub mod Bytes
 pub mod Endings
+pub mod Faults
 pub mod Fronts
 pub mod Replying

@@ -1,24 +1,27 @@
 -- What the program replies.
-use Rattle.std.specs.Prelude.{◌≡◌, ◌⊎◌, ℕ, ◌≤◌, List, [], ◌∷◌, ◌++◌, map, length, Option, Some, None, codes, String, string_bytes}
+use Rattle.std.specs.Prelude.{◌≡◌, ◌⊎◌, ℕ, ◌≤◌, List, [], ◌∷◌, ◌++◌, map, length, Option, Some, None, find, option_map, codes}
 use Rattle.std.specs.Fmt.{decimal}
 use Rattle.std.specs.Io.KnownBytes.{Appends, Keeps}
-use Rattle.std.specs.declared.alloc.Global.{Global}
+use Rattle.std.specs.Str.{bytes_eq}
+use Rattle.fab_base.specs.declared.label.Label.{Label}
 use Rattle.fab_base.specs.declared.limit.What.{What}
 use Rattle.fab_base.specs.declared.limit.What.TheVariants as w
 use Rattle.fab_tree.specs.declared.start.Start.{Start}
 use Rattle.fab_tree.specs.Print.{canonical}
-use Rattle.fab_plain.specs.Numbering.{resolved}
-use Rattle.fab_plain.specs.Evaluation.{evaluation_text}
-use Rattle.fab_plain.specs.declared.start.Start.{Start as PlainStart}
-use Rattle.fab_plain.specs.declared.resolved.Resolved.{Resolved}
-use Rattle.fab_plain_form.specs.Evaluated.{IsPlain}
+use Rattle.fab_language.specs.declared.rule.Fault.{Fault}
+use Rattle.fab_language.specs.declared.rule.NameRule.{NameRule}
+use Rattle.fab_language.specs.declared.rule.NameRule.TheVariants as rule
+use Rattle.fab_language.specs.Evaluation.{evaluation_text}
+use Rattle.fab_language.specs.Faults.{faults, IsFirst}
+use Rattle.fab_language.specs.Flows.{FlowReply}
+use Rattle.fab_language.specs.Numbers.{resolved}
 use Rattle.fab_top.specs.declared.front.Outcome.TheVariants as outcome
 use Rattle.fab_top.specs.Front.{Front}
 use Rattle.fab_top.specs.Reading.{ReadsText, WritesFront}
 use Rattle.fab_top.specs.declared.status.Status.{Status}
-use Rattle.fab_top.specs.declared.status.Status.TheVariants.{Ok, Usage, ReadFault, WriteFault, Memory, Syntax, Limit, NotBuilt}
+use Rattle.fab_top.specs.declared.status.Status.TheVariants.{Ok, Usage, ReadFault, WriteFault, Memory, Syntax, Name, Limit}
 use Rattle.fab_words.specs.declared.command.Command.{Command}
-use Rattle.fab_words.specs.declared.command.Command.TheVariants.{Evaluate, Format}
+use Rattle.fab_words.specs.declared.command.Command.TheVariants.{Evaluate, Flows, Format}
 
 -- a line of a text
 abbrev pub line : List ℕ → List ℕ
@@ -43,19 +46,32 @@ what_word w.Crashes = codes "crashes"
 what_word w.Events = codes "events"
 what_word w.Cache = codes "cache"
 
--- the form that is evaluated so far, of a text of at most 1,000,000 bytes
-abbrev pub IsEvaluable : List ℕ → Start → PlainStart → Type 0
-IsEvaluable text s p = (length text ≤ 1000000) × IsPlain s p
+abbrev pub rule_word : NameRule → List ℕ
+rule_word rule.Unknown = codes "unknown"
+rule_word rule.Doubled = codes "doubled"
+rule_word rule.Node = codes "node"
+rule_word rule.Arity = codes "arity"
+rule_word rule.Typing = codes "type"
 
--- what a text with this bundle is evaluated as, with numbers for names
-abbrev pub IsEvaluableAs : List ℕ → Start → Resolved → Type 0
-IsEvaluableAs text s r = (p : PlainStart) × IsEvaluable text s p × (r ≡ resolved p)
+-- the line of a name that is refused at a place
+abbrev pub name_line : NameRule → ℕ → List ℕ
+name_line x at = line (codes "name " ++ rule_word x ++ codes " at " ++ decimal at)
 
--- a text with this bundle isn't evaluated
-abbrev pub IsNotEvaluable : List ℕ → Start → Type 0
-IsNotEvaluable text s = (p : PlainStart) → IsEvaluable text s p → ⊥
+-- every command but `fmt` asks for the rules of names and types
+abbrev pub AsksNames : Command → Type 0
+AsksNames Evaluate = Unit {0}
+AsksNames (Flows a b) = Unit {0}
+AsksNames Format = ⊥
 
--- Replies command text status written: the status, and what is written, for what is asked and the text that there was. A refusal of the text is the same for every command.
+-- the label of a word of the command line
+abbrev pub label_of : Start → List ℕ → Option Label
+label_of s word = option_map (λ x. x.label) (find (λ x. bytes_eq x.name.text word) (resolved s).labels)
+
+-- one of two words is no label
+abbrev pub LacksLabel : Start → List ℕ → List ℕ → Type 0
+LacksLabel s a b = (label_of s a ≡ None) ⊎ (label_of s b ≡ None)
+
+-- Replies command text status written: the status, and what is written, for what is asked and the text that there was. A refusal of the text is the same for every command, and so is one of its names for every command that asks for them.
 pub data Replies : Option Command → List ℕ → Status → List ℕ → Type 0 where
   usage : {text : List ℕ} → Replies None text Usage (line (codes "usage"))
   syntax : {command : Command} {text : List ℕ} {at : ℕ}
@@ -63,11 +79,18 @@ pub data Replies : Option Command → List ℕ → Status → List ℕ → Type 
   limit : {command : Command} {text : List ℕ} {what : What}
       → Front text (outcome.Limit what) → Replies (Some command) text (Limit what) (line (codes "limit " ++ what_word what))
   formatted : {text : List ℕ} {s : Start} → Front text (outcome.Bundle s) → Replies (Some Format) text Ok (canonical s)
-  evaluated : {text : List ℕ} {s : Start} {p : PlainStart}
-      → Front text (outcome.Bundle s) → IsEvaluable text s p → Replies (Some Evaluate) text Ok (evaluation_text (resolved p))
-  not_built : {text : List ℕ} {s : Start}
-      → Front text (outcome.Bundle s) → IsNotEvaluable text s
-      → Replies (Some Evaluate) text NotBuilt (line (codes "not built"))
+  misnamed : {command : Command} {text : List ℕ} {s : Start} {x : Fault}
+      → AsksNames command → Front text (outcome.Bundle s) → IsFirst (faults s) x
+      → Replies (Some command) text (Name x.rule x.at) (name_line x.rule x.at)
+  evaluated : {text : List ℕ} {s : Start}
+      → Front text (outcome.Bundle s) → faults s ≡ [] → Replies (Some Evaluate) text Ok (evaluation_text (resolved s))
+  -- a word that is no label is refused as a name behind the text's last byte
+  unlabelled : {a b text : List ℕ} {s : Start}
+      → Front text (outcome.Bundle s) → faults s ≡ [] → LacksLabel s a b
+      → Replies (Some (Flows a b)) text (Name rule.Unknown (length text)) (name_line rule.Unknown (length text))
+  flow : {a b text reply : List ℕ} {s : Start} {from to : Label}
+      → Front text (outcome.Bundle s) → faults s ≡ [] → label_of s a ≡ Some from → label_of s b ≡ Some to
+      → FlowReply (resolved s) from to reply → Replies (Some (Flows a b)) text Ok reply
 
 -- this is the reply, and there is no other
 pub record IsReply (command : Option Command) (text : List ℕ) (status : Status) (reply : List ℕ) : Type 0 where
@@ -109,7 +132,7 @@ SpeaksOfText Ok = Unit {0}
 SpeaksOfText (Syntax at) = Unit {0}
 SpeaksOfText (Limit w.Bytes) = ⊥
 SpeaksOfText (Limit what) = Unit {0}
-SpeaksOfText NotBuilt = Unit {0}
+SpeaksOfText (Name x at) = Unit {0}
 SpeaksOfText _ = ⊥
 
 -- this status and the whole reply, or memory ran out, or the sink failed

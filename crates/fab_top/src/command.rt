@@ -1,72 +1,28 @@
 //! What the words ask for, and the reply.
-ghost use Rattle.std.specs.Prelude.{◌≡◌, ◌≢◌, ◌⊎◌, ◌≤◌, List, ℕ, Some, None as Nothing, codes, IfOk, IfSome, IsErrOf, MatchOption};
+ghost use Rattle.std.specs.Prelude.{◌≡◌, ◌≢◌, ◌⊎◌, ◌≤◌, List, ℕ, Some, None as Nothing, codes, IfOk, IfSome, IsErrOf};
 ghost use Rattle.std.specs.Io.KnownBytes.{Keeps, IsAtEnd};
 ghost use Rattle.fab_base.specs.Faults.{Rose};
 ghost use Rattle.fab_words.specs.Words.{asked_by};
-ghost use Rattle.fab_top.specs.Reply.{Replies, IsReply, IsInput, Ends, ComesTo, SpeaksOfText, RepliesInPart, IsEvaluableAs, IsNotEvaluable, line};
+ghost use Rattle.fab_top.specs.Reply.{Replies, IsReply, IsInput, Ends, ComesTo, SpeaksOfText, RepliesInPart, line};
 ghost use Rattle.fab_top.specs.Front.{IsFront};
 ghost use Rattle.fab_top.specs.Reading.{TakesAtMost};
 ghost use Rattle.fab_top.specs.declared.reading.ReadError.TheVariants.{Fault};
 ghost use Rattle.fab_top.specs.declared.status.Status.{Status as AnyStatus};
 ghost use Rattle.fab_top.specs.declared.status.Status.TheVariants.{Usage, ReadFault, WriteFault, Memory};
 
+use crate::answers::{evaluate, flows, format};
 use crate::front::{Outcome, front};
 use crate::lines::{limit_line, syntax_line};
 use crate::reading::{ReadError, read_all};
 use crate::status::Status;
 use crate::writing::write_all;
 use fab_base::{NoMemory, Seq, Sink, SinkError, Source};
-use fab_evaluation::evaluation;
-use fab_plain::Resolved;
-use fab_plain_form::evaluated;
-use fab_print::print_start;
-use fab_tree::Start;
 use fab_words::{Command, asked_command};
 use std::alloc::Global;
 
-/// The most bytes of a text whose bundle is evaluated.
-const EVALUATED: usize = 1_000_000;
-
-/// The bundle of a text with numbers for names, if it is of the form that is evaluated.
-fn evaluable(alloc: Global, text: &[u8], start: Start) -> Result<Option<Resolved>, NoMemory>
-    ensures { IfOk result (λ found. MatchOption found (IsNotEvaluable text.now start) (λ r. IsEvaluableAs text.now start r)) }
-{
-    if text.len() > EVALUATED {
-        return Ok(None);
-    }
-    evaluated(alloc, start)
-}
-
-/// What `eval` replies to a text with this bundle.
-fn evaluate(alloc: Global, text: &[u8], start: Start) -> Result<(Status, Seq<u8>), NoMemory>
-    requires { IsFront text.now (Outcome.Bundle start) }
-    ensures { IfOk result (λ r. IsReply (Some Command.Evaluate) text.now r.0 r.1) }
-{
-    match evaluable(alloc, text, start)? {
-        Some(resolved) => {
-            let reply = evaluation(alloc, resolved)?;
-            Ok((Status::Ok, reply))
-        }
-        None => {
-            let reply = Seq::from_slice(alloc, b"not built\n")?;
-            Ok((Status::NotBuilt, reply))
-        }
-    }
-}
-
-/// What `fmt` replies to a text with this bundle.
-fn format(alloc: Global, text: &[u8], start: &Start) -> Result<(Status, Seq<u8>), NoMemory>
-    requires { IsFront text.now (Outcome.Bundle start.now) }
-    ensures { IfOk result (λ r. IsReply (Some Command.Format) text.now r.0 r.1) }
-{
-    let _text = text;
-    let reply = print_start(alloc, start)?;
-    Ok((Status::Ok, reply))
-}
-
 /// What a command replies to a text.
-fn replied(alloc: Global, command: Command, text: &[u8]) -> Result<(Status, Seq<u8>), NoMemory>
-    ensures { IfOk result (λ r. IsReply (Some command) text.now r.0 r.1) }
+fn replied(alloc: Global, command: &Command, text: &[u8]) -> Result<(Status, Seq<u8>), NoMemory>
+    ensures { IfOk result (λ r. IsReply (Some command.now) text.now r.0 r.1) }
 {
     match front(alloc, text)? {
         Outcome::Syntax { at } => {
@@ -78,7 +34,8 @@ fn replied(alloc: Global, command: Command, text: &[u8]) -> Result<(Status, Seq<
             Ok((Status::Limit { what }, reply))
         }
         Outcome::Bundle(start) => match command {
-            Command::Evaluate => evaluate(alloc, text, start),
+            Command::Evaluate => evaluate(alloc, text, &start),
+            Command::Flows { from, to } => flows(alloc, text, &start, from, to),
             Command::Format => format(alloc, text, &start),
         },
     }
@@ -101,7 +58,7 @@ fn reply<S: Source>(
         None => Ok((Status::Usage, Seq::from_slice(alloc, b"usage\n")?)),
         Some(command) => {
             let text = read_all(alloc, source)?;
-            Ok(replied(alloc, command, &text)?)
+            Ok(replied(alloc, &command, &text)?)
         }
     }
 }
@@ -132,9 +89,10 @@ fn run<S: Source, K: Sink>(alloc: Global, words: &[String], source: &mut S, sink
 
 /// Does what the words ask for, and says how it ended.
 ///
-/// `eval` asks for the evaluation of the bundle that the source has, `fmt` for its canonical text.
-/// A text has at most 4,194,304 bytes, and one that is evaluated 1,000,000. Of what the source has
-/// left and the sink holds, the clauses speak where these tell it.
+/// `eval` asks for the evaluation of the bundle that the source has, `flows A B` whether its label A
+/// flows to its label B, with the reasons, `fmt` for its canonical text. A text has at most
+/// 4,194,304 bytes. Of what the source has left and the sink holds, the clauses speak where these
+/// tell it.
 pub fn fab<S: Source, K: Sink>(
     alloc: Global,
     words: &[String],

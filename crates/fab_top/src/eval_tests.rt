@@ -12,15 +12,6 @@ fn gives(rt: &impl Abort, alloc: Global, text: &str, lines: &str) -> Result<(), 
     expect(rt, alloc, "eval", text.as_bytes(), Status::Ok, lines)
 }
 
-/// Each line of a table is a text that isn't evaluated.
-fn refused(rt: &impl Abort, alloc: Global, table: &str) -> Result<(), NoMemory> {
-    for text in table.lines() {
-        let status = Status::NotBuilt;
-        expect(rt, alloc, "eval", text.as_bytes(), status, "not built\n")?;
-    }
-    Ok(())
-}
-
 /// A principal, a worker, a store, a label and two classes, and then these methods and this run.
 fn bundle(alloc: Global, methods: &str, run: &str) -> Result<String, NoMemory> {
     let mut text = String::from_str(alloc, "principal p;worker w1;store s1;label L={};")?;
@@ -139,128 +130,72 @@ fn requests_in_a_row(rt: HostRuntime) -> Result<(), Fail> {
     Ok(())
 }
 
-/// A text of 1,000,000 bytes is evaluated, and one of a byte more isn't.
+/// What the methods of a bundle give, one request after the other, each without arguments.
+fn ends(
+    rt: &impl Abort,
+    alloc: Global,
+    methods: &str,
+    requests: &str,
+    lines: &str,
+) -> Result<(), NoMemory> {
+    let run = format!(in alloc; "session w1{{{requests}}}")?;
+    let text = bundle(alloc, methods, run.as_str())?;
+    let lines = format!(in alloc; "{lines}end\n")?;
+    gives(rt, alloc, text.as_str(), lines.as_str())
+}
+
+/// The corners of arithmetic, and a failure that is caught.
 #[test]
-fn bytes(rt: HostRuntime) -> Result<(), Fail> {
-    let alloc = rt.alloc();
-    let mut text = Vec::from_slice(alloc, b"worker w1;store s1;run{}")?;
-    text.resize(1_000_000, b'\n')?;
-    expect(&rt, alloc, "eval", &text, Status::Ok, "end\n")?;
-    text.push(b'\n')?;
-    expect(&rt, alloc, "eval", &text, Status::NotBuilt, "not built\n")?;
-    let printed = "worker w1;\nstore s1;\nrun {\n}\n";
-    expect(&rt, alloc, "fmt", &text, Status::Ok, printed)?;
+fn arithmetic(rt: HostRuntime) -> Result<(), Fail> {
+    let methods = "method a()returns int:L begin L fails{return -2147483648/-1;}\
+        method b()returns int:L begin L fails{return 2147483647+1;}\
+        method c()returns int:L begin L fails{return 1/0;}\
+        method d()returns int:L begin L fails{return -7/2;}\
+        method e()returns int:L begin L{int x:L=1;atomic L{x=5/0;}else{x=2;}return x;}\
+        method f()returns int:L begin L{return (6|1)*(7&3)-!0;}";
+    let lines = "outcome w1 1 ended -2147483648\noutcome w1 2 ended -2147483648\n\
+        outcome w1 3 failed\noutcome w1 4 ended -3\noutcome w1 5 ended 2\noutcome w1 6 ended 20\n";
+    ends(&rt, rt.alloc(), methods, "a();b();c();d();e();f();", lines)?;
     Ok(())
 }
 
-/// A quotient isn't evaluated, not even where the divisor is 1.
-const DIVISION: &str = "principal Bank;
-worker w1;
-store s1;
-w1 actsfor Bank;
-s1 actsfor Bank;
-label T = {Bank ->; Bank <-};
-class Account label T access T { int balance; }
-method transfer(Account a : T, Account b : T, int n : T) begin T fails {
-  a.balance = a.balance - n / 1;
-  b.balance = b.balance + n;
-}
-run {
-  root a : Account @ s1 (100);
-  root b : Account @ s1 (0);
-  session w1 {
-    transfer(a, b, 5);
-  }
-}
-";
-
+/// Fuel and depth to the last.
 #[test]
-fn a_division(rt: HostRuntime) -> Result<(), Fail> {
-    let text = DIVISION.as_bytes();
-    let status = Status::NotBuilt;
-    expect(&rt, rt.alloc(), "eval", text, status, "not built\n")?;
-    let status = Status::Ok;
-    expect(&rt, rt.alloc(), "fmt", text, status, DIVISION)?;
+fn limits_of_a_run(rt: HostRuntime) -> Result<(), Fail> {
+    let methods = "method burn(int n:L)begin L{int i:L=0;while(i<n){i=i+1;}}\
+        method more(int n:L)begin L{int i:L=0;while(i<n){i=i+1;}i=0;}\
+        method r(int n:L)begin L{if(n){r(n-1);}}";
+    let lines = "outcome w1 1 ended none\noutcome w1 2 stopped fuel\n\
+        outcome w1 3 ended none\noutcome w1 4 stopped depth\n";
+    ends(
+        &rt,
+        rt.alloc(),
+        methods,
+        "burn(499999);more(499999);r(63);r(64);",
+        lines,
+    )?;
     Ok(())
 }
 
-const OTHER_RUNS: &str = "run{}\n\
-    worker w;run{}\n\
-    store s;run{}\n\
-    worker w;worker v;store s;run{}\n\
-    worker w;store s;store t;run{}\n\
-    worker w;hostile store s;run{}\n\
-    hostile worker w;store s;run{}\n\
-    worker w;store s;label L={};class C label L access L{C c;}run{}\n\
-    worker w;store s;method m()begin w{}run{}\n\
-    worker w;store s;label L={};label L={};run{}\n\
-    worker w;store s;label L={A->};run{}\n\
-    worker w;store s;A actsfor w;run{}\n\
-    worker w;store w;run{}\n\
-    worker w;store s;run{root r:C@s();}\n\
-    worker w;store s;label L={};class C label L access L{}run{root r:C@w();}\n\
-    worker w;store s;label L={};class C label L access L{}run{root r:C@s(1);}\n\
-    worker w;store s;label L={};class C label L access L{int f;}run{root r:C@s(null);}\n\
-    worker w;store s;run{session w{}session w{}}\n\
-    worker w;store s;run{session s{}}\n\
-    worker w;store s;run{session w{m();}}\n\
-    worker w;store s;label L={};method m(int x:L)begin L{}run{session w{m();}}\n\
-    worker w;store s;label L={};class C label L access L{}method m(C x:L)begin L{}\
-    run{session w{m(null);}}\n\
-    worker w;store s;run{post w->s\"\";}\n\
-    worker w;store s;run{crash w after 1;}\n\
-    worker w;store s;run{cache 1;}\n\
-    worker w;store s;run{schedule{begin w;}}";
-
+/// New objects: their names, what a failed block takes back, and null that is reached.
 #[test]
-fn other_runs(rt: HostRuntime) -> Result<(), Fail> {
-    refused(&rt, rt.alloc(), OTHER_RUNS)?;
+fn objects(rt: HostRuntime) -> Result<(), Fail> {
+    let methods = "method m()returns B:L begin L fails{B b:L=null;\
+        atomic L{b=new B@s1(1);fail;}else{b=new B@s1(2);}b.k=b.k+1;return b;}\
+        method n()begin L fails{B b:L=null;b.k=1;}";
+    let lines = "outcome w1 1 ended #000100010000000000010000000100010000\noutcome w1 2 failed\n\
+        object s1 #000100010000000000010000000100010000 B 3\n";
+    ends(&rt, rt.alloc(), methods, "m();n();", lines)?;
     Ok(())
 }
 
-const OTHER_BODIES: &str = "a.m=n*2;\n\
-    a.m=n/1;\n\
-    a.m=n&1;\n\
-    a.m=n|1;\n\
-    a.m=!n;\n\
-    a=null;\n\
-    m(a,b,n);\n\
-    n=m(a,b,n);\n\
-    a=new A@s1(1,2);\n\
-    a.m=1;n=declassify(n,L to L);\n\
-    n=endorse(n,L to L);\n\
-    while(n){}\n\
-    atomic L{}else{}\n\
-    fail;\n\
-    return n;\n\
-    if(n){}else{fail;}\n\
-    x=1;\n\
-    a.m=x;\n\
-    a.m=a.k;\n\
-    int a:L=1;\n\
-    if(n){int t:L=1;}a.m=t;\n\
-    int t:M=1;\n\
-    C c:L=a;\n\
-    B c:L=a;\n\
-    n=a;\n\
-    a.m=a<b;\n\
-    a.m=n==a;\n\
-    if(a){}";
-
-/// The empty body is evaluated; `leaves` has it.
+/// Sessions run in the order of their workers, and objects lie at hostile stores, too.
 #[test]
-fn other_bodies(rt: HostRuntime) -> Result<(), Fail> {
-    let alloc = rt.alloc();
-    for body in OTHER_BODIES.lines() {
-        let method = format!(in alloc; "method m(A a:L,A b:L,int n:L)begin L fails{{{body}}}")?;
-        let text = bundle(alloc, method.as_str(), "")?;
-        refused(&rt, alloc, text.as_str())?;
-    }
-    let text = bundle(alloc, "method m()returns int:L begin L{return 1;}", "")?;
-    refused(&rt, alloc, text.as_str())?;
-    let text = bundle(alloc, "method m()begin L authority p{}", "")?;
-    refused(&rt, alloc, text.as_str())?;
-    let text = bundle(alloc, "method m()begin L{}method m()begin L{}", "")?;
-    refused(&rt, alloc, text.as_str())?;
+fn sessions(rt: HostRuntime) -> Result<(), Fail> {
+    let text = "worker v;worker w;hostile store h;label L={};class C label L access L{int n;}\
+        method m(C c:L,int n:L)begin L fails{c.n=c.n*2+n;}\
+        run{root c:C@h(1);session w{m(c,5);}session v{m(c,3);}}";
+    let lines = "outcome v 1 ended none\noutcome w 1 ended none\nobject h c C 15\nend\n";
+    gives(&rt, rt.alloc(), text, lines)?;
     Ok(())
 }

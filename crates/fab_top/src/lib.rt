@@ -1,13 +1,18 @@
 //! The top call: what the program does with its words, its input and its output.
 #![tactic(auto)]
 
+mod answers;
 mod command;
 #[cfg(test)]
 mod eval_tests;
+#[cfg(test)]
+mod flow_tests;
 mod front;
 #[cfg(test)]
 mod limit_tests;
 mod lines;
+#[cfg(test)]
+mod name_tests;
 #[cfg(test)]
 mod print_tests;
 mod reading;

@@ -1,9 +1,10 @@
 //! The lines of refusals.
 ghost use Rattle.std.specs.Prelude.{◌≡◌, ◌++◌, IfOk, codes};
 ghost use Rattle.std.specs.Fmt.{decimal};
-ghost use Rattle.fab_top.specs.Reply.{line, what_word as word_of};
+ghost use Rattle.fab_top.specs.Reply.{line, name_line, rule_word as rule_word_of, what_word as word_of};
 
 use fab_base::{NoMemory, Seq, What};
+use fab_language::NameRule;
 use std::alloc::Global;
 
 /// The word of what has a limit.
@@ -46,6 +47,32 @@ pub(crate) fn syntax_line(alloc: Global, at: u32) -> Result<Seq<u8>, NoMemory>
     ensures { IfOk result (λ out. out ≡ line (codes "syntax at " ++ decimal at)) }
 {
     let mut out = Seq::from_slice(alloc, b"syntax at ")?;
+    let digits = format!(in alloc; "{at}")?;
+    out.extend(digits.as_str().as_bytes())?;
+    out.push(b'\n')?;
+    Ok(out)
+}
+
+/// The word of a rule of names and types.
+fn rule_word(rule: NameRule) -> &'static str
+    ensures { result.now ≡ rule_word_of rule }
+{
+    match rule {
+        NameRule::Unknown => "unknown",
+        NameRule::Doubled => "doubled",
+        NameRule::Node => "node",
+        NameRule::Arity => "arity",
+        NameRule::Typing => "type",
+    }
+}
+
+/// `name`, the rule that is broken, `at` and the place.
+pub(crate) fn name_line(alloc: Global, rule: NameRule, at: u32) -> Result<Seq<u8>, NoMemory>
+    ensures { IfOk result (λ out. out ≡ name_line rule at) }
+{
+    let mut out = Seq::from_slice(alloc, b"name ")?;
+    out.extend(rule_word(rule).as_bytes())?;
+    out.extend(b" at ")?;
     let digits = format!(in alloc; "{at}")?;
     out.extend(digits.as_str().as_bytes())?;
     out.push(b'\n')?;

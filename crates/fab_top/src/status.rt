@@ -1,9 +1,11 @@
 //! How a run of the program ended.
 ghost use Rattle.std.specs.Prelude.{◌≡◌, ℕ};
 ghost use Rattle.fab_base.specs.declared.limit.What.{What as WhatHasALimit};
+ghost use Rattle.fab_language.specs.declared.rule.NameRule.{NameRule as Rule};
 ghost use Rattle.fab_top.specs.declared.status.Status.TheVariants as status;
 
 use fab_base::What;
+use fab_language::NameRule;
 
 /// How a run of the program ended.
 #[derive(Clone, Copy, Debug, PartialEq, Eq)]
@@ -21,10 +23,10 @@ pub enum Status {
     /// The text isn't of the language. `at` is the place of the first byte or token that doesn't
     /// fit, or the text's length.
     Syntax { at: u32 },
+    /// The bundle breaks a rule of names and types, first at this place.
+    Name { rule: NameRule, at: u32 },
     /// The bundle has too many of something.
     Limit { what: What },
-    /// The bundle isn't of the form that is evaluated so far.
-    NotBuilt,
 }
 
 impl Status {
@@ -36,8 +38,8 @@ impl Status {
         ensures write_fault { self ≡ status.WriteFault → result ≡ 3 }
         ensures memory { self ≡ status.Memory → result ≡ 4 }
         ensures syntax { (at : ℕ) → self ≡ status.Syntax at → result ≡ 5 }
+        ensures name { (rule : Rule) (at : ℕ) → self ≡ status.Name rule at → result ≡ 6 }
         ensures limit { (what : WhatHasALimit) → self ≡ status.Limit what → result ≡ 8 }
-        ensures not_built { self ≡ status.NotBuilt → result ≡ 11 }
     {
         match self {
             Status::Ok => 0,
@@ -46,8 +48,8 @@ impl Status {
             Status::WriteFault => 3,
             Status::Memory => 4,
             Status::Syntax { .. } => 5,
+            Status::Name { .. } => 6,
             Status::Limit { .. } => 8,
-            Status::NotBuilt => 11,
         }
     }
 }

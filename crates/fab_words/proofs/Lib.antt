@@ -1,3 +1,4 @@
 mod Answering
 mod Found
+mod NameLemmas
 mod Taken

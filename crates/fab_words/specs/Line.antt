@@ -1,10 +1,10 @@
 -- The command line of which `clap` is told, and what its matches ask for.
-use Rattle.std.specs.Prelude.{ℕ, ◌==◌, Bool, true, false, List, [], ◌∷◌, Option, Some, None, is_some, if◌then◌else◌, codes, option_and_then}
+use Rattle.std.specs.Prelude.{ℕ, ◌==◌, Bool, true, false, List, [], ◌∷◌, Option, Some, unwrap_or, codes, option_and_then}
 use Rattle.clap.specs.Words.{App, Row, Rule, all_of, first_of, new_app, new_rule, with_rule}
 use Rattle.clap.specs.Simple.{on_top}
 use Rattle.clap.specs.declared.builder.action.ArgAction.TheVariants.{Append, Set}
 use Rattle.fab_words.specs.declared.command.Command.{Command}
-use Rattle.fab_words.specs.Words.{command_of}
+use Rattle.fab_words.specs.Words.{asked}
 
 -- a command's word, which must be there
 abbrev pub command_rule : Rule
@@ -30,6 +30,6 @@ abbrev pub begins_with_dash : List ℕ → Bool
 begins_with_dash [] = false
 begins_with_dash (b ∷ bs) = b == 45
 
--- the command of matches, which takes no operands
+-- the command of matches
 abbrev pub asked_in : List Row → Option Command
-asked_in rows = option_and_then (λ word. if is_some (all_of (codes "operands") rows) then None else command_of word) (first_of (codes "command") rows)
+asked_in rows = option_and_then (λ word. asked (word ∷ unwrap_or (all_of (codes "operands") rows) [])) (first_of (codes "command") rows)

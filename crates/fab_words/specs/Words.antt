@@ -1,19 +1,26 @@
 -- What words ask for.
-use Rattle.std.specs.Prelude.{ℕ, List, [], ◌∷◌, map, Option, Some, None, if◌then◌else◌, codes, String, string_bytes}
+use Rattle.std.specs.Prelude.{ℕ, Bool, ◌&&◌, List, [], ◌∷◌, map, Option, Some, None, if◌then◌else◌, codes, String, string_bytes}
 use Rattle.std.specs.Str.{bytes_eq}
 use Rattle.std.specs.declared.alloc.Global.{Global}
 use Rattle.fab_words.specs.declared.command.Command.{Command}
-use Rattle.fab_words.specs.declared.command.Command.TheVariants.{Evaluate, Format}
+use Rattle.fab_words.specs.declared.command.Command.TheVariants.{Evaluate, Flows, Format}
+use Rattle.fab_words.specs.Names.{is_name_word}
 
--- the command of a word
+-- the command of one word
 abbrev pub command_of : List ℕ → Option Command
 command_of word = if bytes_eq word (codes "eval") then Some Evaluate else (if bytes_eq word (codes "fmt") then Some Format else None)
 
--- one word, a command's; any others ask for nothing
+-- the command of a word and two operands, which are names
+abbrev pub command_with : List ℕ → List ℕ → List ℕ → Option Command
+command_with word from to = if bytes_eq word (codes "flows") && (is_name_word from && is_name_word to) then Some (Flows from to) else None
+
+-- a command's word, with as many operands as it takes; any others ask for nothing
 abbrev pub asked : List (List ℕ) → Option Command
 asked [] = None
 asked (word ∷ []) = command_of word
-asked (word ∷ other ∷ others) = None
+asked (word ∷ operand ∷ []) = None
+asked (word ∷ from ∷ to ∷ []) = command_with word from to
+asked (word ∷ from ∷ to ∷ other ∷ others) = None
 
 -- the words of a command line ask for this command, or for nothing
 abbrev pub asked_by : List (String Global) → Option Command

@@ -1,17 +1,18 @@
 //! The command that words ask for.
-ghost use Rattle.std.specs.Prelude.{◌≡◌, IfOk, string_bytes};
+ghost use Rattle.std.specs.Prelude.{◌≡◌, ◌∷◌, IfOk, map, string_bytes};
 ghost use Rattle.std.specs.List.{list_any};
 ghost use Rattle.clap.specs.Words.{app_of, found_of, rows_of};
-ghost use Rattle.fab_words.specs.Words.{asked_by, command_of};
+ghost use Rattle.fab_words.specs.Words.{asked, asked_by, command_of, command_with};
 ghost use Rattle.fab_words.specs.Line.{asked_in, begins_with_dash, command_line};
 
 use crate::command::Command;
+use crate::names::is_name;
 use clap::error::ErrorKind;
 use clap::{Arg, ArgAction, ArgMatches};
-use fab_base::NoMemory;
+use fab_base::{NoMemory, Text};
 use std::alloc::{AllocError, Global};
 
-/// The command that a word asks for.
+/// The command of one word.
 fn named(word: &str) -> Option<Command>
     ensures { result ≡ command_of word.now }
 {
@@ -21,6 +22,30 @@ fn named(word: &str) -> Option<Command>
         Some(Command::Format)
     } else {
         None
+    }
+}
+
+/// The command of a word and two operands.
+fn named_with(alloc: Global, word: &str, from: &str, to: &str) -> Result<Option<Command>, NoMemory>
+    ensures { IfOk result (λ c. c ≡ command_with word.now from.now to.now) }
+{
+    if word == "flows" && is_name(alloc, from)? && is_name(alloc, to)? {
+        let from = Text::make(alloc, from)?;
+        let to = Text::make(alloc, to)?;
+        return Ok(Some(Command::Flows { from, to }));
+    }
+    Ok(None)
+}
+
+/// The command of a word and its operands.
+fn named_among(alloc: Global, word: &str, operands: &[&str]) -> Result<Option<Command>, NoMemory>
+    ensures { IfOk result (λ c. c ≡ asked (word.now ∷ map (λ v. v.now) operands.now)) }
+{
+    match operands {
+        [] => Ok(named(word)),
+        [_] => Ok(None),
+        [from, to] => named_with(alloc, word, from, to),
+        [_, _, _, ..] => Ok(None),
     }
 }
 
@@ -41,17 +66,15 @@ fn have_dash(words: &[String]) -> bool
     words.iter().any(|word| has_dash(word.as_str()))
 }
 
-/// The command that the matches ask for: each takes no operands.
-fn asked_of(matches: &ArgMatches) -> Option<Command>
-    ensures { result ≡ asked_in (rows_of (found_of matches.now)) }
+/// The command that the matches ask for.
+fn asked_of(alloc: Global, matches: &ArgMatches) -> Result<Option<Command>, NoMemory>
+    ensures { IfOk result (λ c. c ≡ asked_in (rows_of (found_of matches.now))) }
 {
     match matches.get_str("command") {
-        None => None,
+        None => Ok(None),
         Some(word) => {
-            if matches.contains_id("operands") {
-                return None;
-            }
-            named(word)
+            let operands = matches.get_strs("operands").unwrap_or(&[]);
+            named_among(alloc, word, operands)
         }
     }
 }
@@ -74,7 +97,8 @@ fn command_line<'a>(alloc: Global) -> Result<clap::Command<'a>, NoMemory>
 /// The command that the words ask for, or none.
 ///
 /// A word that begins with `-` asks for nothing. Of other words `clap` takes the first for the
-/// command's and those behind it for its operands.
+/// command's and those behind it for its operands: two names of the language for `flows`, and none
+/// for the others.
 pub fn asked_command(alloc: Global, words: &[String]) -> Result<Option<Command>, NoMemory>
     ensures asked { IfOk result (λ c. c ≡ asked_by words.now) }
 {
@@ -82,7 +106,7 @@ pub fn asked_command(alloc: Global, words: &[String]) -> Result<Option<Command>,
         return Ok(None);
     }
     match command_line(alloc)?.try_get_matches_from(words) {
-        Ok(matches) => Ok(asked_of(&matches)),
+        Ok(matches) => asked_of(alloc, &matches),
         Err(error) => match error.kind() {
             ErrorKind::OutOfMemory => Err(AllocError),
             _ => Ok(None),

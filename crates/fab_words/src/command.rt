@@ -1,8 +1,14 @@
+//! What a command line may ask for.
+
+use fab_base::Text;
+
 /// What a command line may ask for.
-#[derive(Clone, Copy, Debug, PartialEq, Eq)]
+#[derive(Debug, Drop)]
 pub enum Command {
     /// The evaluation of a bundle.
     Evaluate,
+    /// Whether one label of a bundle flows to another, with the reasons.
+    Flows { from: Text, to: Text },
     /// A bundle's text in the one form.
     Format,
 }

@@ -3,6 +3,7 @@
 
 mod asked;
 mod command;
+mod names;
 #[cfg(test)]
 mod tests;
 

@@ -1,32 +1,81 @@
 use crate::{Command, asked_command};
+use fab_base::NoMemory;
+use std::alloc::Global;
 
-const TABLE: [(&[&str], Option<Command>); 14] = [
-    (&[], None),
-    (&["eval"], Some(Command::Evaluate)),
-    (&["fmt"], Some(Command::Format)),
-    (&["-h"], None),
-    (&["--help"], None),
-    (&["help"], None),
-    (&["--"], None),
-    (&["-"], None),
-    (&[""], None),
-    (&["eval", "eval"], None),
-    (&["eval", "--"], None),
-    (&["evaluate"], None),
-    (&["Eval"], None),
-    (&["--", "eval"], None),
+const NOTHING: &[&str] = &[];
+
+/// Words, and the words of the command that they ask for.
+const TABLE: [(&[&str], &[&str]); 31] = [
+    (&[], NOTHING),
+    (&["eval"], &["eval"]),
+    (&["fmt"], &["fmt"]),
+    (&["-h"], NOTHING),
+    (&["--help"], NOTHING),
+    (&["help"], NOTHING),
+    (&["--"], NOTHING),
+    (&["-"], NOTHING),
+    (&[""], NOTHING),
+    (&["eval", "eval"], NOTHING),
+    (&["eval", "--"], NOTHING),
+    (&["evaluate"], NOTHING),
+    (&["Eval"], NOTHING),
+    (&["--", "eval"], NOTHING),
+    (&["flows", "A", "B"], &["flows", "A", "B"]),
+    (&["flows", "_1", "run_2"], &["flows", "_1", "run_2"]),
+    (&["flows"], NOTHING),
+    (&["flows", "A"], NOTHING),
+    (&["flows", "A", "B", "C"], NOTHING),
+    (&["eval", "A", "B"], NOTHING),
+    (&["Flows", "A", "B"], NOTHING),
+    (&["flows", "A", "1a"], NOTHING),
+    (&["flows", "7", "B"], NOTHING),
+    (&["flows", "label", "B"], NOTHING),
+    (&["flows", "A", ""], NOTHING),
+    (&["flows", "A ", "B"], NOTHING),
+    (&["flows", "A", "B//"], NOTHING),
+    (&["flows", "A", "B-C"], NOTHING),
+    (&["flows", "A", "é"], NOTHING),
+    (&["flows", "A", "-B"], NOTHING),
+    (&["flows", "A", "\"00\""], NOTHING),
 ];
+
+/// Whether this is the command of the words.
+fn is_spelled(asked: &Option<Command>, words: &[&str]) -> bool {
+    match (asked, words) {
+        (None, []) => true,
+        (Some(Command::Evaluate), [word]) => *word == "eval",
+        (Some(Command::Format), [word]) => *word == "fmt",
+        (Some(Command::Flows { from, to }), [word, a, b]) => {
+            *word == "flows" && from.as_str() == *a && to.as_str() == *b
+        }
+        _ => false,
+    }
+}
+
+/// What words ask for.
+fn asked(alloc: Global, texts: &[&str]) -> Result<Option<Command>, NoMemory> {
+    let mut words = Vec::new(alloc);
+    for text in texts {
+        words.push(String::from_str(alloc, text)?)?;
+    }
+    asked_command(alloc, words.as_slice())
+}
 
 #[test]
 fn words_ask(rt: HostRuntime) {
-    let alloc = rt.alloc();
     for (texts, command) in TABLE {
-        let mut words = Vec::new(alloc);
-        for text in texts {
-            let word = String::from_str(alloc, text).expect(&rt, "memory");
-            words.push(word).expect(&rt, "memory");
-        }
-        let asked = asked_command(alloc, words.as_slice()).expect(&rt, "memory");
-        assert!(rt; asked == command);
+        let asked = asked(rt.alloc(), texts).expect(&rt, "memory");
+        assert!(rt; is_spelled(&asked, command));
+    }
+}
+
+/// A name has at most 64 bytes.
+#[test]
+fn long_words_are_no_names(rt: HostRuntime) {
+    let alloc = rt.alloc();
+    for (length, is_name) in [(63, true), (64, true), (65, false), (70_000, false)] {
+        let long = "b".repeat(alloc, length).expect(&rt, "memory");
+        let asked = asked(alloc, &["flows", "A", long.as_str()]).expect(&rt, "memory");
+        assert!(rt; asked.is_some() == is_name);
     }
 }

@@ -1,5 +1,5 @@
 use Rattle.std.proofs.Common.{◌≡◌, ◌++◌, length}
-use Rattle.fab_plain.specs.Evaluation.{rows_of}
+use Rattle.fab_language.specs.Evaluation.{rows_of}
 use Rattle.fab_evaluation.proofs.objects.rows.Given as goal
 
 abbrev pub invariant-roots : goal.invariant-roots

@@ -1,4 +1,5 @@
 use Rattle.std.proofs.Common.{rules, ap, sym, map, string_bytes, List, ◌≡◌, ◌∙◌}
+use Rattle.std.proofs.lemmas.Result.{IfOk-weaker}
 use Rattle.clap.specs.Words.{App, Text, found_of, is_simple, matches_of, rows_of, takes}
 use Rattle.fab_words.specs.Line.{asked_in, command_line}
 use Rattle.fab_words.proofs.Answering.{dashed, found_asks, refused}
@@ -14,7 +15,8 @@ returns-in-Ok c =
     let line_is = c.in_ok-command_line.ensures in
     let rows : rows_of (found_of c.in-Ok.matches) ≡ matches_of command_line words =
     (c.in-Ok.ensures.matches (ap is_simple line_is ∙ is_simple_line)).0 ∙ ap (λ (a : App). matches_of a words) line_is in
-    record { asked = c.asked_of.ensures ∙ ap asked_in rows ∙ found_asks c.args.words.now (search rules) }
+    let is = ap asked_in rows ∙ found_asks c.args.words.now (search rules) in
+    record { asked = IfOk-weaker c.asked_of.result _ _ (λ found e. e ∙ is) c.asked_of.ensures }
 
 pub returns : goal.returns
 returns c =

@@ -1,6 +1,0 @@
-use Rattle.std.proofs.Common.{◌≡◌, take}
-use Rattle.fab_eval.specs.Outcomes.{objects_of}
-use Rattle.fab_eval.proofs.whole.copies.Given as goal
-
-abbrev pub invariant-loop-answer : goal.invariant-loop-answer
-invariant-loop-answer l = l.rows.items ≡ objects_of (take l.answer-index l.answers)

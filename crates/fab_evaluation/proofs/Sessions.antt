@@ -1,0 +1,369 @@
+-- The requests of a bundle are of attempts of their own.
+use Rattle.std.proofs.Common.{◌≡◌, ◌≢◌, ◌+◌, ◌<◌, ◌==◌, ℕ, zero, suc, Bool, true, false, ◌&&◌, ◌||◌, if◌then◌else◌, List, [], ◌∷◌, ◌++◌, map, take, filter, count_by, Option, Some, None, refl, sym, ap, ◌∙◌, subst, arith, append-nil}
+use Rattle.std.specs.Prelude.{flat_map, filter_map}
+use Rattle.std.specs.List.{AllByRecursion, list_any, cons_option}
+use Rattle.std.proofs.lemmas.Bool.{true≢false}
+use Rattle.std.proofs.lemmas.Bool.Decides.{nat_tests}
+use Rattle.std.proofs.lemmas.List.Concat.{flat_map-cons}
+use Rattle.std.proofs.lemmas.List.Sums.{sum_by-cons}
+use Rattle.std.proofs.lemmas.Slice.Eq.{bytes_eq-Decides}
+use Rattle.fab_base.specs.declared.object.Tid.{Tid}
+use Rattle.fab_tree.specs.declared.name.Name.{Name}
+use Rattle.fab_tree.specs.declared.declaration.Role.{Role}
+use Rattle.fab_tree.specs.declared.declaration.Role.TheVariants as r
+use Rattle.fab_tree.specs.declared.declaration.Node.{Node}
+use Rattle.fab_tree.specs.declared.start.RequestText.{RequestText}
+use Rattle.fab_tree.specs.declared.start.Session.{Session}
+use Rattle.fab_tree.specs.declared.start.Start.{Start}
+use Rattle.fab_tree.specs.declared.resolved.Request.{Request}
+use Rattle.fab_tree.specs.declared.resolved.Session.{Session as NumberedSession}
+use Rattle.fab_tree.specs.declared.resolved.Resolved.{Resolved}
+use Rattle.fab_tree.specs.Limits.{is_node}
+use Rattle.fab_language.specs.declared.rule.Fault.{Fault}
+use Rattle.fab_language.specs.declared.rule.NameRule.TheVariants as rule
+use Rattle.fab_language.specs.Names.{named, number_of, is_same_name, node_name, label_name, class_name, method_name, root_name, session_name, is_worker, is_honest_worker}
+use Rattle.fab_language.specs.Uses.{node_number}
+use Rattle.fab_language.specs.Unknown as unknown
+use Rattle.fab_language.specs.Doubled as doubled
+use Rattle.fab_language.specs.Doubled.{repeats_behind, repeats, is_workers}
+use Rattle.fab_language.specs.Roles as roles
+use Rattle.fab_language.specs.Arity as arity
+use Rattle.fab_language.specs.Types as types
+use Rattle.fab_language.specs.Faults.{faults}
+use Rattle.fab_language.specs.Numbers.{resolved, principals_from, asked_from, request_of, session_of}
+use Rattle.fab_language.specs.Evaluation.{asked_at, requests_of, map_at_start, tid_of}
+use Rattle.fab_laws.specs.Changes.{IsUnmade}
+use Rattle.fab_evaluation.specs.Attempts.{AreApart, IsOld}
+use Rattle.fab_evaluation.specs.Roots.{IsResolved}
+use Rattle.fab_evaluation.proofs.RootObjects.{unmade_at_start}
+
+-- ---- lists
+
+all_append : {A : Type 0} (P : A → Type 0) (xs ys : List A) → AllByRecursion P xs → AllByRecursion P ys → AllByRecursion P (xs ++ ys)
+all_append P [] ys h k = k
+all_append P (x ∷ xs) ys h k = (h.0, all_append P xs ys h.1 k)
+
+all_map : {A : Type 0} (P Q : A → Type 0) → ((x : A) → P x → Q x) → (xs : List A) → AllByRecursion P xs → AllByRecursion Q xs
+all_map P Q f [] h = tt
+all_map P Q f (x ∷ xs) h = (f x h.0, all_map P Q f xs h.1)
+
+all_any : {A : Type 0} (P : A → Type 0) → ((x : A) → P x) → (xs : List A) → AllByRecursion P xs
+all_any P f [] = tt
+all_any P f (x ∷ xs) = (f x, all_any P f xs)
+
+-- each list that is made of an item has this, so the joined list has it
+all_flat : {A B : Type 0} (P : B → Type 0) (f : A → List B) (Q : A → Type 0) → ((x : A) → Q x → AllByRecursion P (f x)) → (xs : List A) → AllByRecursion Q xs → AllByRecursion P (flat_map f xs)
+all_flat P f Q h [] k = tt
+all_flat P f Q h (x ∷ xs) k = subst (AllByRecursion P) (sym (flat_map-cons f x xs)) (all_append P (f x) (flat_map f xs) (h x k.0) (all_flat P f Q h xs k.1))
+
+front_empty : {A : Type 0} (xs ys : List A) → xs ++ ys ≡ [] → xs ≡ []
+front_empty [] ys h = refl
+front_empty (x ∷ xs) ys h = absurd (cc)
+
+back_empty : {A : Type 0} (xs ys : List A) → xs ++ ys ≡ [] → ys ≡ []
+back_empty [] ys h = h
+back_empty (x ∷ xs) ys h = absurd (cc)
+
+each_empty : {A B : Type 0} (f : A → List B) (xs : List A) → flat_map f xs ≡ [] → AllByRecursion (λ x. f x ≡ []) xs
+each_empty f [] h = tt
+each_empty f (x ∷ xs) h =
+    let g = sym (flat_map-cons f x xs) ∙ h in
+    (front_empty (f x) (flat_map f xs) g, each_empty f xs (back_empty (f x) (flat_map f xs) g))
+
+-- lists one behind the other
+abbrev joined : {A : Type 0} → List A → List (List A) → List A
+joined xs [] = xs
+joined xs (ys ∷ rest) = joined (xs ++ ys) rest
+
+parts_empty : {A : Type 0} (xs : List A) (rest : List (List A)) → joined xs rest ≡ [] → AllByRecursion (λ ys. ys ≡ []) (xs ∷ rest)
+parts_empty xs [] h = (h, tt)
+parts_empty xs (ys ∷ rest) h = let g = parts_empty (xs ++ ys) rest h in (front_empty xs ys g.0, (back_empty xs ys g.0, g.1))
+
+-- ---- requests of one worker, and of several
+
+abbrev OfWorker : ℕ → List Request → Type 0
+OfWorker w xs = AllByRecursion (λ x. x.worker ≡ w) xs
+
+abbrev NotOf : ℕ → List Request → Type 0
+NotOf w xs = AllByRecursion (λ x. w ≢ x.worker) xs
+
+other_worker : (x y : Request) (w : ℕ) → x.worker ≡ w → w ≢ y.worker → tid_of x ≢ tid_of y
+other_worker x y w e h g = h (sym e ∙ ap (λ (t : Tid). t.worker) g)
+
+others : (x : Request) (w : ℕ) (ys : List Request) → x.worker ≡ w → NotOf w ys → AllByRecursion (λ y. tid_of x ≢ tid_of y) ys
+others x w ys e h = all_map (λ y. w ≢ y.worker) (λ y. tid_of x ≢ tid_of y) (λ y g. other_worker x y w e g) ys h
+
+-- requests of a worker that are apart, before those of others that are apart
+apart_both : (w : ℕ) (xs ys : List Request) → OfWorker w xs → AreApart xs → NotOf w ys → AreApart ys → AreApart (xs ++ ys)
+apart_both w [] ys o a n b = b
+apart_both w (x ∷ xs) ys o a n b = (all_append (λ y. tid_of x ≢ tid_of y) xs ys a.0 (others x w ys o.0 n), apart_both w xs ys o.1 a.1 n b)
+
+-- ---- the requests of one session
+
+abbrev own : NumberedSession → List Request
+own x = map (λ a. a.request) x.requests
+
+later : (s : Start) (w k n : ℕ) (x : Request) (xs : List RequestText) → x.number ≡ k → k < n → AllByRecursion (λ y. tid_of x ≢ tid_of y) (map (λ a. a.request) (asked_from s w n xs))
+later s w k n x [] e l = tt
+later s w k n x (y ∷ ys) e l = (λ g. let f : x.number ≡ n = ap (λ (t : Tid). t.number) g in absurd (omega (arith, e, f, l)), later s w k (suc n) x ys e (omega (arith, l)))
+
+apart_asked : (s : Start) (w n : ℕ) (xs : List RequestText) → AreApart (map (λ a. a.request) (asked_from s w n xs))
+apart_asked s w n [] = tt
+apart_asked s w n (x ∷ xs) = (later s w n (suc n) (request_of s w n x) xs refl (omega arith), apart_asked s w (suc n) xs)
+
+of_asked : (s : Start) (w n : ℕ) (xs : List RequestText) → OfWorker w (map (λ a. a.request) (asked_from s w n xs))
+of_asked s w n [] = tt
+of_asked s w n (x ∷ xs) = (refl, of_asked s w (suc n) xs)
+
+-- ---- the requests of one node
+
+-- the sessions are of workers of different numbers
+abbrev Alone : (Session → ℕ) → List Session → Type 0
+Alone number [] = Unit {0}
+Alone number (x ∷ xs) = AllByRecursion (λ y. number x ≢ number y) xs × Alone number xs
+
+module _ (s : Start) where
+  abbrev number : Session → ℕ
+  number x = node_number s x.worker
+
+  abbrev at_node : ℕ → List Session → List Request
+  at_node node xs = flat_map (asked_at node) (map (session_of s) xs)
+
+  is_number : (n m : ℕ) → (n == m) ≡ true → n ≡ m
+  is_number n m h = grind (arith, nat_tests)
+
+  not_number : (n m : ℕ) → n ≢ m → (m == n) ≡ false
+  not_number n m h = grind (arith, nat_tests)
+
+  -- a session of another worker has nothing for this node
+  none_at : (node : ℕ) (xs : List Session) → AllByRecursion (λ y. node ≢ number y) xs → at_node node xs ≡ []
+  none_at node [] h = refl
+  none_at node (x ∷ xs) h =
+      flat_map-cons (asked_at node) (session_of s x) (map (session_of s) xs)
+      ∙ ap (λ b. (if b then own (session_of s x) else []) ++ at_node node xs) (not_number node (number x) h.0)
+      ∙ none_at node xs h.1
+
+  of_node : (node : ℕ) (xs : List Session) → OfWorker node (at_node node xs)
+  of_node node [] = tt
+  of_node node (x ∷ xs) =
+      subst (OfWorker node) (sym (flat_map-cons (asked_at node) (session_of s x) (map (session_of s) xs)))
+      (all_append (λ (y : Request). y.worker ≡ node) (asked_at node (session_of s x)) (at_node node xs) (first (number x == node) refl) (of_node node xs))
+    where
+      first : (b : Bool) → (number x == node) ≡ b → OfWorker node (if b then own (session_of s x) else [])
+      first true e = subst (λ w. OfWorker w (own (session_of s x))) (is_number (number x) node e) (of_asked s (number x) 1 x.requests)
+      first false e = tt
+
+  apart_at : (node : ℕ) (xs : List Session) → Alone number xs → AreApart (at_node node xs)
+  apart_at node [] h = tt
+  apart_at node (x ∷ xs) h = subst AreApart (sym (flat_map-cons (asked_at node) (session_of s x) (map (session_of s) xs))) (first (number x == node) refl (apart_at node xs h.1))
+    where
+      first : (b : Bool) → (number x == node) ≡ b → AreApart (at_node node xs) → AreApart ((if b then own (session_of s x) else []) ++ at_node node xs)
+      first true e rest =
+          let none = none_at node xs (subst (λ w. AllByRecursion (λ y. w ≢ number y) xs) (is_number (number x) node e) h.0) in
+          subst AreApart (sym (ap (λ l. own (session_of s x) ++ l) none ∙ append-nil (own (session_of s x)))) (apart_asked s (number x) 1 x.requests)
+      first false e rest = rest
+
+  -- ---- the requests of all nodes
+
+  abbrev Different : List ℕ → Type 0
+  Different [] = Unit {0}
+  Different (n ∷ ns) = AllByRecursion (λ m. n ≢ m) ns × Different ns
+
+  abbrev of_nodes : List ℕ → List Request
+  of_nodes nodes = flat_map (λ node. at_node node s.sessions) nodes
+
+  not_of_node : (n m : ℕ) → n ≢ m → NotOf n (at_node m s.sessions)
+  not_of_node n m h = all_map (λ (y : Request). y.worker ≡ m) (λ y. n ≢ y.worker) (λ y e g. h (g ∙ e)) (at_node m s.sessions) (of_node m s.sessions)
+
+  apart_nodes : Alone number s.sessions → (nodes : List ℕ) → Different nodes → AreApart (of_nodes nodes)
+  apart_nodes alone [] d = tt
+  apart_nodes alone (n ∷ ns) d =
+      subst AreApart (sym (flat_map-cons (λ node. at_node node s.sessions) n ns))
+      (apart_both n (at_node n s.sessions) (of_nodes ns) (of_node n s.sessions) (apart_at n s.sessions alone)
+      (all_flat (λ (y : Request). n ≢ y.worker) (λ node. at_node node s.sessions) (λ m. n ≢ m) (not_of_node n) ns d.0) (apart_nodes alone ns d.1))
+
+  abbrev numbers_from : ℕ → List Node → List ℕ
+  numbers_from n xs = filter_map (λ x. x.node) (principals_from n xs)
+
+  from_on : (n k : ℕ) (xs : List Node) → k < n → AllByRecursion (λ m. k ≢ m) (numbers_from n xs)
+  from_on n k [] l = tt
+  from_on n k (x ∷ xs) l =
+      elim (is_node x.role) as (λ b. AllByRecursion (λ m. k ≢ m) (cons_option (if b then Some n else None) (numbers_from (if b then suc n else n) xs))) [
+        | true ↦ (λ e. absurd (omega (arith, e, l)), from_on (suc n) k xs (omega (arith, l)))
+        | false ↦ from_on n k xs l
+      ]
+
+  different_from : (n : ℕ) (xs : List Node) → Different (numbers_from n xs)
+  different_from n [] = tt
+  different_from n (x ∷ xs) =
+      elim (is_node x.role) as (λ b. Different (cons_option (if b then Some n else None) (numbers_from (if b then suc n else n) xs))) [
+        | true ↦ (from_on (suc n) n xs (omega arith), different_from (suc n) xs)
+        | false ↦ different_from n xs
+      ]
+
+  -- ---- sessions are of workers of different numbers
+
+  is_node_worker : (role : Role) → is_worker role ≡ true → is_node role ≡ true
+  is_node_worker r.Principal h = absurd (true≢false (sym h))
+  is_node_worker (r.Worker hostile) h = refl
+  is_node_worker (r.Store hostile) h = refl
+
+  same_texts : (x y z : Name) → is_same_name z x ≡ true → is_same_name z y ≡ true → is_same_name x y ≡ true
+  same_texts x y z e f = (bytes_eq-Decides x.text y.text).1 (sym ((bytes_eq-Decides z.text x.text).0 e) ∙ (bytes_eq-Decides z.text y.text).0 f)
+
+  -- how many nodes there are before one
+  abbrev before : List Node → Name → ℕ
+  before nodes x = count_by (λ z. is_node z.role) (take (number_of node_name nodes x) nodes)
+
+  more : (z : Node) (zs : List Node) → count_by (λ (y : Node). is_node y.role) (z ∷ zs) ≡ (if is_node z.role then 1 else 0) + count_by (λ (y : Node). is_node y.role) zs
+  more z zs = sum_by-cons (λ (y : Node). if is_node y.role then 1 else 0) z zs
+
+  some_one : (a b : Node) → Some a ≡ Some b → a ≡ b
+  some_one a b t = cc
+
+  no_less : (b : Bool) (n : ℕ) → b ≡ true → 0 ≡ (if b then 1 else 0) + n → ⊥
+  no_less true n e h = omega arith
+  no_less false n e h = true≢false (sym e)
+
+  same_rest : (b : Bool) (n m : ℕ) → (if b then 1 else 0) + n ≡ (if b then 1 else 0) + m → n ≡ m
+  same_rest true n m h = omega arith
+  same_rest false n m h = omega arith
+
+  -- names of nodes that have as many before them are the same
+  one_node : (nodes : List Node) (x y : Name) (n m : Node) → named node_name nodes x ≡ Some n → named node_name nodes y ≡ Some m → is_node n.role ≡ true → is_node m.role ≡ true → before nodes x ≡ before nodes y → is_same_name x y ≡ true
+  one_node [] x y n m e f g h k = let no : None ≡ Some n = e in absurd (cc)
+  one_node (z ∷ zs) x y n m e f g h k = by (is_same_name z.name x) (is_same_name z.name y) refl refl e f k (λ p q c. one_node zs x y n m p q g h c)
+    where
+      by : (a b : Bool) → is_same_name z.name x ≡ a → is_same_name z.name y ≡ b
+          → (if a then Some z else named node_name zs x) ≡ Some n → (if b then Some z else named node_name zs y) ≡ Some m
+          → count_by (λ w. is_node w.role) (take (if a then zero else suc (number_of node_name zs x)) (z ∷ zs)) ≡ count_by (λ w. is_node w.role) (take (if b then zero else suc (number_of node_name zs y)) (z ∷ zs))
+          → (named node_name zs x ≡ Some n → named node_name zs y ≡ Some m → before zs x ≡ before zs y → is_same_name x y ≡ true)
+          → is_same_name x y ≡ true
+      by true true i j p q c rest = same_texts x y z.name i j
+      by true false i j p q c rest =
+          let first : z ≡ n = some_one z n p in
+          let sum = more z (take (number_of node_name zs y) zs) in
+          absurd (no_less (is_node z.role) _ (ap (λ (w : Node). is_node w.role) first ∙ g) (c ∙ sum))
+      by false true i j p q c rest =
+          let first : z ≡ m = some_one z m q in
+          let sum = more z (take (number_of node_name zs x) zs) in
+          absurd (no_less (is_node z.role) _ (ap (λ (w : Node). is_node w.role) first ∙ h) (sym c ∙ sum))
+      by false false i j p q c rest =
+          rest p q (same_rest (is_node z.role) (before zs x) (before zs y) (sym (more z (take (number_of node_name zs x) zs)) ∙ c ∙ more z (take (number_of node_name zs y) zs)))
+
+  -- what its session's worker is
+  record IsAt (x : Session) : Type 0 where
+    node : Node
+    found : named node_name s.program.nodes x.worker ≡ Some node
+    worker : is_worker node.role ≡ true
+
+  abbrev at_fault : (x : Session) (b : Bool) → List Fault
+  at_fault x b = if b then [] else record { rule = rule.Node; at = x.worker.at } ∷ []
+
+  honest : (x : Session) (role : Role) (b : Bool) → is_honest_worker role ≡ b → at_fault x b ≡ [] → is_worker role ≡ true
+  honest x role true q t = both (is_worker role) _ q
+    where
+      both : (a b : Bool) → (a && b) ≡ true → a ≡ true
+      both true b q = refl
+      both false b q = absurd (true≢false (sym q))
+  honest x role false q t = absurd (cc)
+
+  is_at : (x : Session) → unknown.in_session s x ≡ [] → roles.in_session s x ≡ [] → IsAt x
+  is_at x h k = step (named node_name s.program.nodes x.worker) refl (front_empty (unknown.in_principal s x.worker) (flat_map (unknown.in_request s) x.requests) h) k
+    where
+      step : (o : Option Node) → named node_name s.program.nodes x.worker ≡ o → unknown.if_found o x.worker ≡ [] → roles.if_of_kind is_honest_worker o x.worker ≡ [] → IsAt x
+      step None e g j = absurd (cc)
+      step (Some n) e g j = record { node = n; found = e; worker = honest x n.role (is_honest_worker n.role) refl j }
+
+  all_at : (xs : List Session) → AllByRecursion (λ x. unknown.in_session s x ≡ []) xs → AllByRecursion (λ x. roles.in_session s x ≡ []) xs → AllByRecursion IsAt xs
+  all_at [] h k = tt
+  all_at (x ∷ xs) h k = (is_at x h.0 k.0, all_at xs h.1 k.1)
+
+  kept : (xs : List Session) → AllByRecursion IsAt xs → filter (is_workers s) xs ≡ xs
+  kept [] h = refl
+  kept (x ∷ xs) h =
+      ap (λ b. if b then x ∷ filter (is_workers s) xs else filter (is_workers s) xs) (ap doubled.is_a_worker h.0.found ∙ h.0.worker)
+      ∙ ap (λ l. x ∷ l) (kept xs h.1)
+
+  -- an item in front, by any test that none there passes
+  abbrev Among : Session → List Session → Type 0
+  Among x front = (p : Session → Bool) → list_any p front ≡ false → p x ≡ false
+
+  or_parts : (a b : Bool) → (a || b) ≡ false → (a ≡ false) × (b ≡ false)
+  or_parts true b e = absurd (true≢false e)
+  or_parts false b e = (refl, e)
+
+  front_none : (p : Session → Bool) (front : List Session) (y : Session) → list_any p (front ++ y ∷ []) ≡ false → (list_any p front ≡ false) × (p y ≡ false)
+  front_none p [] y h = (refl, (or_parts (p y) false h).0)
+  front_none p (x ∷ front) y h =
+      let g = or_parts (p x) (list_any p (front ++ y ∷ [])) h in
+      let k = front_none p front y g.1 in
+      (ap (λ b. b || list_any p front) g.0 ∙ k.0, k.1)
+
+  abbrev Unlike : Session → List Session → Type 0
+  Unlike x ys = AllByRecursion (λ y. is_same_name x.worker y.worker ≡ false) ys
+
+  no_repeat : (b : Bool) (x : Name) (rest : List Fault) → (if b then record { rule = rule.Doubled; at = x.at } ∷ [] else []) ++ rest ≡ [] → b ≡ false
+  no_repeat true x rest h = absurd (cc)
+  no_repeat false x rest h = refl
+
+  unlike_behind : (x : Session) (front ys : List Session) → Among x front → repeats_behind session_name front ys ≡ [] → Unlike x ys
+  unlike_behind x front [] a h = tt
+  unlike_behind x front (y ∷ ys) a h =
+      (a (λ z. is_same_name z.worker y.worker) (no_repeat _ y.worker _ h), unlike_behind x (front ++ y ∷ []) ys (λ p k. a p (front_none p front y k).0) (back_empty _ _ h))
+
+  abbrev AllUnlike : List Session → Type 0
+  AllUnlike [] = Unit {0}
+  AllUnlike (x ∷ xs) = Unlike x xs × AllUnlike xs
+
+  all_unlike : (front xs : List Session) → repeats_behind session_name front xs ≡ [] → AllUnlike xs
+  all_unlike front [] h = tt
+  all_unlike front (x ∷ xs) h =
+      let rest = back_empty _ _ h in
+      (unlike_behind x (front ++ x ∷ []) xs (λ p k. (front_none p front x k).1) rest, all_unlike (front ++ x ∷ []) xs rest)
+
+  numbers_differ : (x : Session) (ys : List Session) → IsAt x → AllByRecursion IsAt ys → Unlike x ys → AllByRecursion (λ y. number x ≢ number y) ys
+  numbers_differ x [] at ats u = tt
+  numbers_differ x (y ∷ ys) at ats u =
+      (λ e. absurd (true≢false (sym (one_node s.program.nodes x.worker y.worker at.node ats.0.node at.found ats.0.found (is_node_worker at.node.role at.worker) (is_node_worker ats.0.node.role ats.0.worker) e) ∙ u.0)), numbers_differ x ys at ats.1 u.1)
+
+  alone_from : (xs : List Session) → AllByRecursion IsAt xs → AllUnlike xs → Alone number xs
+  alone_from [] ats u = tt
+  alone_from (x ∷ xs) ats u = (numbers_differ x xs ats.0 ats.1 u.0, alone_from xs ats.1 u.1)
+
+  -- ---- together
+
+  known_sessions : faults s ≡ [] → AllByRecursion (λ x. unknown.in_session s x ≡ []) s.sessions
+  known_sessions h =
+      let all = parts_empty (unknown.unknown s) (doubled.doubled s ∷ roles.misplaced s ∷ arity.miscounted s ∷ types.mistyped s ∷ []) h in
+      let p = s.program in
+      let parts = parts_empty (flat_map (unknown.in_delegation s) p.delegations) (flat_map (unknown.in_label_text s) p.labels ∷ flat_map (unknown.in_class s) p.classes ∷ flat_map (unknown.in_method s) p.methods ∷ flat_map (unknown.in_root s) s.roots ∷ flat_map (unknown.in_session s) s.sessions ∷ flat_map (unknown.in_post s) s.posts ∷ flat_map (unknown.in_crash s) s.crashes ∷ flat_map (unknown.in_event s) s.schedule ∷ []) all.0 in
+      each_empty (unknown.in_session s) s.sessions parts.1.1.1.1.1.0
+
+  placed_sessions : faults s ≡ [] → AllByRecursion (λ x. roles.in_session s x ≡ []) s.sessions
+  placed_sessions h =
+      let all = parts_empty (unknown.unknown s) (doubled.doubled s ∷ roles.misplaced s ∷ arity.miscounted s ∷ types.mistyped s ∷ []) h in
+      let parts = parts_empty (flat_map (roles.in_method s) s.program.methods) (flat_map (roles.in_root s) s.roots ∷ flat_map (roles.in_session s) s.sessions ∷ flat_map (roles.in_post s) s.posts ∷ flat_map (roles.in_crash s) s.crashes ∷ flat_map (roles.in_event s) s.schedule ∷ []) all.1.1.0 in
+      each_empty (roles.in_session s) s.sessions parts.1.1.0
+
+  single_sessions : faults s ≡ [] → repeats session_name (filter (is_workers s) s.sessions) ≡ []
+  single_sessions h =
+      let all = parts_empty (unknown.unknown s) (doubled.doubled s ∷ roles.misplaced s ∷ arity.miscounted s ∷ types.mistyped s ∷ []) h in
+      let p = s.program in
+      let parts = parts_empty (repeats node_name p.nodes) (repeats label_name p.labels ∷ repeats class_name p.classes ∷ flat_map doubled.in_class p.classes ∷ repeats method_name p.methods ∷ flat_map doubled.in_method p.methods ∷ repeats root_name s.roots ∷ repeats session_name (filter (is_workers s) s.sessions) ∷ []) all.1.0 in
+      parts.1.1.1.1.1.1.1.0
+
+  alone : faults s ≡ [] → Alone number s.sessions
+  alone h =
+      let ats = all_at s.sessions (known_sessions h) (placed_sessions h) in
+      alone_from s.sessions ats (all_unlike [] s.sessions (subst (λ l. repeats session_name l ≡ []) (kept s.sessions ats) (single_sessions h)))
+
+  pub requests_apart : faults s ≡ [] → AreApart (requests_of (resolved s))
+  requests_apart h = apart_nodes (alone h) (numbers_from 0 s.program.nodes) (different_from 0 s.program.nodes)
+
+  pub old_at_start : faults s ≡ [] → IsOld (map_at_start (resolved s)) (requests_of (resolved s))
+  old_at_start h = record { unmade = all_any (λ x. IsUnmade (tid_of x) (map_at_start (resolved s))) (λ x. unmade_at_start s (tid_of x) refl) (requests_of (resolved s)); apart = requests_apart h }
+
+-- so it is for a bundle with numbers for names
+pub is_old : (q : Resolved) → IsResolved q → IsOld (map_at_start q) (requests_of q)
+is_old q h = subst (λ z. IsOld (map_at_start z) (requests_of z)) (sym h.is) (old_at_start h.start h.right)

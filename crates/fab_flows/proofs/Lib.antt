@@ -1,0 +1,4 @@
+pub mod CoverLemmas
+pub mod Declared
+pub mod OneReply
+pub mod Replying

@@ -1,0 +1,10 @@
+mod CallExamples
+mod EvaluationExamples
+mod ExpressionExamples
+mod FaultExamples
+pub mod Forms
+mod HeapExamples
+mod MeaningExamples
+mod MethodNumberExamples
+mod NumberExamples
+pub mod NumberedForms

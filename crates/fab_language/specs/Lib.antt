@@ -1,0 +1,17 @@
+pub mod Arity
+pub mod Doubled
+pub mod Evaluation
+pub mod Faults
+pub mod Flows
+pub mod Heads
+pub mod Heaps
+pub mod Kinds
+pub mod Meaning
+pub mod MethodNumbers
+pub mod Names
+pub mod Numbers
+pub mod Roles
+pub mod Types
+pub mod Unknown
+pub mod Uses
+pub mod Words

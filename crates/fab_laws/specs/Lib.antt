@@ -1,0 +1,7 @@
+pub mod Changes
+pub mod Closed
+pub mod Kinds
+pub mod Locality
+pub mod Origins
+pub mod Runs
+pub mod Shapes

@@ -1,6 +1,0 @@
-pub mod Blocks
-pub mod DeclaredLocals
-pub mod KeptMethods
-pub mod KeptSessions
-pub mod Sorts
-pub mod Stack

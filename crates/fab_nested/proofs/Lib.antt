@@ -1,0 +1,5 @@
+pub mod Calling
+pub mod Naming
+pub mod Noting
+pub mod Stepping
+pub mod Undoing

@@ -1,0 +1,78 @@
+-- A log of changes of a heap, by which earlier heaps are had again.
+use Rattle.std.specs.Prelude.{◌≡◌, ℕ, ◌-◌, ◌≤◌, Bool, true, false, if◌then◌else◌, List, [], ◌∷◌, ◌++◌, length, map, reverse, take, drop, Option, Some, None, is_some}
+use Rattle.fab_base.specs.declared.object.Oid.{Oid}
+use Rattle.fab_base.specs.FlatMap.{get, ascends}
+use Rattle.fab_language.specs.Heaps.{Heap, is_among, is_changed, is_spent, changed}
+use Rattle.fab_map.specs.Changes.{put_field, removed}
+use Rattle.fab_nested.specs.declared.log.Change.{Change}
+use Rattle.fab_nested.specs.declared.log.Change.TheVariants.{Wrote, Made}
+use Rattle.fab_nested.specs.declared.objects.Objects.{Objects}
+
+-- the heap that these objects are
+abbrev pub heap_of : Objects → Heap
+heap_of objects = record { rows = objects.map; written = objects.written.keys; made = objects.made.keys }
+
+-- all names but the last
+abbrev pub but_last : List Oid → List Oid
+but_last os = take (length os - 1) os
+
+-- the heap before a change
+abbrev pub before : Change → Heap → Heap
+before (Wrote o field old joined) h = record h { rows = put_field o field old h.rows; written = if joined then but_last h.written else h.written }
+before (Made o) h = record h { rows = removed o h.rows; made = but_last h.made }
+
+-- What counting an object as changed made of a heap: nothing, since it would be one too many; or the object joined those that were written, or it was changed before.
+abbrev pub Counts : Oid → Heap → Heap → Option Bool → Type 0
+Counts o old new None = (is_changed o old ≡ false) × (is_spent old ≡ true) × (new ≡ old)
+Counts o old new (Some true) = (is_changed o old ≡ false) × (is_spent old ≡ false) × (new ≡ record old { written = old.written ++ o ∷ [] })
+Counts o old new (Some false) = (is_changed o old ≡ true) × (new ≡ old)
+
+-- What a step from an old heap to a new one gave, where it was to come to this heap or to none: a change that leads back, or nothing, with the heap as it was.
+abbrev pub Steps : Option Heap → Heap → Heap → Option Change → Type 0
+Steps next old new None = (next ≡ None) × (new ≡ old)
+Steps next old new (Some c) = (next ≡ Some new) × (before c new ≡ old)
+
+-- the heap before all of these changes
+abbrev pub before_all : List Change → Heap → Heap
+before_all [] h = h
+before_all (c ∷ cs) h = before c (before_all cs h)
+
+-- the heap when the log was so long
+abbrev pub heap_at : List Change → Heap → ℕ → Heap
+heap_at log h mark = before_all (drop mark log) h
+
+-- the heaps at the marks, the last one first
+abbrev pub saved_in : List Change → Heap → List ℕ → List Heap
+saved_in log h marks = reverse (map (heap_at log h) marks)
+
+-- a change is noted only where there is a mark
+abbrev pub noted_change : List ℕ → Change → List Change → List Change
+noted_change [] c log = log
+noted_change (mark ∷ marks) c log = log ++ c ∷ []
+
+-- ---- what holds at all times
+
+abbrev pub IsBelow : ℕ → List ℕ → Type 0
+IsBelow k [] = Unit {0}
+IsBelow k (j ∷ marks) = (k ≤ j) × IsBelow k marks
+
+-- each mark is a length that the log had, and none is past a later one
+abbrev pub AreMarks : List ℕ → ℕ → Type 0
+AreMarks [] n = Unit {0}
+AreMarks (k ∷ marks) n = (k ≤ n) × IsBelow k marks × AreMarks marks n
+
+-- names ascend, what was made is there, and no more was changed than may be
+pub record IsSound (h : Heap) : Type 0 where
+  pub ascending : ascends h.rows ≡ true
+  pub made_there : (o : Oid) → is_among o h.made ≡ true → is_some (get h.rows o) ≡ true
+  pub few : changed h ≤ 256
+
+abbrev pub AreSound : List Heap → Type 0
+AreSound [] = Unit {0}
+AreSound (h ∷ hs) = IsSound h × AreSound hs
+
+-- the marks are in order, and the heap and those that are saved are sound
+pub record IsLogged (log : List Change) (h : Heap) (marks : List ℕ) : Type 0 where
+  pub in_order : AreMarks marks (length log)
+  pub now : IsSound h
+  pub saved : AreSound (saved_in log h marks)

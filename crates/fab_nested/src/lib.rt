@@ -1,0 +1,14 @@
+//! The objects of a run, with the heaps to which a failure may have to go back.
+#![tactic(auto)]
+
+mod answers;
+mod frame_error;
+mod frames;
+mod log;
+mod objects;
+#[cfg(test)]
+mod tests;
+mod touches;
+
+pub use frame_error::FrameError;
+pub use frames::Frames;

@@ -1,0 +1,43 @@
+//! The changes of a heap since the first heap that is saved, by which they can be undone.
+ghost use Rattle.std.specs.Prelude.{◌≡◌, ◌+◌, ◌≤◌, take, drop, vec_len, vec_capacity};
+ghost use Rattle.fab_nested.specs.Logs.{before_all, heap_of, noted_change};
+
+use crate::objects::Objects;
+use fab_base::{Oid, Value};
+
+/// A change of a heap, with what undoes it: a field that was written, with what it held and whether
+/// the object joined those that were written; or an object that was made.
+#[derive(Clone, Copy, Debug)]
+pub(crate) enum Change {
+    Wrote {
+        oid: Oid,
+        field: u16,
+        old: Value,
+        joined: bool,
+    },
+    Made {
+        oid: Oid,
+    },
+}
+
+/// Notes a change for which there is room, where there is a mark to which it may be undone.
+pub(crate) fn note(log: &mut Vec<Change>, marks: &[usize], change: Change)
+    requires { vec_len log.old + 1 ≤ vec_capacity log.old }
+    ensures { log.new.items ≡ noted_change marks.now change log.old.items }
+{
+    if !marks.is_empty() && log.push(change).is_err() {
+        unreachable!();
+    }
+}
+
+/// Undoes the changes since a mark, the last one first.
+pub(crate) fn undo_to(objects: &mut Objects, log: &mut Vec<Change>, mark: usize)
+    ensures heap { heap_of objects.new ≡ before_all (drop mark log.old.items) (heap_of objects.old) }
+    ensures log { log.new.items ≡ take mark log.old.items }
+{
+    while log.len() > mark {
+        if let Some(change) = log.pop() {
+            objects.undo(change);
+        }
+    }
+}

@@ -1,0 +1,71 @@
+//! The touches of a run.
+ghost use Rattle.std.specs.Prelude.{◌≡◌, [], not, IfOk, OnErr, if◌then◌else◌};
+ghost use Rattle.fab_language.specs.Heaps.{is_full, noted, touched};
+
+use fab_base::{NoMemory, Oid};
+use indexmap::IndexSet;
+use std::alloc::Global;
+use std::marker::Model;
+
+const MAX_OBJECTS: usize = 1024;
+
+/// What was touched, in order: each pair of a site and an object once. Contracts see it as the list
+/// of these pairs. The objects among them stand in a set of their own.
+#[derive(Drop)]
+pub(crate) struct Touches {
+    noted: IndexSet<(u16, Oid)>,
+    objects: IndexSet<Oid>,
+}
+
+impl Model for Touches {
+    ghost use Rattle.std.specs.Prelude.{◌≡◌, ℕ, List};
+    ghost use Rattle.fab_base.specs.declared.object.Oid.{Oid};
+    ghost use Rattle.fab_language.specs.Heaps.{touched};
+
+    ghost Value = { List (ℕ × Oid) };
+
+    ghost view = { λ t. t.noted.keys };
+
+    ghost invariant = { λ t. t.objects.keys ≡ touched t.noted.keys };
+}
+
+impl Touches {
+    /// No touches.
+    pub(crate) fn new(alloc: Global) -> Touches
+        ensures { result ≡ [] }
+    {
+        Touches {
+            noted: IndexSet::new(alloc),
+            objects: IndexSet::new(alloc),
+        }
+    }
+
+    /// Notes that an object is touched at a site, unless it would be one object too many.
+    pub(crate) fn reach(&mut self, site: u16, oid: Oid) -> Result<bool, NoMemory>
+        ensures fits { IfOk result (λ fits. fits ≡ not (is_full oid (touched self.old))) }
+        ensures noted { IfOk result (λ fits. self.new ≡ (if fits then noted site oid self.old else self.old)) }
+        ensures err { OnErr result (self.new ≡ self.old) }
+    {
+        if self.noted.contains(&(site, oid)) {
+            return Ok(true);
+        }
+        if self.objects.contains(&oid) {
+            self.noted.insert((site, oid))?;
+            return Ok(true);
+        }
+        if self.objects.len() >= MAX_OBJECTS {
+            return Ok(false);
+        }
+        self.objects.reserve(1)?;
+        self.noted.insert((site, oid))?;
+        self.objects.insert(oid)?;
+        Ok(true)
+    }
+
+    /// The pairs, in order.
+    pub(crate) fn pairs(&self) -> &[(u16, Oid)]
+        ensures { result.now ≡ self.now }
+    {
+        self.noted.as_slice()
+    }
+}

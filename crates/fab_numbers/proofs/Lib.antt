@@ -1,0 +1,8 @@
+pub mod Bounds
+pub mod DeclaredLocals
+pub mod FirstLemmas
+pub mod InTurn
+pub mod SitesInOrder
+pub mod SitesTaken
+pub mod Weights
+pub mod Within

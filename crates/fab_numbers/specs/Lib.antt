@@ -1,0 +1,4 @@
+pub mod FirstNames
+pub mod Gives
+pub mod SiteOrder
+pub mod Tabled

@@ -1,0 +1,20 @@
+//! A bundle with numbers for names.
+#![tactic(auto)]
+
+mod declarations;
+mod events;
+mod expressions;
+mod laws;
+mod locals;
+mod methods;
+mod objects;
+mod parts;
+mod rights;
+mod scope;
+mod sessions;
+mod sites;
+mod statements;
+mod whole;
+
+pub use laws::{numbers_have_names, sites_count_up};
+pub use whole::numbered;

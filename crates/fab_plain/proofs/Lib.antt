@@ -1,5 +1,0 @@
-mod EvaluationExamples
-pub mod Forms
-mod MeaningExamples
-mod MethodExamples
-mod RequestExamples

@@ -1,9 +1,0 @@
-pub mod Counts
-pub mod Evaluation
-pub mod Limits
-pub mod Meaning
-pub mod Methods
-pub mod Names
-pub mod Numbering
-pub mod Requests
-pub mod Resolution

@@ -1,3 +1,0 @@
-pub mod Chains
-pub mod CountRules
-pub mod Every

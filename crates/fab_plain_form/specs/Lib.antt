@@ -1,3 +1,0 @@
-pub mod Evaluated
-pub mod Gives
-pub mod Plain

@@ -1,6 +1,0 @@
-use Rattle.std.proofs.Common.{◌≡◌, map, take}
-use Rattle.fab_plain.specs.Numbering.{numbered_local}
-use Rattle.fab_resolution.proofs.methods.numbered_locals.Given as goal
-
-abbrev pub invariant-loop-local : goal.invariant-loop-local
-invariant-loop-local l = l.made ≡ map (numbered_local l.declared) (take l.local-index l.locals)

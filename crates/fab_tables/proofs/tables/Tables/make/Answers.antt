@@ -1,0 +1,21 @@
+use Rattle.std.proofs.Common.{ap, ◌∙◌}
+use Rattle.fab_language.specs.Names.{node_name, label_name, class_name, method_name, root_name}
+use Rattle.fab_tables.specs.Places.{texts_of}
+use Rattle.fab_tables.proofs.LimitLemmas.{is_within}
+use Rattle.fab_tables.proofs.tables.Tables.make.Goals as goal
+
+pub invariant_of-result : goal.invariant_of-result
+invariant_of-result c =
+    let within = is_within c.args.start.now c.requires in
+    record {
+      principals_are = c.in_ok-names_of.ensures ∙ ap (texts_of node_name) c.as_slice.ensures;
+      labels_are = c.in_ok-names_of-2.ensures ∙ ap (texts_of label_name) c.as_slice-2.ensures;
+      classes_are = c.in_ok-names_of-3.ensures ∙ ap (texts_of class_name) c.as_slice-3.ensures;
+      methods_are = c.in_ok-names_of-4.ensures ∙ ap (texts_of method_name) c.as_slice-4.ensures;
+      roots_are = c.in_ok-roots_of.ensures ∙ ap (texts_of root_name) c.as_slice-5.ensures;
+      few_principals = within.principals;
+      few_labels = within.labels;
+      few_classes = within.classes;
+      few_methods = within.methods;
+      few_roots = within.roots;
+    }
