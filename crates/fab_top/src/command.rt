@@ -1,91 +1,17 @@
-//! What the words ask for, and the reply.
-ghost use Rattle.std.specs.Prelude.{◌≡◌, ◌≢◌, ◌⊎◌, ◌≤◌, List, ℕ, Some, None as Nothing, codes, IfOk, IfSome, IsErrOf};
+//! What the program does with its words, its input and its output.
+ghost use Rattle.std.specs.Prelude.{◌≡◌, ◌≢◌, ◌⊎◌, ◌≤◌, List, ℕ, None as Nothing, codes, IfSome};
 ghost use Rattle.std.specs.Io.KnownBytes.{Keeps, IsAtEnd};
 ghost use Rattle.fab_base.specs.Faults.{Rose};
 ghost use Rattle.fab_words.specs.Words.{asked_by};
-ghost use Rattle.fab_top.specs.Reply.{Replies, IsReply, IsInput, Ends, ComesTo, SpeaksOfText, RepliesInPart, line};
-ghost use Rattle.fab_top.specs.Front.{IsFront};
-ghost use Rattle.fab_top.specs.Reading.{TakesAtMost};
-ghost use Rattle.fab_top.specs.declared.reading.ReadError.TheVariants.{Fault};
-ghost use Rattle.fab_top.specs.declared.status.Status.{Status as AnyStatus};
-ghost use Rattle.fab_top.specs.declared.status.Status.TheVariants.{Usage, ReadFault, WriteFault, Memory};
+ghost use Rattle.fab_reply.specs.Reply.{Replies, Ends, ComesTo, SpeaksOfText, RepliesInPart, line};
+ghost use Rattle.fab_reply.specs.Reading.{TakesAtMost};
+ghost use Rattle.fab_reply.specs.declared.status.Status.{Status as AnyStatus};
+ghost use Rattle.fab_reply.specs.declared.status.Status.TheVariants.{Usage, ReadFault, WriteFault, Memory};
 
-use crate::answers::{evaluate, flows, format};
-use crate::front::{Outcome, front};
-use crate::lines::{limit_line, syntax_line};
-use crate::reading::{ReadError, read_all};
-use crate::status::Status;
-use crate::writing::write_all;
-use fab_base::{NoMemory, Seq, Sink, SinkError, Source};
-use fab_words::{Command, asked_command};
-use std::alloc::Global;
-
-/// What a command replies to a text.
-fn replied(alloc: Global, command: &Command, text: &[u8]) -> Result<(Status, Seq<u8>), NoMemory>
-    ensures { IfOk result (λ r. IsReply (Some command.now) text.now r.0 r.1) }
-{
-    match front(alloc, text)? {
-        Outcome::Syntax { at } => {
-            let reply = syntax_line(alloc, at)?;
-            Ok((Status::Syntax { at }, reply))
-        }
-        Outcome::Limit { what } => {
-            let reply = limit_line(alloc, what)?;
-            Ok((Status::Limit { what }, reply))
-        }
-        Outcome::Bundle(start) => match command {
-            Command::Evaluate => evaluate(alloc, text, &start),
-            Command::Flows { from, to } => flows(alloc, text, &start, from, to),
-            Command::Format => format(alloc, text, &start),
-        },
-    }
-}
-
-/// The status and the text to write, after reading.
-fn reply<S: Source>(
-    alloc: Global,
-    words: &[String],
-    source: &mut S,
-) -> Result<(Status, Seq<u8>), ReadError>
-    ensures given { IfOk result (λ r. (text : List ℕ) × IsInput (asked_by words.now) (S.left source.old) (S.left source.new) text × IsReply (asked_by words.now) text r.0 r.1) }
-    ensures unread { asked_by words.now ≡ Nothing → source.new ≡ source.old }
-    ensures taken { TakesAtMost 4194305 (S.left source.old) (S.left source.new) }
-    ensures later { S.faults source.old ≤ S.faults source.new }
-    ensures failed { IsErrOf result Fault → Rose (S.faults source.old) (S.faults source.new) }
-    ensures asked { IsErrOf result Fault → asked_by words.now ≢ Nothing }
-{
-    match asked_command(alloc, words)? {
-        None => Ok((Status::Usage, Seq::from_slice(alloc, b"usage\n")?)),
-        Some(command) => {
-            let text = read_all(alloc, source)?;
-            Ok(replied(alloc, &command, &text)?)
-        }
-    }
-}
-
-/// Replies, and says how it ended.
-fn run<S: Source, K: Sink>(alloc: Global, words: &[String], source: &mut S, sink: &mut K) -> Status
-    ensures means { Ends (asked_by words.now) result (S.left source.old) (S.left source.new) (K.written sink.old) (K.written sink.new) }
-    ensures unread { asked_by words.now ≡ Nothing → source.new ≡ source.old }
-    ensures taken { TakesAtMost 4194305 (S.left source.old) (S.left source.new) }
-    ensures read { result ≡ ReadFault → Rose (S.faults source.old) (S.faults source.new) }
-    ensures asked { result ≡ ReadFault → asked_by words.now ≢ Nothing }
-    ensures unwritten { result ≡ ReadFault → sink.new ≡ sink.old }
-    ensures write { result ≡ WriteFault → Rose (K.faults sink.old) (K.faults sink.new) }
-    ensures source_faults { S.faults source.old ≤ S.faults source.new }
-    ensures sink_faults { K.faults sink.old ≤ K.faults sink.new }
-{
-    let (status, text) = match reply(alloc, words, source) {
-        Ok(reply) => reply,
-        Err(ReadError::Memory) => return Status::Memory,
-        Err(ReadError::Fault) => return Status::ReadFault,
-    };
-    match write_all(sink, text.as_slice()) {
-        Ok(()) => status,
-        Err(SinkError::Failed) => Status::WriteFault,
-        Err(SinkError::Memory) => Status::Memory,
-    }
-}
+use fab_base::{Sink, Source};
+use fab_reply::{Status, answer};
+use fab_words::asked_command;
+use std::alloc::{AllocError, Global};
 
 /// Does what the words ask for, and says how it ended.
 ///
@@ -102,8 +28,8 @@ pub fn fab<S: Source, K: Sink>(
     // What each status says of what was read and of what was written.
     ensures means { Ends (asked_by words.now) result (S.left source.old) (S.left source.new) (K.written sink.old) (K.written sink.new) }
 
-    // Whatever reply the words and the text have is the one that comes, whole, unless memory runs
-    // out or the sink fails; so each refusal comes exactly where it should.
+    // Whatever reply the words and the text have is the one that comes, whole, unless the source or
+    // the sink fails or memory runs out; so each refusal comes exactly where it should.
     ensures exact { result ≢ ReadFault → IfSome (S.left source.old) (λ text. (status : AnyStatus) (reply : List ℕ) → Replies (asked_by words.now) text status reply → ComesTo result status (K.written sink.old) (K.written sink.new) reply) }
 
     // `Usage` comes exactly where the words ask for nothing, and nothing is read then.
@@ -129,5 +55,8 @@ pub fn fab<S: Source, K: Sink>(
     ensures source_faults { S.faults source.old ≤ S.faults source.new }
     ensures sink_faults { K.faults sink.old ≤ K.faults sink.new }
 {
-    run(alloc, words, source, sink)
+    match asked_command(alloc, words) {
+        Ok(asked) => answer(alloc, asked, source, sink),
+        Err(AllocError) => Status::Memory,
+    }
 }

@@ -3,7 +3,7 @@ use Rattle.std.specs.Prelude.{ℕ, ◌==◌, Bool, true, false, List, [], ◌∷
 use Rattle.clap.specs.Words.{App, Row, Rule, all_of, first_of, new_app, new_rule, with_rule}
 use Rattle.clap.specs.Simple.{on_top}
 use Rattle.clap.specs.declared.builder.action.ArgAction.TheVariants.{Append, Set}
-use Rattle.fab_words.specs.declared.command.Command.{Command}
+use Rattle.fab_command.specs.declared.command.Command.{Command}
 use Rattle.fab_words.specs.Words.{asked}
 
 -- a command's word, which must be there

@@ -2,8 +2,8 @@
 use Rattle.std.specs.Prelude.{ℕ, Bool, ◌&&◌, List, [], ◌∷◌, map, Option, Some, None, if◌then◌else◌, codes, String, string_bytes}
 use Rattle.std.specs.Str.{bytes_eq}
 use Rattle.std.specs.declared.alloc.Global.{Global}
-use Rattle.fab_words.specs.declared.command.Command.{Command}
-use Rattle.fab_words.specs.declared.command.Command.TheVariants.{Evaluate, Flows, Format}
+use Rattle.fab_command.specs.declared.command.Command.{Command}
+use Rattle.fab_command.specs.declared.command.Command.TheVariants.{Evaluate, Flows, Format}
 use Rattle.fab_words.specs.Names.{is_name_word}
 
 -- the command of one word

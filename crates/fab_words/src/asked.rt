@@ -5,11 +5,11 @@ ghost use Rattle.clap.specs.Words.{app_of, found_of, rows_of};
 ghost use Rattle.fab_words.specs.Words.{asked, asked_by, command_of, command_with};
 ghost use Rattle.fab_words.specs.Line.{asked_in, begins_with_dash, command_line};
 
-use crate::command::Command;
 use crate::names::is_name;
 use clap::error::ErrorKind;
 use clap::{Arg, ArgAction, ArgMatches};
 use fab_base::{NoMemory, Text};
+use fab_command::Command;
 use std::alloc::{AllocError, Global};
 
 /// The command of one word.

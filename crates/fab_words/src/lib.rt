@@ -2,10 +2,8 @@
 #![tactic(auto)]
 
 mod asked;
-mod command;
 mod names;
 #[cfg(test)]
 mod tests;
 
 pub use asked::asked_command;
-pub use command::Command;

@@ -1,5 +1,6 @@
-use crate::{Command, asked_command};
+use crate::asked_command;
 use fab_base::NoMemory;
+use fab_command::Command;
 use std::alloc::Global;
 
 const NOTHING: &[&str] = &[];

@@ -1,0 +1,6 @@
+//! What the program can be asked.
+#![tactic(auto)]
+
+mod command;
+
+pub use command::Command;

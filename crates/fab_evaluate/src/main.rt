@@ -1,0 +1,15 @@
+//! The program with the one command `eval`, and no words: what `./fab eval` runs where the whole
+//! program isn't built.
+#![tactic(auto)]
+
+use fab_base::{StdSink, StdSource};
+use fab_command::Command;
+use fab_reply::answer;
+use std::process::ExitCode;
+
+fn main(rt: HostRuntime) -> ExitCode {
+    let mut source = StdSource::new(rt.stdin());
+    let mut sink = StdSink::new(rt.stdout());
+    let status = answer(rt.alloc(), Some(Command::Evaluate), &mut source, &mut sink);
+    ExitCode::from(status.number())
+}

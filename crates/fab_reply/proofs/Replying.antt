@@ -1,0 +1,161 @@
+-- The replies to a text.
+use Rattle.std.proofs.Common.{◌≡◌, ◌⊎◌, inl, inr, ◌≤◌, ◌<◌, ◌+◌, ℕ, List, [], ◌∷◌, ◌++◌, length, Option, Some, None, IfSome, MatchOption, refl, sym, ap, ◌∙◌, subst, arith, append-nil, length-append, codes}
+use Rattle.std.specs.Prelude.{Contains}
+use Rattle.std.specs.Fmt.{decimal}
+use Rattle.std.specs.Io.KnownBytes.{Appends, IsAtEnd, Consumes}
+use Rattle.fab_base.specs.declared.limit.What.{What}
+use Rattle.fab_base.specs.declared.limit.What.TheVariants as w
+use Rattle.fab_tree.specs.declared.start.Start.{Start}
+use Rattle.fab_tree.specs.Print.{canonical}
+use Rattle.fab_base.specs.declared.label.Label.{Label}
+use Rattle.fab_tree.specs.declared.resolved.Resolved.{Resolved}
+use Rattle.fab_tree.specs.Limits.{first_passed}
+use Rattle.fab_language.specs.declared.rule.Fault.{Fault}
+use Rattle.fab_language.specs.declared.rule.NameRule.{NameRule}
+use Rattle.fab_language.specs.declared.rule.NameRule.TheVariants as rule
+use Rattle.fab_language.specs.Evaluation.{evaluation_text}
+use Rattle.fab_language.specs.Faults.{faults, IsFirst}
+use Rattle.fab_language.specs.Flows.{FlowReply, IsFlowReply}
+use Rattle.fab_language.specs.Numbers.{resolved}
+use Rattle.fab_command.specs.declared.command.Command.{Command}
+use Rattle.fab_command.specs.declared.command.Command.TheVariants.{Evaluate, Flows, Format}
+use Rattle.fab_reply.specs.declared.front.Outcome.{Outcome}
+use Rattle.fab_reply.specs.declared.front.Outcome.TheVariants as outcome
+use Rattle.fab_reply.specs.declared.status.Status.{Status}
+use Rattle.fab_reply.specs.declared.status.Status.TheVariants.{Ok, Usage, ReadFault, WriteFault, Memory, Syntax, Name, Limit}
+use Rattle.fab_reply.specs.Front.{Front, IsFront}
+use Rattle.fab_reply.specs.Reply.{Replies, usage, syntax, limit, formatted, misnamed, evaluated, unlabelled, flow, AsksNames, IsReply, LacksLabel, label_of, line, name_line, what_word}
+use Rattle.fab_reply.proofs.Faults.{one_first}
+use Rattle.fab_reply.proofs.Fronts.{one_of_long}
+
+-- ---- outcomes that are one
+
+same_at : {a b : ℕ} → outcome.Syntax a ≡ outcome.Syntax b → a ≡ b
+same_at e = cc
+
+same_what : {a b : What} → outcome.Limit a ≡ outcome.Limit b → a ≡ b
+same_what e = cc
+
+same_bundle : {a b : Start} → outcome.Bundle a ≡ outcome.Bundle b → a ≡ b
+same_bundle e = cc
+
+not_limit : {A : Type 0} {a : ℕ} {b : What} → outcome.Syntax a ≡ outcome.Limit b → A
+not_limit e = absurd (cc)
+
+not_bundle : {A : Type 0} {a : ℕ} {b : Start} → outcome.Syntax a ≡ outcome.Bundle b → A
+not_bundle e = absurd (cc)
+
+no_limit : {A : Type 0} {a : What} {b : Start} → outcome.Limit a ≡ outcome.Bundle b → A
+no_limit e = absurd (cc)
+
+-- ---- replies
+
+pub usage_reply : (text : List ℕ) → IsReply None text Usage (line (codes "usage"))
+usage_reply text = record { is = usage; only = λ s r. go s r }
+  where
+    go : (s : Status) (r : List ℕ) → Replies None text s r → (s ≡ Usage) × (r ≡ line (codes "usage"))
+    go s r usage = (refl, refl)
+
+module _ {command : Command} {text : List ℕ} where
+  pub syntax_reply : {at : ℕ} → IsFront text (outcome.Syntax at) → IsReply (Some command) text (Syntax at) (line (codes "syntax at " ++ decimal at))
+  syntax_reply {at = at} f = record { is = syntax f.is; only = λ s r. go s r }
+    where
+      go : {c : Command} (s : Status) (r : List ℕ) → Replies (Some c) text s r → (s ≡ Syntax at) × (r ≡ line (codes "syntax at " ++ decimal at))
+      go s r (syntax {at = b} g) = let e = same_at (f.only (outcome.Syntax b) g) in (ap Syntax e, ap (λ x. line (codes "syntax at " ++ decimal x)) e)
+      go s r (limit {what = b} g) = not_limit (sym (f.only (outcome.Limit b) g))
+      go s r (formatted {s = b} g) = not_bundle (sym (f.only (outcome.Bundle b) g))
+      go s r (misnamed {s = b} c g h) = not_bundle (sym (f.only (outcome.Bundle b) g))
+      go s r (evaluated {s = b} g h) = not_bundle (sym (f.only (outcome.Bundle b) g))
+      go s r (unlabelled {s = b} g h k) = not_bundle (sym (f.only (outcome.Bundle b) g))
+      go s r (flow {s = b} g h k l m) = not_bundle (sym (f.only (outcome.Bundle b) g))
+
+  pub limit_reply : {what : What} → IsFront text (outcome.Limit what) → IsReply (Some command) text (Limit what) (line (codes "limit " ++ what_word what))
+  limit_reply {what = what} f = record { is = limit f.is; only = λ s r. go s r }
+    where
+      go : {c : Command} (s : Status) (r : List ℕ) → Replies (Some c) text s r → (s ≡ Limit what) × (r ≡ line (codes "limit " ++ what_word what))
+      go s r (syntax {at = b} g) = not_limit (f.only (outcome.Syntax b) g)
+      go s r (limit {what = b} g) = let e = same_what (f.only (outcome.Limit b) g) in (ap Limit e, ap (λ x. line (codes "limit " ++ what_word x)) e)
+      go s r (formatted {s = b} g) = no_limit (sym (f.only (outcome.Bundle b) g))
+      go s r (misnamed {s = b} c g h) = no_limit (sym (f.only (outcome.Bundle b) g))
+      go s r (evaluated {s = b} g h) = no_limit (sym (f.only (outcome.Bundle b) g))
+      go s r (unlabelled {s = b} g h k) = no_limit (sym (f.only (outcome.Bundle b) g))
+      go s r (flow {s = b} g h k l m) = no_limit (sym (f.only (outcome.Bundle b) g))
+
+-- ---- of a bundle
+
+none_first : {xs : List Fault} {x : Fault} {A : Type 0} → xs ≡ [] → IsFirst xs x → A
+none_first {xs} {x} {A} e f = let c = subst (λ ys. Contains ys x) e f.is_one in let l = c.1 in absurd (omega (arith, l))
+
+one_label : {a b : Option Label} {x y : Label} → a ≡ Some x → a ≡ b → b ≡ Some y → x ≡ y
+one_label p e q = let k : Some _ ≡ Some _ = sym p ∙ e ∙ q in cc
+
+module _ {text : List ℕ} {start : Start} (f : IsFront text (outcome.Bundle start)) where
+  same : {b : Start} → Front text (outcome.Bundle b) → b ≡ start
+  same {b} g = same_bundle (f.only (outcome.Bundle b) g)
+
+  pub format_reply : IsReply (Some Format) text Ok (canonical start)
+  format_reply = record { is = formatted f.is; only = λ s r. go s r }
+    where
+      go : (s : Status) (r : List ℕ) → Replies (Some Format) text s r → (s ≡ Ok) × (r ≡ canonical start)
+      go s r (syntax {at = b} g) = not_bundle (f.only (outcome.Syntax b) g)
+      go s r (limit {what = b} g) = no_limit (f.only (outcome.Limit b) g)
+      go s r (formatted g) = (refl, ap canonical (same g))
+      go s r (misnamed c g h) = absurd c
+
+  pub name_reply : {command : Command} {x : Fault} → AsksNames command → IsFirst (faults start) x → IsReply (Some command) text (Name x.rule x.at) (name_line x.rule x.at)
+  name_reply {x = x} asks h = record { is = misnamed asks f.is h; only = λ s r. go asks s r }
+    where
+      go : {c : Command} → AsksNames c → (s : Status) (r : List ℕ) → Replies (Some c) text s r → (s ≡ Name x.rule x.at) × (r ≡ name_line x.rule x.at)
+      go w s r (syntax {at = b} g) = not_bundle (f.only (outcome.Syntax b) g)
+      go w s r (limit {what = b} g) = no_limit (f.only (outcome.Limit b) g)
+      go w s r (formatted g) = absurd w
+      go w s r (misnamed c g k) = let e = one_first _ _ _ _ (ap faults (same g)) k h in (ap (λ y. Name y.rule y.at) e, ap (λ y. name_line y.rule y.at) e)
+      go w s r (evaluated g k) = none_first (ap faults (sym (same g)) ∙ k) h
+      go w s r (unlabelled g k l) = none_first (ap faults (sym (same g)) ∙ k) h
+      go w s r (flow g k l m n) = none_first (ap faults (sym (same g)) ∙ k) h
+
+  pub evaluated_reply : faults start ≡ [] → IsReply (Some Evaluate) text Ok (evaluation_text (resolved start))
+  evaluated_reply right = record { is = evaluated f.is right; only = λ s r. go s r }
+    where
+      go : (s : Status) (r : List ℕ) → Replies (Some Evaluate) text s r → (s ≡ Ok) × (r ≡ evaluation_text (resolved start))
+      go s r (syntax {at = b} g) = not_bundle (f.only (outcome.Syntax b) g)
+      go s r (limit {what = b} g) = no_limit (f.only (outcome.Limit b) g)
+      go s r (misnamed c g k) = none_first (ap faults (same g) ∙ right) k
+      go s r (evaluated g k) = (refl, ap (λ y. evaluation_text (resolved y)) (same g))
+
+  lacks : (a b : List ℕ) {x y : Label} {A : Type 0} → label_of start a ≡ Some x → label_of start b ≡ Some y → LacksLabel start a b → A
+  lacks a b p q (inl n) = absurd (cc)
+  lacks a b p q (inr n) = absurd (cc)
+
+  module _ (a b : List ℕ) (right : faults start ≡ []) where
+    pub unlabelled_reply : LacksLabel start a b → IsReply (Some (Flows a b)) text (Name rule.Unknown (length text)) (name_line rule.Unknown (length text))
+    unlabelled_reply l = record { is = unlabelled f.is right l; only = λ s r. go s r }
+      where
+        go : (s : Status) (r : List ℕ) → Replies (Some (Flows a b)) text s r → (s ≡ Name rule.Unknown (length text)) × (r ≡ name_line rule.Unknown (length text))
+        go s r (syntax {at = b} g) = not_bundle (f.only (outcome.Syntax b) g)
+        go s r (limit {what = b} g) = no_limit (f.only (outcome.Limit b) g)
+        go s r (misnamed c g k) = none_first (ap faults (same g) ∙ right) k
+        go s r (unlabelled g k m) = (refl, refl)
+        go s r (flow g k m n o) = lacks a b (ap (λ x. label_of x a) (sym (same g)) ∙ m) (ap (λ x. label_of x b) (sym (same g)) ∙ n) l
+
+    pub flow_reply : {x y : Label} {t : List ℕ} → label_of start a ≡ Some x → label_of start b ≡ Some y → IsFlowReply (resolved start) x y t → IsReply (Some (Flows a b)) text Ok t
+    flow_reply {x = x} {y = y} {t = t} p q l = record { is = flow f.is right p q l.is; only = λ s r. go s r }
+      where
+        go : (s : Status) (r : List ℕ) → Replies (Some (Flows a b)) text s r → (s ≡ Ok) × (r ≡ t)
+        go s r (syntax {at = b} g) = not_bundle (f.only (outcome.Syntax b) g)
+        go s r (limit {what = b} g) = no_limit (f.only (outcome.Limit b) g)
+        go s r (misnamed c g k) = none_first (ap faults (same g) ∙ right) k
+        go s r (unlabelled {s = z} g k m) = lacks a b p q (subst (λ w. LacksLabel w a b) (same g) m)
+        go s r (flow {from = u} {to = v} g k m n o) =
+            let i : u ≡ x = one_label m (ap (λ z. label_of z a) (same g)) p in
+            let j : v ≡ y = one_label n (ap (λ z. label_of z b) (same g)) q in
+            let here = subst (λ z. FlowReply (resolved z) u v r) (same g) o in
+            (refl, l.only r (subst (λ z. FlowReply (resolved start) x z r) j (subst (λ z. FlowReply (resolved start) z v r) i here)))
+
+-- ---- from what calls answer
+
+pub some_by : {A : Type 0} (P : Type 0) (Q : A → Type 0) {o : Option A} {x : A} → o ≡ Some x → MatchOption o P Q → Q x
+some_by P Q e m = let d = subst (λ o. MatchOption o P Q) e m in d
+
+pub none_by : {A : Type 0} (P : Type 0) (Q : A → Type 0) {o : Option A} → o ≡ None → MatchOption o P Q → P
+none_by P Q e m = let d = subst (λ o. MatchOption o P Q) e m in d

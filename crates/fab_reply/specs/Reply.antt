@@ -1,0 +1,141 @@
+-- What the program replies.
+use Rattle.std.specs.Prelude.{◌≡◌, ◌⊎◌, ℕ, ◌≤◌, List, [], ◌∷◌, ◌++◌, map, length, Option, Some, None, find, option_map, codes}
+use Rattle.std.specs.Fmt.{decimal}
+use Rattle.std.specs.Io.KnownBytes.{Appends, Keeps}
+use Rattle.std.specs.Str.{bytes_eq}
+use Rattle.fab_base.specs.declared.label.Label.{Label}
+use Rattle.fab_base.specs.declared.limit.What.{What}
+use Rattle.fab_base.specs.declared.limit.What.TheVariants as w
+use Rattle.fab_tree.specs.declared.start.Start.{Start}
+use Rattle.fab_tree.specs.Print.{canonical}
+use Rattle.fab_language.specs.declared.rule.Fault.{Fault}
+use Rattle.fab_language.specs.declared.rule.NameRule.{NameRule}
+use Rattle.fab_language.specs.declared.rule.NameRule.TheVariants as rule
+use Rattle.fab_language.specs.Evaluation.{evaluation_text}
+use Rattle.fab_language.specs.Faults.{faults, IsFirst}
+use Rattle.fab_language.specs.Flows.{FlowReply}
+use Rattle.fab_language.specs.Numbers.{resolved}
+use Rattle.fab_reply.specs.declared.front.Outcome.TheVariants as outcome
+use Rattle.fab_reply.specs.Front.{Front}
+use Rattle.fab_reply.specs.Reading.{ReadsText, WritesFront}
+use Rattle.fab_reply.specs.declared.status.Status.{Status}
+use Rattle.fab_reply.specs.declared.status.Status.TheVariants.{Ok, Usage, ReadFault, WriteFault, Memory, Syntax, Name, Limit}
+use Rattle.fab_command.specs.declared.command.Command.{Command}
+use Rattle.fab_command.specs.declared.command.Command.TheVariants.{Evaluate, Flows, Format}
+
+-- a line of a text
+abbrev pub line : List ℕ → List ℕ
+line letters = letters ++ 10 ∷ []
+
+abbrev pub what_word : What → List ℕ
+what_word w.Bytes = codes "bytes"
+what_word w.Depth = codes "depth"
+what_word w.Principals = codes "principals"
+what_word w.Nodes = codes "nodes"
+what_word w.Labels = codes "labels"
+what_word w.Classes = codes "classes"
+what_word w.Fields = codes "fields"
+what_word w.Methods = codes "methods"
+what_word w.Parameters = codes "parameters"
+what_word w.Locals = codes "locals"
+what_word w.Sites = codes "sites"
+what_word w.Roots = codes "roots"
+what_word w.Requests = codes "requests"
+what_word w.Posts = codes "posts"
+what_word w.Crashes = codes "crashes"
+what_word w.Events = codes "events"
+what_word w.Cache = codes "cache"
+
+abbrev pub rule_word : NameRule → List ℕ
+rule_word rule.Unknown = codes "unknown"
+rule_word rule.Doubled = codes "doubled"
+rule_word rule.Node = codes "node"
+rule_word rule.Arity = codes "arity"
+rule_word rule.Typing = codes "type"
+
+-- the line of a name that is refused at a place
+abbrev pub name_line : NameRule → ℕ → List ℕ
+name_line x at = line (codes "name " ++ rule_word x ++ codes " at " ++ decimal at)
+
+-- every command but `fmt` asks for the rules of names and types
+abbrev pub AsksNames : Command → Type 0
+AsksNames Evaluate = Unit {0}
+AsksNames (Flows a b) = Unit {0}
+AsksNames Format = ⊥
+
+-- the label of a word of the command line
+abbrev pub label_of : Start → List ℕ → Option Label
+label_of s word = option_map (λ x. x.label) (find (λ x. bytes_eq x.name.text word) (resolved s).labels)
+
+-- one of two words is no label
+abbrev pub LacksLabel : Start → List ℕ → List ℕ → Type 0
+LacksLabel s a b = (label_of s a ≡ None) ⊎ (label_of s b ≡ None)
+
+-- Replies command text status written: the status, and what is written, for what is asked and the text that there was. A refusal of the text is the same for every command, and so is one of its names for every command that asks for them.
+pub data Replies : Option Command → List ℕ → Status → List ℕ → Type 0 where
+  usage : {text : List ℕ} → Replies None text Usage (line (codes "usage"))
+  syntax : {command : Command} {text : List ℕ} {at : ℕ}
+      → Front text (outcome.Syntax at) → Replies (Some command) text (Syntax at) (line (codes "syntax at " ++ decimal at))
+  limit : {command : Command} {text : List ℕ} {what : What}
+      → Front text (outcome.Limit what) → Replies (Some command) text (Limit what) (line (codes "limit " ++ what_word what))
+  formatted : {text : List ℕ} {s : Start} → Front text (outcome.Bundle s) → Replies (Some Format) text Ok (canonical s)
+  misnamed : {command : Command} {text : List ℕ} {s : Start} {x : Fault}
+      → AsksNames command → Front text (outcome.Bundle s) → IsFirst (faults s) x
+      → Replies (Some command) text (Name x.rule x.at) (name_line x.rule x.at)
+  evaluated : {text : List ℕ} {s : Start}
+      → Front text (outcome.Bundle s) → faults s ≡ [] → Replies (Some Evaluate) text Ok (evaluation_text (resolved s))
+  -- a word that is no label is refused as a name behind the text's last byte
+  unlabelled : {a b text : List ℕ} {s : Start}
+      → Front text (outcome.Bundle s) → faults s ≡ [] → LacksLabel s a b
+      → Replies (Some (Flows a b)) text (Name rule.Unknown (length text)) (name_line rule.Unknown (length text))
+  flow : {a b text reply : List ℕ} {s : Start} {from to : Label}
+      → Front text (outcome.Bundle s) → faults s ≡ [] → label_of s a ≡ Some from → label_of s b ≡ Some to
+      → FlowReply (resolved s) from to reply → Replies (Some (Flows a b)) text Ok reply
+
+-- this is the reply, and there is no other
+pub record IsReply (command : Option Command) (text : List ℕ) (status : Status) (reply : List ℕ) : Type 0 where
+  pub is : Replies command text status reply
+  pub only : (s : Status) (r : List ℕ) → Replies command text s r → (s ≡ status) × (r ≡ reply)
+
+-- this was read for what is asked: the text, or else nothing
+pub data IsInput : Option Command → Option (List ℕ) → Option (List ℕ) → List ℕ → Type 0 where
+  unasked : {old new : Option (List ℕ)} {text : List ℕ} → Keeps old new → IsInput None old new text
+  read : {command : Command} {old new : Option (List ℕ)} {text : List ℕ} → ReadsText old new text → IsInput (Some command) old new text
+
+-- Some front of the reply was written, and the input was read whole.
+pub record RepliesInPart (command : Option Command) (left left' written written' : Option (List ℕ)) : Type 0 where
+  pub text : List ℕ
+  pub status : Status
+  pub reply : List ℕ
+  pub input : IsInput command left left' text
+  pub replies : IsReply command text status reply
+  pub front : WritesFront written written' reply
+
+-- The whole reply with this status was written, and the input was read whole.
+pub record RepliesWith (status : Status) (command : Option Command) (left left' written written' : Option (List ℕ)) : Type 0 where
+  pub text : List ℕ
+  pub reply : List ℕ
+  pub input : IsInput command left left' text
+  pub replies : IsReply command text status reply
+  pub all : Appends written written' reply
+
+-- What each status says of the source and of the sink, before and after. The last case is that of every status that is a reply.
+abbrev pub Ends : Option Command → Status → Option (List ℕ) → Option (List ℕ) → Option (List ℕ) → Option (List ℕ) → Type 0
+Ends command ReadFault left left' written written' = Keeps written written'
+Ends command Memory left left' written written' = Keeps written written' ⊎ RepliesInPart command left left' written written'
+Ends command WriteFault left left' written written' = RepliesInPart command left left' written written'
+Ends command status left left' written written' = RepliesWith status command left left' written written'
+
+-- the status of a text that was read to its end
+abbrev pub SpeaksOfText : Status → Type 0
+SpeaksOfText Ok = Unit {0}
+SpeaksOfText (Syntax at) = Unit {0}
+SpeaksOfText (Limit w.Bytes) = ⊥
+SpeaksOfText (Limit what) = Unit {0}
+SpeaksOfText (Name x at) = Unit {0}
+SpeaksOfText _ = ⊥
+
+-- this status and the whole reply, or memory ran out, or the sink failed
+abbrev pub ComesTo : Status → Status → Option (List ℕ) → Option (List ℕ) → List ℕ → Type 0
+ComesTo found status written written' reply =
+    ((found ≡ status) × Appends written written' reply) ⊎ ((found ≡ Memory) ⊎ (found ≡ WriteFault))

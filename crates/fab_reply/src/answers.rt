@@ -1,0 +1,148 @@
+//! What each command replies to a text that has a bundle.
+ghost use Rattle.std.specs.Prelude.{◌≡◌, ◌≤◌, Some, None as Nothing, [], length, find, option_copied, IfOk, MatchResult};
+ghost use Rattle.std.specs.Str.{bytes_eq};
+ghost use Rattle.fab_tree.specs.Limits.{first_passed};
+ghost use Rattle.fab_language.specs.Faults.{faults, IsFirst};
+ghost use Rattle.fab_language.specs.Numbers.{resolved as resolved_of};
+ghost use Rattle.fab_language.specs.declared.rule.NameRule.TheVariants.{Unknown};
+ghost use Rattle.fab_command.specs.declared.command.Command.TheVariants as asks;
+ghost use Rattle.fab_reply.specs.Front.{IsFront};
+ghost use Rattle.fab_reply.specs.Reply.{IsReply, name_line};
+ghost use Rattle.fab_reply.specs.declared.front.Outcome.TheVariants.{Bundle};
+ghost use Rattle.fab_reply.specs.declared.status.Status.TheVariants.{Name};
+
+use crate::lines::name_line;
+use crate::status::Status;
+use fab_base::{NoMemory, Seq, Text};
+use fab_evaluation::evaluation;
+use fab_flows::flow_reply;
+use fab_language::{Fault, NameRule};
+use fab_names::{NameError, resolve};
+use fab_print::print_start;
+use fab_tree::Start;
+use fab_tree::resolved::{NamedLabel, Resolved};
+use std::alloc::{AllocError, Global};
+
+/// What `fmt` replies to a text with this bundle.
+pub(crate) fn format(
+    alloc: Global,
+    text: &[u8],
+    start: &Start,
+) -> Result<(Status, Seq<u8>), NoMemory>
+    requires { IsFront text.now (Bundle start.now) }
+    ensures { IfOk result (λ r. IsReply (Some asks.Format) text.now r.0 r.1) }
+{
+    let _text = text;
+    let reply = print_start(alloc, start)?;
+    Ok((Status::Ok, reply))
+}
+
+/// A bundle with numbers for names, or its first fault.
+fn named(alloc: Global, start: &Start) -> Result<Result<Resolved, Fault>, NoMemory>
+    requires { first_passed start.now ≡ Nothing }
+    ensures { IfOk result (λ found. MatchResult found (λ r. (faults start.now ≡ []) × (r ≡ resolved_of start.now)) (IsFirst (faults start.now))) }
+{
+    match resolve(alloc, start) {
+        Ok(resolved) => Ok(Ok(resolved)),
+        Err(NameError::Refused { rule, at }) => Ok(Err(Fault { rule, at })),
+        Err(NameError::Memory) => Err(AllocError),
+    }
+}
+
+/// The reply to a name that is refused.
+fn refused(alloc: Global, fault: Fault) -> Result<(Status, Seq<u8>), NoMemory>
+    ensures { IfOk result (λ r. (r.0 ≡ Name fault.rule fault.at) × (r.1 ≡ name_line fault.rule fault.at)) }
+{
+    let Fault { rule, at } = fault;
+    let reply = name_line(alloc, rule, at)?;
+    Ok((Status::Name { rule, at }, reply))
+}
+
+/// What `eval` replies to a text with this bundle.
+pub(crate) fn evaluate(
+    alloc: Global,
+    text: &[u8],
+    start: &Start,
+) -> Result<(Status, Seq<u8>), NoMemory>
+    requires { IsFront text.now (Bundle start.now) }
+    ensures { IfOk result (λ r. IsReply (Some asks.Evaluate) text.now r.0 r.1) }
+{
+    let _text = text;
+    match named(alloc, start)? {
+        Ok(resolved) => {
+            let reply = evaluation(alloc, resolved)?;
+            Ok((Status::Ok, reply))
+        }
+        Err(fault) => refused(alloc, fault),
+    }
+}
+
+/// The label that a word of the command line names.
+fn label<'a>(start: &'a Resolved, word: &Text) -> Option<&'a NamedLabel>
+    ensures { option_copied result ≡ find (λ x. bytes_eq x.name.text word.now) start.now.labels }
+{
+    start
+        .labels
+        .as_slice()
+        .iter()
+        .find(|x| x.name.text.as_str() == word.as_str())
+}
+
+/// The reply where a word of the command line is no label: its place is behind the text's last byte.
+fn unlabelled(alloc: Global, text: &[u8]) -> Result<(Status, Seq<u8>), NoMemory>
+    requires { length text.now ≤ 4194304 }
+    ensures { IfOk result (λ r. (r.0 ≡ Name Unknown (length text.now)) × (r.1 ≡ name_line Unknown (length text.now))) }
+{
+    let at = text.len() as u32;
+    refused(
+        alloc,
+        Fault {
+            rule: NameRule::Unknown,
+            at,
+        },
+    )
+}
+
+/// What `flows` replies to a text with this bundle.
+pub(crate) fn flows(
+    alloc: Global,
+    text: &[u8],
+    start: &Start,
+    from: &Text,
+    to: &Text,
+) -> Result<(Status, Seq<u8>), NoMemory>
+    requires { IsFront text.now (Bundle start.now) }
+    ensures { IfOk result (λ r. IsReply (Some (asks.Flows from.now to.now)) text.now r.0 r.1) }
+{
+    match named(alloc, start)? {
+        Ok(resolved) => flows_in(alloc, text, start, &resolved, from, to),
+        Err(fault) => refused(alloc, fault),
+    }
+}
+
+/// The same, with the bundle's numbers for names.
+fn flows_in(
+    alloc: Global,
+    text: &[u8],
+    start: &Start,
+    resolved: &Resolved,
+    from: &Text,
+    to: &Text,
+) -> Result<(Status, Seq<u8>), NoMemory>
+    requires front { IsFront text.now (Bundle start.now) }
+    requires right { faults start.now ≡ [] }
+    requires is { resolved.now ≡ resolved_of start.now }
+    ensures { IfOk result (λ r. IsReply (Some (asks.Flows from.now to.now)) text.now r.0 r.1) }
+{
+    let _start = start;
+    match label(resolved, from) {
+        None => unlabelled(alloc, text),
+        Some(one) => match label(resolved, to) {
+            None => unlabelled(alloc, text),
+            Some(other) => {
+                let reply = flow_reply(alloc, resolved, &one.label, &other.label)?;
+                Ok((Status::Ok, reply))
+            }
+        },
+    }
+}

@@ -1,0 +1,13 @@
+//! What is replied to a command and a text, and how that is read and written.
+#![tactic(auto)]
+
+mod answers;
+mod command;
+mod front;
+mod lines;
+mod reading;
+mod status;
+mod writing;
+
+pub use command::answer;
+pub use status::Status;

@@ -1,0 +1,80 @@
+//! The lines of refusals.
+ghost use Rattle.std.specs.Prelude.{◌≡◌, ◌++◌, IfOk, codes};
+ghost use Rattle.std.specs.Fmt.{decimal};
+ghost use Rattle.fab_reply.specs.Reply.{line, name_line, rule_word as rule_word_of, what_word as word_of};
+
+use fab_base::{NoMemory, Seq, What};
+use fab_language::NameRule;
+use std::alloc::Global;
+
+/// The word of what has a limit.
+fn what_word(what: What) -> &'static str
+    ensures { result.now ≡ word_of what }
+{
+    match what {
+        What::Bytes => "bytes",
+        What::Depth => "depth",
+        What::Principals => "principals",
+        What::Nodes => "nodes",
+        What::Labels => "labels",
+        What::Classes => "classes",
+        What::Fields => "fields",
+        What::Methods => "methods",
+        What::Parameters => "parameters",
+        What::Locals => "locals",
+        What::Sites => "sites",
+        What::Roots => "roots",
+        What::Requests => "requests",
+        What::Posts => "posts",
+        What::Crashes => "crashes",
+        What::Events => "events",
+        What::Cache => "cache",
+    }
+}
+
+/// `limit` and what there is too much of.
+pub(crate) fn limit_line(alloc: Global, what: What) -> Result<Seq<u8>, NoMemory>
+    ensures { IfOk result (λ out. out ≡ line (codes "limit " ++ word_of what)) }
+{
+    let mut out = Seq::from_slice(alloc, b"limit ")?;
+    out.extend(what_word(what).as_bytes())?;
+    out.push(b'\n')?;
+    Ok(out)
+}
+
+/// `syntax at` and the place.
+pub(crate) fn syntax_line(alloc: Global, at: u32) -> Result<Seq<u8>, NoMemory>
+    ensures { IfOk result (λ out. out ≡ line (codes "syntax at " ++ decimal at)) }
+{
+    let mut out = Seq::from_slice(alloc, b"syntax at ")?;
+    let digits = format!(in alloc; "{at}")?;
+    out.extend(digits.as_str().as_bytes())?;
+    out.push(b'\n')?;
+    Ok(out)
+}
+
+/// The word of a rule of names and types.
+fn rule_word(rule: NameRule) -> &'static str
+    ensures { result.now ≡ rule_word_of rule }
+{
+    match rule {
+        NameRule::Unknown => "unknown",
+        NameRule::Doubled => "doubled",
+        NameRule::Node => "node",
+        NameRule::Arity => "arity",
+        NameRule::Typing => "type",
+    }
+}
+
+/// `name`, the rule that is broken, `at` and the place.
+pub(crate) fn name_line(alloc: Global, rule: NameRule, at: u32) -> Result<Seq<u8>, NoMemory>
+    ensures { IfOk result (λ out. out ≡ name_line rule at) }
+{
+    let mut out = Seq::from_slice(alloc, b"name ")?;
+    out.extend(rule_word(rule).as_bytes())?;
+    out.extend(b" at ")?;
+    let digits = format!(in alloc; "{at}")?;
+    out.extend(digits.as_str().as_bytes())?;
+    out.push(b'\n')?;
+    Ok(out)
+}
