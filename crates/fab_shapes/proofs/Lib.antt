@@ -1,0 +1,12 @@
+pub mod Agreement
+pub mod Courses
+pub mod Expressions
+pub mod Faultless
+pub mod Lists
+pub mod Locals
+pub mod Maps
+pub mod Methods
+pub mod Named
+pub mod Objects
+pub mod Programs
+pub mod Statements
