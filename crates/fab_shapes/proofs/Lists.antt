@@ -3,6 +3,7 @@ use Rattle.std.proofs.Common.{◌≡◌, ℕ, zero, suc, Bool, true, List, [], �
 use Rattle.std.specs.Prelude.{slice_get}
 use Rattle.std.specs.List.{flat_map, AllByRecursion, list_all}
 use Rattle.std.proofs.lemmas.Bool.{and_from}
+use Rattle.fab_laws.proofs.Values.{all_joined}
 
 pub left_nil : {A : Type 0} (xs ys : List A) → xs ++ ys ≡ [] → xs ≡ []
 left_nil [] ys e = refl
@@ -22,10 +23,6 @@ pub in_both : {A : Type 0} (P : A → Type 0) (xs ys : List A) → AllByRecursio
 in_both P [] ys h = (tt, h)
 in_both P (x ∷ xs) ys h = let t = in_both P xs ys h.1 in ((h.0, t.0), t.1)
 
-pub of_both : {A : Type 0} (P : A → Type 0) (xs ys : List A) → AllByRecursion P xs → AllByRecursion P ys → AllByRecursion P (xs ++ ys)
-of_both P [] ys h k = k
-of_both P (x ∷ xs) ys h k = (h.0, of_both P xs ys h.1 k)
-
 -- what holds of all that is made of each element
 pub in_each : {X A : Type 0} (P : A → Type 0) (f : X → List A) (xs : List X) → AllByRecursion P (flat_map f xs) → AllByRecursion (λ x. AllByRecursion P (f x)) xs
 in_each P f [] h = tt
@@ -33,11 +30,11 @@ in_each P f (x ∷ xs) h = let t = in_both P (f x) (flat_map f xs) h in (t.0, in
 
 pub of_each : {X A : Type 0} (P : A → Type 0) (f : X → List A) (xs : List X) → AllByRecursion (λ x. AllByRecursion P (f x)) xs → AllByRecursion P (flat_map f xs)
 of_each P f [] h = tt
-of_each P f (x ∷ xs) h = of_both P (f x) (flat_map f xs) h.0 (of_each P f xs h.1)
+of_each P f (x ∷ xs) h = all_joined P (f x) (flat_map f xs) h.0 (of_each P f xs h.1)
 
 pub of_all : {X A : Type 0} (P : A → Type 0) (f : X → List A) (xs : List X) → ((x : X) → AllByRecursion P (f x)) → AllByRecursion P (flat_map f xs)
 of_all P f [] h = tt
-of_all P f (x ∷ xs) h = of_both P (f x) (flat_map f xs) (h x) (of_all P f xs h)
+of_all P f (x ∷ xs) h = all_joined P (f x) (flat_map f xs) (h x) (of_all P f xs h)
 
 pub at_index : {A : Type 0} (P : A → Type 0) (xs : List A) (i : ℕ) (x : A) → AllByRecursion P xs → slice_get xs i ≡ Some x → P x
 at_index P [] i x h e = absurd (cc)

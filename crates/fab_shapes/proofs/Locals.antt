@@ -60,26 +60,26 @@ module _ (s : Start) (classes : AllByRecursion (IsDeclared s) s.program.classes)
 
   -- a field behind what is of this type
   module _ (y : Name) where
-    in_class : (z : Name) (o : Option Class) → named class_name s.program.classes z ≡ o → if_found o z ≡ [] → in_field_of s [] o y ≡ []
+    field_in_class : (z : Name) (o : Option Class) → named class_name s.program.classes z ≡ o → if_found o z ≡ [] → in_field_of s [] o y ≡ []
         → Holds s (kind_of_field s (named field_name (fields_of s o) y)) (n.kind_at (n.class_kinds (classes_in s) (class_number s z)) (number_of field_name (fields_in o) y))
-    in_class z None is e f = absurd (omega (arith, ap length e))
-    in_class z (Some c) is e f =
-        let w = found field_name (named field_name c.fields y) y f in
+    field_in_class z None is e f = absurd (omega (arith, ap length e))
+    field_in_class z (Some c) is e f =
+        let w = found (named field_name c.fields y) y f in
         let declared : in_sort s w.0.sort ≡ [] = of_named field_name (λ x. in_sort s x.sort ≡ []) c.fields y w.0 (of_named class_name (IsDeclared s) s.program.classes z c classes is) w.1 in
         let kind : n.kind_at (made_kinds s c) (number_of field_name c.fields y) ≡ n.kind_of_sort (sort_of s w.0.sort) =
         kind_at_made (λ x. n.kind_of_sort x.sort) (numbers.field_of s) c.fields (number_of field_name c.fields y) w.0 (at_number field_name c.fields y w.0 w.1) in
         subst (λ k. Holds s (kind_of_field s (named field_name c.fields y)) k) (sym (ap (λ ks. n.kind_at ks (number_of field_name c.fields y)) (class_at s z c is) ∙ kind))
         (subst (λ o. Holds s (kind_of_field s o) (n.kind_of_sort (sort_of s w.0.sort))) (sym w.1) (sort_holds s w.0.sort declared))
 
-    in_type : (t : Sort) → in_sort s t ≡ [] → in_field_of s [] (class_of_sort s t) y ≡ [] → is_reachable (kind_of_sort s t) ≡ true
+    field_in_type : (t : Sort) → in_sort s t ≡ [] → in_field_of s [] (class_of_sort s t) y ≡ [] → is_reachable (kind_of_sort s t) ≡ true
         → Holds s (kind_of_field s (named field_name (fields_of s (class_of_sort s t)) y)) (n.field_kind (classes_in s) (n.kind_of_sort (sort_of s t)) (number_of field_name (fields_of_sort s t) y))
-    in_type sorts.Int e f r = absurd (false≢true r)
-    in_type (sorts.Class z) e f r = in_class z (named class_name s.program.classes z) refl e f
+    field_in_type sorts.Int e f r = absurd (false≢true r)
+    field_in_type (sorts.Class z) e f r = field_in_class z (named class_name s.program.classes z) refl e f
 
   module _ (known : Locals) (knows : AllByRecursion (IsKnown s locals) known) where
     pub stands_for : (x : Name) → in_local s known x ≡ [] → StandsFor s locals known x
     stands_for x e =
-        let w = found local_name (named local_name known x) x e in
+        let w = found (named local_name known x) x e in
         let k : IsKnown s locals w.0 = of_named local_name (IsKnown s locals) known x w.0 knows w.1 in
         record {
           local = w.0;
@@ -99,7 +99,7 @@ module _ (s : Start) (classes : AllByRecursion (IsDeclared s) s.program.classes)
     field_holds x y at e r =
         let w = stands_for x (left_nil (in_local s known x) (in_field_of s known (class_of_local s (local_of s known x)) y) e) in
         let f : in_field_of s known (class_of_local s (local_of s known x)) y ≡ [] = right_nil (in_local s known x) (in_field_of s known (class_of_local s (local_of s known x)) y) e in
-        let here = in_type y w.local.sort w.declared
+        let here = field_in_type y w.local.sort w.declared
         (subst (λ o. in_field_of s known (class_of_local s o) y ≡ []) w.known_as f)
         (subst (λ o. is_reachable (kind_of_local s o) ≡ true) w.known_as (allowed (is_reachable (local_kind s known x)) at r)) in
         subst (λ k. Holds s (kind_of_field s (field_of s known x y)) (n.field_kind (classes_in s) k (field_number s locals x y))) (sym (kind_of_first x w.local w.first))

@@ -161,7 +161,7 @@ module _ (s : Start) (classes : AllByRecursion (IsDeclared s) s.program.classes)
 
   pub call_fits : (x : Name) (es : List Expression) → u.in_method_name s x ++ flat_map (u.in_expression s known) es ≡ [] → a.in_call s x (length es) ≡ [] → t.in_call s known x es ≡ [] → Calls x es
   call_fits x es e c g =
-      let w = found method_name (named method_name s.program.methods x) x (left_nil (u.in_method_name s x) (flat_map (u.in_expression s known) es) e) in
+      let w = found (named method_name s.program.methods x) x (left_nil (u.in_method_name s x) (flat_map (u.in_expression s known) es) e) in
       let heading : HasHeading s w.0 = of_named method_name (HasHeading s) s.program.methods x w.0 headings w.1 in
       let many : length w.0.parameters ≡ length es = as_many (length w.0.parameters) (length es) x (subst (λ o. a.for_method o (length es) x ≡ []) w.1 c) in
       record {
@@ -208,7 +208,7 @@ module _ (s : Start) (classes : AllByRecursion (IsDeclared s) s.program.classes)
       → AllByRecursion Met (n.given i (right_kind (rights.New x y es at) k) ∷ right_claims (rights.New x y es at) k)
   new_right taker i x y es at k h e c g =
       let unknown_class = u.in_class_name s x in
-      let w = found class_name (named class_name s.program.classes x) x (left_nil unknown_class (u.in_principal s y) (left_nil (unknown_class ++ u.in_principal s y) (flat_map (u.in_expression s known) es) e)) in
+      let w = found (named class_name s.program.classes x) x (left_nil unknown_class (u.in_principal s y) (left_nil (unknown_class ++ u.in_principal s y) (flat_map (u.in_expression s known) es) e)) in
       let arguments = t.in_arguments s known (t.field_kinds s (known_class s x)) es in
       let given = given_to taker (record { kind = kind_of_class s (known_class s x); at = at }) in
       let many : length w.0.fields ≡ length es = as_many (length w.0.fields) (length es) x (subst (λ o. a.for_class o (length es) x ≡ []) w.1 c) in (

@@ -19,6 +19,11 @@ same_text x y e = (bytes_eq-Decides x.text y.text).0 e
 pub same_name : (x y : Name) → x.text ≡ y.text → is_same_name x y ≡ true
 same_name x y e = (bytes_eq-Decides x.text y.text).1 e
 
+-- a name that isn't unknown stands for an item
+pub found : {A : Type 0} (o : Option A) (x : Name) → if_found o x ≡ [] → (y : A) × (o ≡ Some y)
+found None x e = absurd (omega (arith, ap length e))
+found (Some y) x e = (y, refl)
+
 module _ {A : Type 0} (name : A → Name) where
   -- names of one text stand for one item, and have one number
   pub named_same : (items : List A) (x y : Name) → x.text ≡ y.text → named name items x ≡ named name items y
@@ -33,11 +38,7 @@ module _ {A : Type 0} (name : A → Name) where
       ap (λ t. cond (bytes_eq (name z).text t) zero (suc (number_of name zs x))) e
       ∙ ap (λ r. cond (bytes_eq (name z).text y.text) zero (suc r)) (number_same zs x y e)
 
-  -- a name that isn't unknown stands for an item
-  pub found : (o : Option A) (x : Name) → if_found o x ≡ [] → (y : A) × (o ≡ Some y)
-  found None x e = absurd (omega (arith, ap length e))
-  found (Some y) x e = (y, refl)
-
+  -- what a name stands for has it
   pub has_name : (items : List A) (x : Name) (y : A) → named name items x ≡ Some y → (name y).text ≡ x.text
   has_name [] x y e = absurd (cc)
   has_name (z ∷ zs) x y e = by (is_same_name (name z) x) refl e (λ h. has_name zs x y h)
@@ -55,7 +56,7 @@ module _ {A : Type 0} (name : A → Name) where
       by true g later = let s : z ≡ y = cc in subst P s h.0
       by false g later = later g
 
-  -- the item stands at the name's number, and so does what items become in turn
+  -- the item stands at the name's number
   pub at_number : (items : List A) (x : Name) (y : A) → named name items x ≡ Some y → slice_get items (number_of name items x) ≡ Some y
   at_number [] x y e = absurd (cc)
   at_number (z ∷ zs) x y e = by (is_same_name (name z) x) e (λ g. at_number zs x y g)

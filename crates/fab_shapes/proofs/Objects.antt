@@ -177,7 +177,7 @@ module _ (s : Start) (right : IsFaultless s) where
   object_shaped k x r =
       let names = in_class_name s x.class ++ in_principal s x.store in
       let given = flat_map (in_given s) x.values in
-      let w = found class_name (known_class s x.class) x.class (left_nil (in_class_name s x.class) (in_principal s x.store) (left_nil names given r.declared)) in
+      let w = found (known_class s x.class) x.class (left_nil (in_class_name s x.class) (in_principal s x.store) (left_nil names given r.declared)) in
       let many : length w.0.fields ≡ length x.values = as_many (length w.0.fields) (length x.values) x.name (subst (λ o. a.for_class o (length x.values) x.name ≡ []) w.1 r.counted) in
       record {
         class = refl;
@@ -201,7 +201,7 @@ module _ (s : Start) (right : IsFaultless s) where
   request_fits x worker k r =
       let name = in_method_name s x.method in
       let given = flat_map (in_given s) x.arguments in
-      let w = found method_name (known_method s x.method) x.method (left_nil name given r.declared) in
+      let w = found (known_method s x.method) x.method (left_nil name given r.declared) in
       let heading : HasHeading s w.0 = of_named method_name (HasHeading s) s.program.methods x.method w.0 (headings_of s right) w.1 in
       let many : length w.0.parameters ≡ length x.arguments = as_many (length w.0.parameters) (length x.arguments) x.method (subst (λ o. a.for_method o (length x.arguments) x.method ≡ []) w.1 r.counted) in
       values_suit (t.parameter_kinds s (Some w.0)) (n.parameter_kinds (slice_get (methods_in s) (method_number s x.method))) x.arguments

@@ -19,10 +19,10 @@ use Rattle.fab_language.specs.MethodNumbers.{block_of, result_of, returns_of, me
 use Rattle.fab_language.specs.Numbers.{resolved}
 use Rattle.fab_laws.specs.Kinds as n
 use Rattle.fab_laws.specs.Shapes.{is_met, is_fitting}
-use Rattle.fab_laws.proofs.Values.{all_more}
+use Rattle.fab_laws.proofs.Values.{all_joined, all_more}
 use Rattle.fab_shapes.proofs.Agreement.{sort_holds}
 use Rattle.fab_shapes.proofs.Faultless.{IsRightMethod, IsFaultless, faultless}
-use Rattle.fab_shapes.proofs.Lists.{left_nil, right_nil, in_both, of_both, from_two, all_pass}
+use Rattle.fab_shapes.proofs.Lists.{left_nil, right_nil, in_both, from_two, all_pass}
 use Rattle.fab_shapes.proofs.Locals.{classes_in, IsDeclared, IsKnown, local_kinds}
 use Rattle.fab_shapes.proofs.Methods.{Met, HasHeading, methods_in, given_fits}
 use Rattle.fab_shapes.proofs.Statements.{IsRight, IsFirst, block_fits}
@@ -58,7 +58,7 @@ module _ (s : Start) (classes : AllByRecursion (IsDeclared s) s.program.classes)
   methods_fit : (ms : List Method) (k : ℕ) → AllByRecursion (IsRightMethod s) ms → AllByRecursion Met (flat_map (n.method_claims (classes_in s) (methods_in s)) (methods_of s ms k).0)
   methods_fit [] k h = tt
   methods_fit (m ∷ ms) k h =
-      of_both Met (n.method_claims (classes_in s) (methods_in s) (method_of s m k).0) (flat_map (n.method_claims (classes_in s) (methods_in s)) (methods_of s ms (method_of s m k).1).0)
+      all_joined Met (n.method_claims (classes_in s) (methods_in s) (method_of s m k).0) (flat_map (n.method_claims (classes_in s) (methods_in s)) (methods_of s ms (method_of s m k).1).0)
       (method_fits m k h.0) (methods_fit ms (method_of s m k).1 h.1)
 
 -- the methods of a bundle that breaks no rule have headings whose types are declared
