@@ -15,6 +15,19 @@ use fab_tree::Start;
 use fab_tree::resolved::Resolved;
 use std::alloc::Global;
 
+/// The bundle of the tables with numbers for names, or its first fault.
+fn resolved_by(alloc: Global, tables: &Tables<'_>) -> Result<Resolved, NameError>
+    requires { first_passed tables.now ≡ Nothing }
+    ensures right { IfOk result (λ _. faults tables.now ≡ []) }
+    ensures resolved { IfOk result (λ r. r ≡ resolved tables.now) }
+    ensures refused { (rule : Rule) (at : ℕ) → result ≡ Refusal (Refused rule at) → IsFirst (faults tables.now) (record { rule = rule; at = at }) }
+{
+    match first_fault(alloc, tables)? {
+        Some(Fault { rule, at }) => Err(NameError::Refused { rule, at }),
+        None => Ok(numbered(alloc, tables)?),
+    }
+}
+
 /// The bundle with numbers for names, where it keeps the rules of names and types; else the first
 /// fault, by its place, and at one place by the order of the rules.
 pub fn resolve(alloc: Global, start: &Start) -> Result<Resolved, NameError>
@@ -24,8 +37,5 @@ pub fn resolve(alloc: Global, start: &Start) -> Result<Resolved, NameError>
     ensures refused { (rule : Rule) (at : ℕ) → result ≡ Refusal (Refused rule at) → IsFirst (faults start.now) (record { rule = rule; at = at }) }
 {
     let tables = Tables::make(alloc, start)?;
-    match first_fault(alloc, &tables)? {
-        Some(Fault { rule, at }) => Err(NameError::Refused { rule, at }),
-        None => Ok(numbered(alloc, &tables)?),
-    }
+    resolved_by(alloc, &tables)
 }
