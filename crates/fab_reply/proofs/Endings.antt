@@ -109,3 +109,17 @@ module _ (command : Option Command) (l l' w w' : Option (List ℕ)) where
   usage_comes (Syntax at) e f none = as_usage none e
   usage_comes (Limit what) e f none = as_usage none e
   usage_comes (Name x at) e f none = as_usage none e
+
+  -- and only there
+  nothing_asked : {asked : Option Command} {text reply : List ℕ} → Replies asked text Usage reply → asked ≡ None
+  nothing_asked usage = refl
+
+  pub only_unasked : (status : Status) → Ends command status l l' w w' → status ≡ Usage → command ≡ None
+  only_unasked Usage e h = nothing_asked e.replies.is
+  only_unasked Ok e h = absurd (cc)
+  only_unasked ReadFault e h = absurd (cc)
+  only_unasked WriteFault e h = absurd (cc)
+  only_unasked Memory e h = absurd (cc)
+  only_unasked (Syntax at) e h = absurd (cc)
+  only_unasked (Limit what) e h = absurd (cc)
+  only_unasked (Name x at) e h = absurd (cc)
