@@ -1,4 +1,3 @@
-pub mod Arguments
 pub mod Making
 pub mod Running
 pub mod Settling

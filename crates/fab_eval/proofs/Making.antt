@@ -1,5 +1,5 @@
 -- What an attempt makes: the next name is new, and each step keeps that.
-use Rattle.std.proofs.Common.{◌≡◌, ℕ, ◌+◌, ◌<◌, ◌≤◌, Bool, true, false, ◌||◌, ◌&&◌, ◌==◌, List, [], ◌∷◌, ◌++◌, Option, Some, None, is_some, Result, Ok, Err, OnOk, OnErr, if◌then◌else◌, count_by, refl, sym, ap, ◌∙◌, subst, arith, zero-add, inl, inr, ◌⊎◌}
+use Rattle.std.proofs.Common.{◌≡◌, ℕ, ◌+◌, ◌<◌, Bool, true, false, ◌||◌, ◌==◌, List, [], ◌∷◌, ◌++◌, Option, Some, None, is_some, Result, Ok, Err, OnOk, OnErr, if◌then◌else◌, count_by, refl, sym, ap, ◌∙◌, subst, arith, zero-add}
 use Rattle.std.specs.List.{list_any, IsDistinct}
 use Rattle.std.specs.Map.{keys_of}
 use Rattle.std.proofs.lemmas.Bool.{true≢false}
@@ -11,13 +11,13 @@ use Rattle.fab_base.specs.declared.object.Oid.{Oid}
 use Rattle.fab_base.specs.declared.object.Object.{Object}
 use Rattle.fab_base.specs.declared.object.Tid.{Tid}
 use Rattle.fab_base.specs.declared.object.Value.{Value}
-use Rattle.fab_base.specs.FlatMap.{FlatMap, get, put, map_of, is_same}
+use Rattle.fab_base.specs.FlatMap.{get, put, is_same}
 use Rattle.fab_map.proofs.Order.{one_name}
-use Rattle.fab_map.proofs.Rows.{get-put_same, get-put_other}
+use Rattle.fab_map.proofs.Rows.{get-put_other}
 use Rattle.fab_map.proofs.Made.{get-map_of}
-use Rattle.fab_language.specs.Heaps.{Heap, Reach, gone, full, found, reach, reach_in, reach_before, noted, is_among, is_full, is_changed, is_spent, touched, index_at, replaced, created, with_row}
-use Rattle.fab_language.specs.Meaning.{with_field, field_of, next_name, unchanged}
-use Rattle.fab_nested.specs.Nested.{Nested, Answers, Call, gives, needs, stops, reached, settled, read, write, create, entered, merged, aborted, back_to, kept_from, nested_of, names_of, objects_of}
+use Rattle.fab_language.specs.Heaps.{Heap, full, found, reach_in, reach_before, noted, is_among, is_full, is_changed, is_spent, touched, index_at, replaced, with_row}
+use Rattle.fab_language.specs.Meaning.{with_field, field_of, next_name}
+use Rattle.fab_nested.specs.Nested.{Nested, Answers, Call, gives, needs, stops, reached, settled, read, write, create, merged, aborted, back_to, kept_from, nested_of, names_of, objects_of}
 use Rattle.fab_nested.specs.Calls.{Gives}
 use Rattle.fab_nested.specs.declared.frame_error.FrameError.{FrameError}
 use Rattle.fab_nested.specs.declared.frame_error.FrameError.TheVariants.{Memory, Need, Full}

@@ -1,22 +1,17 @@
 -- Statements and calls: what is left of each piece once the calls before have given what they did.
-use Rattle.std.proofs.Common.{◌≡◌, ℕ, zero, suc, ◌+◌, ◌<◌, ◌≤◌, Bool, true, false, List, [], ◌∷◌, drop, length, get_or, Option, Result, Ok, Err, refl, sym, ap, ◌∙◌, subst, arith, add-one, drop-cons}
+use Rattle.std.proofs.Common.{◌≡◌, ℕ, zero, suc, ◌<◌, ◌≤◌, Bool, true, false, List, drop, length, get_or, Option, Result, Ok, Err, refl, sym, ap, ◌∙◌, subst, arith}
 use Rattle.fab_base.specs.declared.object.Tid.{Tid}
 use Rattle.fab_base.specs.declared.object.Value.{Value}
-use Rattle.fab_base.specs.declared.object.Stop.TheVariants.{Fuel}
-use Rattle.fab_tree.specs.declared.resolved.Expression.{Expression}
-use Rattle.fab_tree.specs.declared.resolved.Statement.{Statement, fold-roll-Statement}
-use Rattle.fab_tree.specs.declared.resolved.Statement.TheVariants as statements
-use Rattle.fab_tree.specs.declared.resolved.Statement.TheOpen as s
+use Rattle.fab_tree.specs.declared.resolved.Statement.{Statement}
 use Rattle.fab_tree.specs.declared.resolved.Resolved.{Resolved}
-use Rattle.fab_language.specs.Meaning as m
-use Rattle.fab_language.specs.Meaning.{State, Run, goes, ends, M, and_then, ◌>>=◌, ◌>>◌, charge, holds, value, turns, loop, or_else, statement, statement_step, block, called, back_with}
-use Rattle.fab_eval.specs.declared.halt.End.{End}
+use Rattle.fab_language.specs.Meaning.{State, Run, goes, M, charge, holds, turns, or_else, statement, block, called, back_with}
 use Rattle.fab_eval.specs.declared.halt.End.TheVariants.{Failed, Stopped, Missing}
 use Rattle.fab_eval.specs.declared.halt.Halt.{Halt}
 use Rattle.fab_eval.specs.declared.halt.Halt.TheVariants.{Memory, Ended}
 use Rattle.fab_eval.specs.Points.{Base, Point, with_locals, with_saved, top_of, under, saving, aborted}
-use Rattle.fab_eval.specs.Gives.{Gives, Keeps, end_of, went_on}
-use Rattle.fab_eval.specs.Pieces.{choice}
+use Rattle.fab_eval.specs.Gives.{Gives, Keeps, went_on}
+use Rattle.fab_values.specs.Pieces.{choice}
+use Rattle.fab_values.proofs.Steps.{next_statement, charge_none, turns_on}
 
 -- ---- the attempt is the same
 
@@ -29,22 +24,12 @@ in_same result new run a b e g = subst (λ (x : Base). Gives result new (run x.t
 
 -- ---- blocks
 
-next_statement : (tid : Tid) (call : ℕ → List Value → M (Option Value)) (ss : List Statement) (i : ℕ) (x : Statement) (p : State) → i < length ss → x ≡ get_or ss i x → block tid call (drop i ss) p ≡ and_then (statement tid call x p) (λ _. block tid call (drop (i + 1) ss))
-next_statement tid call ss i x p le e = rw (add-one, drop-cons ss i x) (ap (λ (y : Statement). and_then (statement tid call y p) (λ _. block tid call (drop (suc i) ss))) (sym e))
-
--- a statement went on
-pub block_goes_on : (tid : Tid) (call : ℕ → List Value → M (Option Value)) (ss : List Statement) (i : ℕ) (x : Statement) (p q : State) (all : Run (Unit {0})) → i < length ss → x ≡ get_or ss i x → statement tid call x p ≡ goes tt q → block tid call (drop i ss) p ≡ all → block tid call (drop (i + 1) ss) q ≡ all
-block_goes_on tid call ss i x p q all le e g same = sym (next_statement tid call ss i x p le e ∙ rw g refl) ∙ same
-
 -- a statement ended
 pub block_ends : (tid : Tid) (call : ℕ → List Value → M (Option Value)) (ss : List Statement) (i : ℕ) (x : Statement) (p : State) (q : Point) (h : Halt) (all : Run (Unit {0})) → i < length ss → x ≡ get_or ss i x → Gives {A = Unit {0}} (Err h) q (statement tid call x p) → block tid call (drop i ss) p ≡ all → Gives {A = Unit {0}} (Err h) q all
 block_ends tid call ss i x p q Memory all le e g same = tt
 block_ends tid call ss i x p q (Ended end) all le e g same = sym same ∙ next_statement tid call ss i x p le e ∙ rw g refl
 
 -- ---- choices
-
-pub if_means : (tid : Tid) (call : ℕ → List Value → M (Option Value)) (e : Expression) (body otherwise : List Statement) → statement tid call (statements.If e body otherwise) ≡ choice (value e) (block tid call body) (block tid call otherwise)
-if_means tid call e body otherwise = ap (statement tid call) (sym (statements.rolls-If e body otherwise)) ∙ fold-roll-Statement (M (Unit {0})) (statement_step tid call) (s.If e body otherwise)
 
 pub choice_first : (result : Result (Unit {0}) Halt) (new : Point) (test : M Value) (first second : M (Unit {0})) (p q r : State) (v : Value) → charge p ≡ goes tt q → test q ≡ goes v r → holds v ≡ true → Gives result new (first r) → Gives result new (choice test first second p)
 choice_first result new test first second p q r v e1 e2 e3 g = rw (e1, e2, e3) g
@@ -54,22 +39,11 @@ choice_second result new test first second p q r v e1 e2 e3 g = rw (e1, e2, e3) 
 
 -- ---- loops
 
-charge_none : (p : State) → p.fuel ≡ 0 → charge p ≡ ends (m.stopped Fuel) p
-charge_none p e = rw e refl
-
 -- where the cost of a test can't be paid, the loop ends so
 pub turns_end : (n : ℕ) (test : M Value) (body : M (Unit {0})) (p : State) (new : Point) (h : Halt) (all : Run (Unit {0})) → p.fuel ≤ n → Gives {A = Unit {0}} (Err h) new (charge p) → turns n test body p ≡ all → Gives {A = Unit {0}} (Err h) new all
 turns_end n test body p new Memory all le g same = tt
 turns_end zero test body p new (Ended e) all le g same = sym same ∙ sym (charge_none p (omega arith)) ∙ g
 turns_end (suc n) test body p new (Ended e) all le g same = sym same ∙ rw g refl
-
-turns_on : (n : ℕ) (test : M Value) (body : M (Unit {0})) (p q r : State) (v : Value) → charge p ≡ goes tt q → test q ≡ goes v r → holds v ≡ true → turns (suc n) test body p ≡ and_then (body r) (λ _. turns n test body)
-turns_on n test body p q r v e1 e2 e3 = rw (e1, e2, e3) refl
-
--- one turn, in the loop's invariant
-pub turns_next : (n : ℕ) (test : M Value) (body : M (Unit {0})) (p q r z : State) (v : Value) (all : Run (Unit {0})) → p.fuel ≤ n → z.fuel < p.fuel → charge p ≡ goes tt q → test q ≡ goes v r → holds v ≡ true → body r ≡ goes tt z → turns n test body p ≡ all → (k : ℕ) × (z.fuel ≤ k) × (turns k test body z ≡ all)
-turns_next zero test body p q r z v all le lt e1 e2 e3 e4 same = absurd (omega arith)
-turns_next (suc n) test body p q r z v all le lt e1 e2 e3 e4 same = (n, omega arith, sym (turns_on n test body p q r v e1 e2 e3 ∙ rw e4 refl) ∙ same)
 
 -- the block ends in a turn
 pub turn_ends : (n : ℕ) (test : M Value) (body : M (Unit {0})) (p q r : State) (v : Value) (new : Point) (h : Halt) (all : Run (Unit {0})) → p.fuel ≤ n → q.fuel < p.fuel → charge p ≡ goes tt q → test q ≡ goes v r → holds v ≡ true → Gives {A = Unit {0}} (Err h) new (body r) → turns n test body p ≡ all → Gives {A = Unit {0}} (Err h) new all

@@ -2,5 +2,4 @@ pub mod Attempts
 pub mod Points
 pub mod Gives
 pub mod Outcomes
-pub mod Pieces
 pub mod Settles

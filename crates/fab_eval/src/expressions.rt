@@ -2,12 +2,14 @@
 ghost use Rattle.std.specs.Prelude.{◌≡◌, map};
 ghost use Rattle.fab_language.specs.Meaning.{chained, operate, value, values};
 ghost use Rattle.fab_eval.specs.Gives.{Gives};
+ghost use Rattle.fab_eval.specs.Points.{Point};
 
-use crate::halt::Halt;
+use crate::halt::{End, Halt};
 use crate::state::State;
-use crate::values::{compares, holds, int_of, operate, truth};
 use fab_base::{Seq, Value, java_sub};
+use fab_tree::Operator;
 use fab_tree::resolved::{Expression, Form, Operand};
+use fab_values::{compares, holds, int_of, operate, truth};
 
 /// The value of an expression.
 #[cycle(value)]
@@ -62,9 +64,19 @@ fn chained(state: &mut State, others: &[Operand], first: Value) -> Result<Value,
     let mut v = first;
     for other in others {
         let w = value(state, &other.operand)?;
-        v = operate(other.operator, v, w)?;
+        v = operated(other.operator, v, w)?;
     }
     Ok(v)
+}
+
+/// What an operator makes of two values, or a failure.
+fn operated(operator: Operator, left: Value, right: Value) -> Result<Value, Halt>
+    ensures { (p : Point) → Gives result p (operate operator left right p.state) }
+{
+    match operate(operator, left, right) {
+        Some(value) => Ok(value),
+        None => Err(Halt::Ended(End::Failed)),
+    }
 }
 
 /// The values of arguments, from the left.

@@ -7,7 +7,6 @@ mod halt;
 mod job;
 mod state;
 mod statements;
-mod values;
 mod whole;
 
 pub use done::Done;

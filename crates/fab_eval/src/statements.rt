@@ -2,14 +2,14 @@
 ghost use Rattle.std.specs.Prelude.{◌≡◌, ◌≤◌, IfOk, Some};
 ghost use Rattle.fab_language.specs.Meaning.{block, body_of, called, default, entered, locals_at_start, loop, right, statement, value};
 ghost use Rattle.fab_eval.specs.Gives.{Gives, Keeps, went_on};
-ghost use Rattle.fab_eval.specs.Pieces.{assignment, attempt, choice, making};
+ghost use Rattle.fab_values.specs.Pieces.{assignment, attempt, choice, making};
 
 use crate::expressions::{value, values};
 use crate::halt::{End, Halt};
 use crate::state::State;
-use crate::values::holds;
 use fab_base::{NoMemory, Seq, Stop, Value};
 use fab_tree::resolved::{Expression, Method, Resolved, Return, Right, Sort, Statement};
+use fab_values::holds;
 
 /// The statements of a block, in order.
 #[cycle(run)]

@@ -24,7 +24,8 @@ pub(crate) fn copies(
     Ok(rows)
 }
 
-pub(crate) fn copy_of(alloc: Global, object: &Object) -> Result<Object, NoMemory>
+/// A copy of an object.
+pub fn copy_of(alloc: Global, object: &Object) -> Result<Object, NoMemory>
     ensures { IfOk result (λ x. x ≡ object.now) }
 {
     Ok(Object {
@@ -56,7 +57,7 @@ pub(crate) fn version_of(versions: &IndexMap<Oid, u32>, oid: Oid) -> u32
 }
 
 /// What a field of an object holds; null where it has no such field.
-pub(crate) fn field_of(object: &Object, field: u16) -> Value
+pub fn field_of(object: &Object, field: u16) -> Value
     ensures { result ≡ field_of field object.now }
 {
     let fields = object.fields.as_slice();

@@ -12,7 +12,7 @@ const MAX_OBJECTS: usize = 1024;
 /// What was touched, in order: each pair of a site and an object once. Contracts see it as the list
 /// of these pairs. The objects among them stand in a set of their own.
 #[derive(Drop)]
-pub(crate) struct Touches {
+pub struct Touches {
     noted: IndexSet<(u16, Oid)>,
     objects: IndexSet<Oid>,
 }
@@ -31,7 +31,7 @@ impl Model for Touches {
 
 impl Touches {
     /// No touches.
-    pub(crate) fn new(alloc: Global) -> Touches
+    pub fn new(alloc: Global) -> Touches
         ensures { result ≡ [] }
     {
         Touches {
@@ -41,7 +41,7 @@ impl Touches {
     }
 
     /// Notes that an object is touched at a site, unless it would be one object too many.
-    pub(crate) fn reach(&mut self, site: u16, oid: Oid) -> Result<bool, NoMemory>
+    pub fn reach(&mut self, site: u16, oid: Oid) -> Result<bool, NoMemory>
         ensures fits { IfOk result (λ fits. fits ≡ not (is_full oid (touched self.old))) }
         ensures noted { IfOk result (λ fits. self.new ≡ (if fits then noted site oid self.old else self.old)) }
         ensures err { OnErr result (self.new ≡ self.old) }
@@ -63,7 +63,7 @@ impl Touches {
     }
 
     /// The pairs, in order.
-    pub(crate) fn pairs(&self) -> &[(u16, Oid)]
+    pub fn pairs(&self) -> &[(u16, Oid)]
         ensures { result.now ≡ self.now }
     {
         self.noted.as_slice()

@@ -1,5 +1,5 @@
-use Rattle.std.proofs.Common.{refl, arith}
-use Rattle.fab_eval.proofs.Arguments.{from_none}
+use Rattle.std.proofs.Common.{refl}
+use Rattle.fab_values.proofs.Arguments.{from_none}
 use Rattle.fab_eval.proofs.expressions.values.Goals as goal
 
 pub loop-argument-init : goal.loop-argument-init

@@ -1,6 +1,6 @@
 use Rattle.std.proofs.Common.{◌≡◌, drop}
 use Rattle.fab_language.specs.Meaning.{values}
-use Rattle.fab_eval.proofs.Arguments.{values_behind}
+use Rattle.fab_values.proofs.Arguments.{values_behind}
 use Rattle.fab_eval.proofs.expressions.values.Given as goal
 
 abbrev pub invariant-loop-argument : goal.invariant-loop-argument

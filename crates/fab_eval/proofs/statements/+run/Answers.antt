@@ -1,9 +1,10 @@
 use Rattle.std.proofs.Common.{◌∙◌, sym, ap, arith, Ok, Err}
 use Rattle.std.proofs.lemmas.Result.{err_from_is_err_and}
 use Rattle.fab_base.specs.declared.object.Tid.{Tid}
-use Rattle.fab_language.specs.Meaning.{value, block, called, body_of, statement}
-use Rattle.fab_eval.specs.Points.{Point, Base, with_locals, saving}
-use Rattle.fab_eval.proofs.Running.{block_in, in_same, block_goes_on, block_ends, if_means, choice_first, choice_second, turns_end, turns_next, turn_ends, attempt_ends, attempt_goes, kept_in_failure, base_back, attempt_failed, back_gives}
+use Rattle.fab_language.specs.Meaning.{value, called, statement}
+use Rattle.fab_eval.specs.Points.{Point}
+use Rattle.fab_values.proofs.Steps.{block_goes_on, if_means, turns_next}
+use Rattle.fab_eval.proofs.Running.{block_in, in_same, block_ends, choice_first, choice_second, turns_end, turn_ends, attempt_ends, attempt_goes, kept_in_failure, base_back, attempt_failed, back_gives}
 use Rattle.fab_eval.proofs.statements.+run.Goals as goal
 
 pub in_order-returns-in_err-statement-clause-gives : goal.in_order-returns-in_err-statement-clause-gives

@@ -1,4 +1,4 @@
-use Rattle.fab_eval.proofs.Making.{own_after, create_own, next_is_new}
+use Rattle.fab_eval.proofs.Making.{own_after, create_own}
 use Rattle.fab_eval.proofs.state.State.create.Goals as goal
 
 pub invariant_of-self : goal.invariant_of-self

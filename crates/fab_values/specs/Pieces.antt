@@ -1,4 +1,4 @@
--- Statements and right sides, one piece for each function of the evaluator.
+-- Statements and right sides, one piece for each function of an evaluator.
 use Rattle.std.specs.Prelude.{ℕ, if◌then◌else◌, List, Option}
 use Rattle.fab_base.specs.declared.object.Tid.{Tid}
 use Rattle.fab_base.specs.declared.object.Value.{Value}

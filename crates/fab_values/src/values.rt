@@ -1,15 +1,13 @@
 //! What is computed from values alone.
 ghost use Rattle.std.specs.Prelude.{◌≡◌};
-ghost use Rattle.fab_language.specs.Meaning.{compares, equals, holds, int_of, operate, truth};
-ghost use Rattle.fab_eval.specs.Points.{Point};
-ghost use Rattle.fab_eval.specs.Gives.{Gives};
+ghost use Rattle.fab_language.specs.Meaning.{State, compares, equals, holds, int_of, operate, truth};
+ghost use Rattle.fab_values.specs.Computed.{computed};
 
-use crate::halt::{End, Halt};
 use fab_base::{Value, java_add, java_div, java_mul, java_sub};
 use fab_tree::{Comparison, Operator};
 
 /// The number that a value is; no other value is asked for one.
-pub(crate) fn int_of(value: Value) -> i32
+pub fn int_of(value: Value) -> i32
     ensures { result ≡ int_of value }
 {
     match value {
@@ -19,7 +17,7 @@ pub(crate) fn int_of(value: Value) -> i32
 }
 
 /// Whether a condition is true.
-pub(crate) fn holds(value: Value) -> bool
+pub fn holds(value: Value) -> bool
     ensures { result ≡ holds value }
 {
     match value {
@@ -29,7 +27,7 @@ pub(crate) fn holds(value: Value) -> bool
 }
 
 /// 1 for true, 0 for false.
-pub(crate) fn truth(answer: bool) -> Value
+pub fn truth(answer: bool) -> Value
     ensures { result ≡ truth answer }
 {
     Value::Int(if answer { 1 } else { 0 })
@@ -48,7 +46,7 @@ fn equals(left: Value, right: Value) -> bool
 }
 
 /// Whether a comparison is true of two values.
-pub(crate) fn compares(comparison: Comparison, left: Value, right: Value) -> bool
+pub fn compares(comparison: Comparison, left: Value, right: Value) -> bool
     ensures { result ≡ compares comparison left right }
 {
     match comparison {
@@ -61,21 +59,21 @@ pub(crate) fn compares(comparison: Comparison, left: Value, right: Value) -> boo
     }
 }
 
-/// What an operator makes of two values.
-pub(crate) fn operate(operator: Operator, left: Value, right: Value) -> Result<Value, Halt>
-    ensures { (p : Point) → Gives result p (operate operator left right p.state) }
+/// What an operator makes of two values; none where it fails, which is at a zero divisor.
+pub fn operate(operator: Operator, left: Value, right: Value) -> Option<Value>
+    ensures { (t : State) → operate operator left right t ≡ computed result t }
 {
     let a = int_of(left);
     let b = int_of(right);
     match operator {
-        Operator::Or => Ok(Value::Int(a | b)),
-        Operator::And => Ok(Value::Int(a & b)),
-        Operator::Add => Ok(Value::Int(java_add(a, b))),
-        Operator::Subtract => Ok(Value::Int(java_sub(a, b))),
-        Operator::Multiply => Ok(Value::Int(java_mul(a, b))),
+        Operator::Or => Some(Value::Int(a | b)),
+        Operator::And => Some(Value::Int(a & b)),
+        Operator::Add => Some(Value::Int(java_add(a, b))),
+        Operator::Subtract => Some(Value::Int(java_sub(a, b))),
+        Operator::Multiply => Some(Value::Int(java_mul(a, b))),
         Operator::Divide => match java_div(a, b) {
-            Some(n) => Ok(Value::Int(n)),
-            None => Err(Halt::Ended(End::Failed)),
+            Some(n) => Some(Value::Int(n)),
+            None => None,
         },
     }
 }

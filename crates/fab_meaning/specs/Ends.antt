@@ -1,0 +1,25 @@
+-- What was found of a request, beside what it means.
+use Rattle.std.specs.Prelude.{◌≡◌, Option, Result, Ok, Err}
+use Rattle.fab_base.specs.declared.object.Value.{Value}
+use Rattle.fab_language.specs.declared.ending.Ending.{Ending}
+use Rattle.fab_language.specs.declared.ending.Ending.TheVariants as e
+use Rattle.fab_language.specs.Meaning as m
+use Rattle.fab_meaning.specs.declared.halt.Halt.{Halt}
+use Rattle.fab_meaning.specs.declared.halt.Halt.TheVariants.{Memory, Ended}
+use Rattle.fab_meaning.specs.declared.whole.Meant.{Meant}
+use Rattle.fab_meaning.specs.Gives.{end_of}
+
+-- what was found is what was meant
+pub record IsMeant (found : Meant) (meant : m.Meant) : Type 0 where
+  pub ending : found.ending ≡ meant.ending
+  pub map : found.map ≡ meant.map
+  pub written : found.written ≡ meant.written
+  pub made : found.made ≡ meant.made
+  pub touches : found.touches ≡ meant.touches
+  pub downs : found.downs ≡ meant.downs
+
+-- a request that a call ended so has this ending; without memory it has none
+abbrev pub EndsIn : Result (Option Value) Halt → Ending → Type 0
+EndsIn (Ok v) ending = ending ≡ e.Ended v
+EndsIn (Err Memory) ending = ⊥
+EndsIn (Err (Ended end)) ending = ending ≡ m.ending_at (end_of end)

@@ -1,0 +1,94 @@
+//! Expressions.
+ghost use Rattle.std.specs.Prelude.{◌≡◌, map};
+ghost use Rattle.fab_language.specs.Meaning.{chained, operate, value, values};
+ghost use Rattle.fab_meaning.specs.Gives.{Gives};
+ghost use Rattle.fab_meaning.specs.Points.{Point};
+
+use crate::halt::{End, Halt};
+use crate::state::State;
+use fab_base::{Seq, Value, java_sub};
+use fab_tree::Operator;
+use fab_tree::resolved::{Expression, Form, Operand};
+use fab_values::{compares, holds, int_of, operate, truth};
+
+/// The value of an expression.
+#[cycle(value)]
+pub(crate) fn value(state: &mut State, expression: &Expression) -> Result<Value, Halt>
+    ensures gives { Gives result state.new (value expression.now state.old.state) }
+    ensures tid { state.new.tid ≡ state.old.tid }
+    ensures fuel { state.new.state.fuel ≡ state.old.state.fuel }
+{
+    match &expression.form {
+        Form::Number(n) => Ok(Value::Int(*n)),
+        Form::Null => Ok(Value::Null),
+        Form::Local(x) => Ok(state.local(x.number)),
+        Form::Read {
+            object,
+            field,
+            site,
+        } => {
+            let at = state.local(object.number);
+            state.read(*site, *field, at)
+        }
+        Form::Negative(operand) => {
+            let v = value(state, operand.get())?;
+            Ok(Value::Int(java_sub(0, int_of(v))))
+        }
+        Form::Not(operand) => {
+            let v = value(state, operand.get())?;
+            Ok(truth(!holds(v)))
+        }
+        Form::Chain { first, others } => {
+            let v = value(state, first.get())?;
+            chained(state, others.as_slice(), v)
+        }
+        Form::Compared {
+            left,
+            comparison,
+            right,
+        } => {
+            let a = value(state, left.get())?;
+            let b = value(state, right.get())?;
+            Ok(truth(compares(*comparison, a, b)))
+        }
+    }
+}
+
+/// A value, and what the other operands of a chain make of it, from the left.
+#[cycle(value)]
+fn chained(state: &mut State, others: &[Operand], first: Value) -> Result<Value, Halt>
+    ensures gives { Gives result state.new (chained operate (map (λ u. (u.operator, value u.operand)) others.now) first state.old.state) }
+    ensures tid { state.new.tid ≡ state.old.tid }
+    ensures fuel { state.new.state.fuel ≡ state.old.state.fuel }
+{
+    let mut v = first;
+    for other in others {
+        let w = value(state, &other.operand)?;
+        v = operated(other.operator, v, w)?;
+    }
+    Ok(v)
+}
+
+/// What an operator makes of two values, or a failure.
+fn operated(operator: Operator, left: Value, right: Value) -> Result<Value, Halt>
+    ensures { (p : Point) → Gives result p (operate operator left right p.state) }
+{
+    match operate(operator, left, right) {
+        Some(value) => Ok(value),
+        None => Err(Halt::Ended(End::Failed)),
+    }
+}
+
+/// The values of arguments, from the left.
+pub(crate) fn values(state: &mut State, arguments: &[Expression]) -> Result<Seq<Value>, Halt>
+    ensures gives { Gives result state.new (values arguments.now state.old.state) }
+    ensures tid { state.new.tid ≡ state.old.tid }
+    ensures fuel { state.new.state.fuel ≡ state.old.state.fuel }
+{
+    let mut all = Seq::new(state.alloc());
+    for argument in arguments {
+        let v = value(state, argument)?;
+        all.push(v)?;
+    }
+    Ok(all)
+}

@@ -1,0 +1,163 @@
+//! The objects of a run by name, with the names that were written and made.
+ghost use Rattle.std.specs.Prelude.{◌≡◌, IfOk};
+ghost use Rattle.fab_base.specs.FlatMap.{get};
+ghost use Rattle.fab_language.specs.Heaps.{created, index_at, is_among, is_changed, is_spent, replaced};
+ghost use Rattle.fab_language.specs.Meaning.{unchanged};
+ghost use Rattle.fab_meaning.specs.Points.{Settles};
+
+use fab_base::{NoMemory, Object, Oid, Seq};
+use fab_map::ObjectMap;
+use fab_nested::copy_of;
+use std::alloc::Global;
+use std::marker::Model;
+
+const MAX_CHANGED: usize = 256;
+
+/// Objects by name, and the names that were written and made, both in order. Contracts see it as the
+/// meaning's heap. No more objects are changed than may be.
+#[derive(Drop)]
+pub(crate) struct Heap {
+    rows: ObjectMap,
+    written: Seq<Oid>,
+    made: Seq<Oid>,
+}
+
+impl Model for Heap {
+    ghost use Rattle.std.specs.Prelude.{◌+◌, ◌≤◌, length};
+    ghost use Rattle.fab_language.specs.Heaps.{Heap};
+
+    ghost Value = { Heap };
+
+    ghost view = { λ h. record { rows = h.rows; written = h.written; made = h.made } };
+
+    ghost invariant = { λ h. length h.written + length h.made ≤ 256 };
+}
+
+impl Heap {
+    /// A copy of a map, of which nothing was changed yet.
+    pub(crate) fn unchanged(alloc: Global, known: &ObjectMap) -> Result<Heap, NoMemory>
+        ensures { IfOk result (λ h. h ≡ unchanged known.now) }
+    {
+        Ok(Heap {
+            rows: map_copy(alloc, known)?,
+            written: Seq::new(alloc),
+            made: Seq::new(alloc),
+        })
+    }
+
+    /// A copy of the whole heap.
+    pub(crate) fn copy(&self, alloc: Global) -> Result<Heap, NoMemory>
+        ensures { IfOk result (λ h. h ≡ self.now) }
+    {
+        Ok(Heap {
+            rows: map_copy(alloc, &self.rows)?,
+            written: Seq::from_slice(alloc, self.written.as_slice())?,
+            made: Seq::from_slice(alloc, self.made.as_slice())?,
+        })
+    }
+
+    /// A copy of the object of this name.
+    pub(crate) fn get(&self, alloc: Global, oid: Oid) -> Result<Option<Object>, NoMemory>
+        ensures { IfOk result (λ r. r ≡ get self.now.rows oid) }
+    {
+        match self.rows.get(oid) {
+            Some(object) => Ok(Some(copy_of(alloc, object)?)),
+            None => Ok(None),
+        }
+    }
+
+    /// Whether this object was made.
+    pub(crate) fn is_made(&self, oid: Oid) -> bool
+        ensures { result ≡ is_among oid self.now.made }
+    {
+        is_in(self.made.as_slice(), oid)
+    }
+
+    /// Whether this object was written or made.
+    fn is_changed(&self, oid: Oid) -> bool
+        ensures { result ≡ is_changed oid self.now }
+    {
+        is_in(self.made.as_slice(), oid) || is_in(self.written.as_slice(), oid)
+    }
+
+    /// Whether one change more would be one too many.
+    fn is_spent(&self) -> bool
+        ensures { result ≡ is_spent self.now }
+    {
+        self.written.len() + self.made.len() >= MAX_CHANGED
+    }
+
+    /// How many objects this site has made.
+    pub(crate) fn index_at(&self, site: u16) -> u16
+        ensures { result ≡ index_at site self.now }
+    {
+        let made = self.made.as_slice().iter().filter(|oid| oid.site == site);
+        made.count() as u16
+    }
+
+    /// Puts an object in the place of the one of its name, unless it would be one change too many.
+    pub(crate) fn replace(&mut self, oid: Oid, object: Object) -> Result<bool, NoMemory>
+        ensures { IfOk result (λ fits. Settles fits self.old self.new (replaced oid object self.old)) }
+    {
+        if !self.is_changed(oid) {
+            if self.is_spent() {
+                return Ok(false);
+            }
+            self.written.push(oid)?;
+        }
+        self.rows.put(oid, object)?;
+        Ok(true)
+    }
+
+    /// Makes an object, unless it would be one change too many.
+    pub(crate) fn create(&mut self, oid: Oid, object: Object) -> Result<bool, NoMemory>
+        ensures { IfOk result (λ fits. Settles fits self.old self.new (created oid object self.old)) }
+    {
+        if self.is_spent() {
+            return Ok(false);
+        }
+        self.made.push(oid)?;
+        self.rows.put(oid, object)?;
+        Ok(true)
+    }
+
+    /// The objects, and the names that were written and made.
+    pub(crate) fn into_parts(self) -> (ObjectMap, Seq<Oid>, Seq<Oid>)
+        ensures rows { result.0 ≡ self.rows }
+        ensures written { result.1 ≡ self.written }
+        ensures made { result.2 ≡ self.made }
+    {
+        let Heap {
+            rows,
+            written,
+            made,
+        } = self;
+        (rows, written, made)
+    }
+}
+
+/// A copy of a map with its objects.
+fn map_copy(alloc: Global, map: &ObjectMap) -> Result<ObjectMap, NoMemory>
+    ensures { IfOk result (λ m. m ≡ map.now) }
+{
+    let rows = rows_copy(alloc, map.rows())?;
+    Ok(ObjectMap::from_rows(rows))
+}
+
+/// Copies of rows.
+fn rows_copy(alloc: Global, rows: &[(Oid, Object)]) -> Result<Vec<(Oid, Object)>, NoMemory>
+    ensures { IfOk result (λ v. v.items ≡ rows.now) }
+{
+    let mut copies = Vec::new(alloc);
+    for row in rows {
+        copies.push((row.0, copy_of(alloc, &row.1)?))?;
+    }
+    Ok(copies)
+}
+
+/// Whether a name is among these.
+fn is_in(names: &[Oid], oid: Oid) -> bool
+    ensures { result ≡ is_among oid names.now }
+{
+    names.contains(&oid)
+}

@@ -1,0 +1,265 @@
+//! What a run has at a point, and the steps that change it.
+ghost use Rattle.std.specs.Prelude.{◌≡◌, ◌<◌, ◌≤◌, OnOk, IfOk};
+ghost use Rattle.fab_language.specs.Meaning.{access, assign, charge, create, local, meant_at, noted_down, read, replace, with_field, write};
+ghost use Rattle.fab_meaning.specs.Ends.{IsMeant};
+ghost use Rattle.fab_meaning.specs.Gives.{Gives};
+ghost use Rattle.fab_meaning.specs.Points.{point_at_start, put_back, with_locals};
+
+use crate::halt::{End, Halt};
+use crate::heap::Heap;
+use crate::whole::Meant;
+use fab_base::{NoMemory, Object, Oid, Seq, Stop, Tid, Value};
+use fab_language::Ending;
+use fab_map::ObjectMap;
+use fab_nested::{Touches, field_of};
+use std::alloc::Global;
+use std::marker::Model;
+use std::mem;
+
+/// What a run has at a point: the attempt that it is of, the fuel that is left, the locals of the
+/// method that it is in, the objects, the touches, and the values that were downgraded. Contracts see
+/// it as the state that the meaning has, and the attempt.
+#[derive(Drop)]
+pub(crate) struct State {
+    alloc: Global,
+    tid: Tid,
+    fuel: u32,
+    locals: Vec<Value>,
+    heap: Heap,
+    touches: Touches,
+    downs: Vec<(u16, Value)>,
+}
+
+impl Model for State {
+    ghost use Rattle.std.specs.Prelude.{[]};
+    ghost use Rattle.fab_meaning.specs.Points.{Point};
+
+    ghost Value = { Point };
+
+    ghost view = { λ s. record { state = record { fuel = s.fuel; locals = s.locals.items; heap = s.heap; touches = s.touches; downs = s.downs.items; given = [] }; tid = s.tid } };
+}
+
+/// What a failure puts back.
+#[derive(Drop)]
+pub(crate) struct Saved {
+    locals: Vec<Value>,
+    heap: Heap,
+}
+
+impl State {
+    /// The state in which a request begins, over a map.
+    pub(crate) fn begin(
+        alloc: Global,
+        known: &ObjectMap,
+        tid: Tid,
+        fuel: u32,
+    ) -> Result<State, NoMemory>
+        ensures { IfOk result (λ s. s ≡ point_at_start tid known.now fuel) }
+    {
+        Ok(State {
+            alloc,
+            tid,
+            fuel,
+            locals: Vec::new(alloc),
+            heap: Heap::unchanged(alloc, known)?,
+            touches: Touches::new(alloc),
+            downs: Vec::new(alloc),
+        })
+    }
+
+    /// Where memory comes from.
+    pub(crate) fn alloc(&self) -> Global {
+        self.alloc
+    }
+
+    /// A step that costs 1.
+    pub(crate) fn charge(&mut self) -> Result<(), Halt>
+        ensures gives { Gives result self.new (charge self.old.state) }
+        ensures tid { self.new.tid ≡ self.old.tid }
+        ensures fuel { self.new.state.fuel ≤ self.old.state.fuel }
+        ensures spent { OnOk result (self.new.state.fuel < self.old.state.fuel) }
+    {
+        if self.fuel == 0 {
+            return Err(Halt::Ended(End::Stopped(Stop::Fuel)));
+        }
+        self.fuel -= 1;
+        Ok(())
+    }
+
+    /// The value of a local.
+    pub(crate) fn local(&self, x: u16) -> Value
+        ensures { Gives (Ok result) self.now (local x self.now.state) }
+    {
+        self.locals.get(x as usize).copied().unwrap_or(Value::Null)
+    }
+
+    /// Gives a local a value.
+    pub(crate) fn assign(&mut self, x: u16, value: Value)
+        ensures gives { Gives (Ok tt) self.new (assign x value self.old.state) }
+        ensures tid { self.new.tid ≡ self.old.tid }
+        ensures fuel { self.new.state.fuel ≡ self.old.state.fuel }
+    {
+        if (x as usize) < self.locals.len() {
+            self.locals[x as usize] = value;
+        }
+    }
+
+    /// Takes other locals, and gives those that were there.
+    pub(crate) fn exchange(&mut self, locals: Vec<Value>) -> Vec<Value>
+        ensures before { result.items ≡ self.old.state.locals }
+        ensures after { self.new ≡ with_locals locals.items self.old }
+    {
+        mem::replace(&mut self.locals, locals)
+    }
+
+    /// An object is reached at a site: a copy of it.
+    fn access(&mut self, site: u16, oid: Oid) -> Result<Object, Halt>
+        ensures gives { Gives result self.new (access site oid self.old.state) }
+        ensures tid { self.new.tid ≡ self.old.tid }
+        ensures fuel { self.new.state.fuel ≡ self.old.state.fuel }
+    {
+        let Some(object) = self.heap.get(self.alloc, oid)? else {
+            return Err(Halt::Ended(End::Missing { site, oid }));
+        };
+        if self.heap.is_made(oid) || self.touches.reach(site, oid)? {
+            Ok(object)
+        } else {
+            Err(Halt::Ended(End::Stopped(Stop::Reads)))
+        }
+    }
+
+    /// An object takes the place of the one of its name.
+    fn replace(&mut self, oid: Oid, object: Object) -> Result<(), Halt>
+        ensures gives { Gives result self.new (replace oid object self.old.state) }
+        ensures tid { self.new.tid ≡ self.old.tid }
+        ensures fuel { self.new.state.fuel ≡ self.old.state.fuel }
+    {
+        if self.heap.replace(oid, object)? {
+            Ok(())
+        } else {
+            Err(Halt::Ended(End::Stopped(Stop::Writes)))
+        }
+    }
+
+    /// A field of the object behind a value.
+    pub(crate) fn read(&mut self, site: u16, field: u16, at: Value) -> Result<Value, Halt>
+        ensures gives { Gives result self.new (read site field at self.old.state) }
+        ensures tid { self.new.tid ≡ self.old.tid }
+        ensures fuel { self.new.state.fuel ≡ self.old.state.fuel }
+    {
+        let Value::Ref(oid) = at else {
+            return Err(Halt::Ended(End::Failed));
+        };
+        let object = self.access(site, oid)?;
+        Ok(field_of(&object, field))
+    }
+
+    /// Writes a field of the object behind a value: the object is touched, and then counted.
+    pub(crate) fn write(
+        &mut self,
+        site: u16,
+        field: u16,
+        value: Value,
+        at: Value,
+    ) -> Result<(), Halt>
+        ensures gives { Gives result self.new (write site field value at self.old.state) }
+        ensures tid { self.new.tid ≡ self.old.tid }
+        ensures fuel { self.new.state.fuel ≡ self.old.state.fuel }
+    {
+        let Value::Ref(oid) = at else {
+            return Err(Halt::Ended(End::Failed));
+        };
+        let object = self.access(site, oid)?;
+        self.replace(oid, with_field(object, field, value))
+    }
+
+    /// Makes an object of a class at a store.
+    pub(crate) fn create(
+        &mut self,
+        store: u16,
+        class: u16,
+        site: u16,
+        fields: Seq<Value>,
+    ) -> Result<Value, Halt>
+        ensures gives { Gives result self.new (create self.old.tid store class site fields self.old.state) }
+        ensures tid { self.new.tid ≡ self.old.tid }
+        ensures fuel { self.new.state.fuel ≡ self.old.state.fuel }
+    {
+        let oid = Oid {
+            store,
+            class,
+            worker: self.tid.worker,
+            boot: self.tid.boot,
+            number: self.tid.number,
+            site,
+            index: self.heap.index_at(site),
+        };
+        if self.heap.create(oid, Object { class, fields })? {
+            Ok(Value::Ref(oid))
+        } else {
+            Err(Halt::Ended(End::Stopped(Stop::Writes)))
+        }
+    }
+
+    /// Notes the value of a downgrade.
+    pub(crate) fn note_down(&mut self, site: u16, value: Value) -> Result<Value, Halt>
+        ensures gives { Gives result self.new (noted_down site value self.old.state) }
+        ensures tid { self.new.tid ≡ self.old.tid }
+        ensures fuel { self.new.state.fuel ≡ self.old.state.fuel }
+    {
+        self.downs.push((site, value))?;
+        Ok(value)
+    }
+
+    /// Copies of the locals and of the whole heap.
+    pub(crate) fn saved(&self) -> Result<Saved, NoMemory>
+        ensures locals { IfOk result (λ s. s.locals.items ≡ self.now.state.locals) }
+        ensures heap { IfOk result (λ s. s.heap ≡ self.now.state.heap) }
+    {
+        Ok(Saved {
+            locals: Vec::from_slice(self.alloc, self.locals.as_slice())?,
+            heap: self.heap.copy(self.alloc)?,
+        })
+    }
+
+    /// Puts locals and a heap back.
+    pub(crate) fn put_back(&mut self, saved: Saved)
+        ensures { self.new ≡ put_back saved.locals.items saved.heap self.old }
+    {
+        let Saved { locals, heap } = saved;
+        self.locals = locals;
+        self.heap = heap;
+    }
+
+    /// What stands at the end of a request that ends so.
+    pub(crate) fn meant(self, ending: Ending) -> Result<Meant, NoMemory>
+        ensures { IfOk result (λ m. IsMeant m (meant_at ending self.state)) }
+    {
+        let touches = Seq::from_slice(self.alloc, self.touches.pairs())?;
+        let State { heap, downs, .. } = self;
+        let (map, written, made) = heap.into_parts();
+        Ok(Meant {
+            ending,
+            map,
+            written,
+            made,
+            touches,
+            downs: Seq::from_vec(downs),
+        })
+    }
+}
+
+/// An object with another value in a field; it stays as it is where it has no such field.
+fn with_field(object: Object, field: u16, value: Value) -> Object
+    ensures { result ≡ with_field field value object }
+{
+    let Object { class, fields } = object;
+    let mut items = fields.into_vec();
+    if (field as usize) < items.len() {
+        items[field as usize] = value;
+    }
+    Object {
+        class,
+        fields: Seq::from_vec(items),
+    }
+}

@@ -1,0 +1,6 @@
+//! What is computed from values alone: conditions, comparisons and operators.
+#![tactic(auto)]
+
+mod values;
+
+pub use values::{compares, holds, int_of, operate, truth};
