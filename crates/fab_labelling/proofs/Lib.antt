@@ -1,0 +1,5 @@
+pub mod Forms
+mod ObligationExamples
+pub mod OneRefusal
+mod ReaderExamples
+mod RefusalExamples
