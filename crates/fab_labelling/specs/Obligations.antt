@@ -42,7 +42,7 @@ pub data Claim : Type 0 where
   endorses : ℕ → ℕ → List ℕ → Claim
   -- the store may hold the class
   holds : ℕ → ℕ → Claim
-  -- the worker acts for the principal, if the authority of a method that the method reaches is its
+  -- the worker acts for the principal, if a method that the method reaches has its authority
   answers_for : ℕ → ℕ → ℕ → Claim
 
 pub record Owed : Type 0 where
