@@ -1,0 +1,21 @@
+//! The top call: what the program does with its words, its input and its output.
+#![tactic(auto)]
+
+mod command;
+#[cfg(test)]
+mod eval_tests;
+#[cfg(test)]
+mod flow_tests;
+#[cfg(test)]
+mod limit_tests;
+#[cfg(test)]
+mod name_tests;
+#[cfg(test)]
+mod print_tests;
+#[cfg(test)]
+mod syntax_tests;
+#[cfg(test)]
+mod tests;
+
+pub use command::fab;
+pub use fab_reply::Status;
