@@ -54,6 +54,9 @@ const BODIES: &str = "unknown ^q=1;\n\
     unknown n=!(^q);\n\
     unknown n=(^q)==1;\n\
     unknown n=1<^q;\n\
+    unknown n=n==^q;\n\
+    unknown n=^q==a;\n\
+    unknown n=a!=b.^q;\n\
     unknown n=^q.n;\n\
     unknown ^q.n=1;\n\
     unknown n=a.^q;\n\
@@ -122,6 +125,9 @@ const BODIES: &str = "unknown ^q=1;\n\
     type a.n=^null;\n\
     type a.c=^b;\n\
     type a.c=^n+1;\n\
+    type a=^1==1;\n\
+    type a=^!n;\n\
+    type a=^-n;\n\
     type n=^a+1;\n\
     type n=1+^null;\n\
     type n=1-2-^b;\n\
