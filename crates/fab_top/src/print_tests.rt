@@ -1,7 +1,6 @@
 //! The canonical texts of bundles.
 
-use crate::Status;
-use crate::tests::expect;
+use crate::tests::replies;
 use fab_base::NoMemory;
 use std::alloc::Global;
 use std::process::Abort;
@@ -9,8 +8,8 @@ use std::test::Fail;
 
 /// A text is printed as this, and this as it is.
 fn prints(rt: &impl Abort, alloc: Global, text: &str, printed: &str) -> Result<(), NoMemory> {
-    expect(rt, alloc, "fmt", text.as_bytes(), Status::Ok, printed)?;
-    expect(rt, alloc, "fmt", printed.as_bytes(), Status::Ok, printed)
+    replies(rt, alloc, "fmt", text, 0, printed, text)?;
+    replies(rt, alloc, "fmt", printed, 0, printed, text)
 }
 
 /// A text of statements is printed as this, in a method.
@@ -124,62 +123,45 @@ run {
 }
 ";
 
-#[test]
-fn everything(rt: HostRuntime) -> Result<(), Fail> {
-    prints(&rt, rt.alloc(), EVERYTHING, EVERYTHING_PRINTED)?;
-    Ok(())
-}
+/// Bundles and their canonical texts, the least and the greatest numbers and names among them.
+const BUNDLES: [(&str, &str); 8] = [
+    (EVERYTHING, EVERYTHING_PRINTED),
+    ("run{}", "run {\n}\n"),
+    ("//\nrun\r\n{ // }\n\t} //", "run {\n}\n"),
+    ("run{cache 0;}", "run {\n}\n"),
+    ("run{cache 0;schedule { }}", "run {\n}\n"),
+    (
+        "run{root r:C@s(-0,0,-2147483648,2147483647);}",
+        "run {\n  root r : C @ s (0, 0, -2147483648, 2147483647);\n}\n",
+    ),
+    (
+        "store runs;worker _;worker w0_A;label eval={s->runs,runs,run1};run{session s{}}",
+        "store runs;\nworker _;\nworker w0_A;\nlabel eval = {s -> runs, runs, run1};\n\
+        run {\n  session s {\n  }\n}\n",
+    ),
+    (
+        "principal a123456789_123456789_123456789_123456789_123456789_123456789_123;run{}",
+        "principal a123456789_123456789_123456789_123456789_123456789_123456789_123;\nrun {\n}\n",
+    ),
+];
 
-#[test]
-fn small_bundles(rt: HostRuntime) -> Result<(), Fail> {
-    let alloc = rt.alloc();
-    prints(&rt, alloc, "run{}", "run {\n}\n")?;
-    prints(&rt, alloc, "//\nrun\r\n{ // }\n\t} //", "run {\n}\n")?;
-    prints(&rt, alloc, "run{cache 0;}", "run {\n}\n")?;
-    prints(&rt, alloc, "run{cache 0;schedule { }}", "run {\n}\n")?;
-    let text = "run{root r:C@s(-0,0,-2147483648,2147483647);}";
-    let printed = "run {\n  root r : C @ s (0, 0, -2147483648, 2147483647);\n}\n";
-    prints(&rt, alloc, text, printed)?;
-    let text = "store runs;worker _;worker w0_A;label eval={s->runs,runs,run1};run{session s{}}";
-    let printed = "store runs;\nworker _;\nworker w0_A;\nlabel eval = {s -> runs, runs, run1};\n\
-        run {\n  session s {\n  }\n}\n";
-    prints(&rt, alloc, text, printed)?;
-    let text = "principal a123456789_123456789_123456789_123456789_123456789_123456789_123;run{}";
-    let printed =
-        "principal a123456789_123456789_123456789_123456789_123456789_123456789_123;\nrun {\n}\n";
-    prints(&rt, alloc, text, printed)?;
-    Ok(())
-}
-
-/// A method of one `if`, with a label that has a policy and one that has none.
-#[test]
-fn a_method(rt: HostRuntime) -> Result<(), Fail> {
-    let text = "principal A;label S={A->};label P={};class C label P access P{int f;}\
-        method m(C c:P,int s:S)begin P fails{if(s){c.f=1;}}run{}";
-    let printed = "principal A;\nlabel S = {A ->};\nlabel P = {};\n\
-        class C label P access P { int f; }\n\
-        method m(C c : P, int s : S) begin P fails {\n\
-        \x20 if (s) {\n    c.f = 1;\n  }\n}\nrun {\n}\n";
-    prints(&rt, rt.alloc(), text, printed)?;
-    Ok(())
-}
-
-#[test]
-fn statements(rt: HostRuntime) -> Result<(), Fail> {
-    let alloc = rt.alloc();
-    body(&rt, alloc, "", "")?;
-    body(&rt, alloc, "return(1|0);", "  return 1 | 0;\n")?;
-    body(&rt, alloc, "if(1){}else{}", "  if (1) {\n  } else {\n  }\n")?;
-    body(&rt, alloc, "if((1)){fail;}", "  if (1) {\n    fail;\n  }\n")?;
-    let printed = "  atomic L {\n  } else {\n    while (a | b) {\n      fail;\n    }\n  }\n";
-    body(&rt, alloc, "atomic L{}else{while(a|b){fail;}}", printed)?;
-    let text =
-        "x.f=(1);m((1),-(2),(a));C y:L=(x);y=m((a|b));y=new C@s((a==b));y=endorse((a),L to L);";
-    let printed = "  x.f = 1;\n  m(1, -2, a);\n  C y : L = x;\n  y = m(a | b);\n\
-        \x20 y = new C @ s (a == b);\n  y = endorse(a, L to L);\n";
-    body(&rt, alloc, text, printed)?;
-    Ok(())
-}
+/// Bodies of a method and how they are printed.
+const BODIES: [(&str, &str); 7] = [
+    ("", ""),
+    ("return(1|0);", "  return 1 | 0;\n"),
+    ("if(s){c.f=1;}", "  if (s) {\n    c.f = 1;\n  }\n"),
+    ("if(1){}else{}", "  if (1) {\n  } else {\n  }\n"),
+    ("if((1)){fail;}", "  if (1) {\n    fail;\n  }\n"),
+    (
+        "atomic L{}else{while(a|b){fail;}}",
+        "  atomic L {\n  } else {\n    while (a | b) {\n      fail;\n    }\n  }\n",
+    ),
+    (
+        "x.f=(1);m((1),-(2),(a));C y:L=(x);y=m((a|b));y=new C@s((a==b));y=endorse((a),L to L);",
+        "  x.f = 1;\n  m(1, -2, a);\n  C y : L = x;\n  y = m(a | b);\n\
+        \x20 y = new C @ s (a == b);\n  y = endorse(a, L to L);\n",
+    ),
+];
 
 /// A chain within a chain of its own level keeps its brackets, on either side.
 const CHAINS: &str = "a|b|c => a | b | c\n\
@@ -196,12 +178,6 @@ const CHAINS: &str = "a|b|c => a | b | c\n\
     a/(b*c) => a / (b * c)\n\
     (a<b)<c => (a < b) < c\n\
     a==(b!=c) => a == (b != c)";
-
-#[test]
-fn chains(rt: HostRuntime) -> Result<(), Fail> {
-    expressions(&rt, rt.alloc(), CHAINS)?;
-    Ok(())
-}
 
 /// Each level in the places of its neighbours, with brackets that must stay and that go.
 const LEVELS: &str = "a&b|c&d => a & b | c & d\n\
@@ -229,12 +205,6 @@ const LEVELS: &str = "a&b|c&d => a & b | c & d\n\
     ((a.f)==(null)) => a.f == null\n\
     a|((b&(c==(d+(e*(-(f))))))) => a | b & c == d + e * -f";
 
-#[test]
-fn levels(rt: HostRuntime) -> Result<(), Fail> {
-    expressions(&rt, rt.alloc(), LEVELS)?;
-    Ok(())
-}
-
 /// The least number is one number; any other that is negative has a sign before it.
 const NUMBERS: &str = "0 => 0\n\
     -0 => -0\n\
@@ -251,7 +221,16 @@ const NUMBERS: &str = "0 => 0\n\
     a<(-1) => a < -1";
 
 #[test]
-fn numbers(rt: HostRuntime) -> Result<(), Fail> {
-    expressions(&rt, rt.alloc(), NUMBERS)?;
+fn canonical_texts(rt: HostRuntime) -> Result<(), Fail> {
+    let alloc = rt.alloc();
+    for (text, printed) in BUNDLES {
+        prints(&rt, alloc, text, printed)?;
+    }
+    for (text, printed) in BODIES {
+        body(&rt, alloc, text, printed)?;
+    }
+    expressions(&rt, alloc, CHAINS)?;
+    expressions(&rt, alloc, LEVELS)?;
+    expressions(&rt, alloc, NUMBERS)?;
     Ok(())
 }

@@ -1,7 +1,6 @@
 //! Texts that aren't of the language, with the place where each ceases to be one.
 
-use crate::Status;
-use crate::tests::{expect, refused};
+use crate::tests::{refused, replies};
 use std::test::Fail;
 
 const NODES_AND_DELEGATIONS: &str = "\
@@ -21,12 +20,6 @@ const NODES_AND_DELEGATIONS: &str = "\
     12 A actsfor B run{}\n\
     12 A actsfor B;principal A;run{}";
 
-#[test]
-fn nodes_and_delegations(rt: HostRuntime) -> Result<(), Fail> {
-    refused(&rt, rt.alloc(), NODES_AND_DELEGATIONS)?;
-    Ok(())
-}
-
 const LABELS: &str = "\
     5 label={};run{}\n\
     7 label L{};run{}\n\
@@ -41,12 +34,6 @@ const LABELS: &str = "\
     10 label L={A<B};run{}\n\
     11 label L={};A actsfor B;run{}";
 
-#[test]
-fn labels(rt: HostRuntime) -> Result<(), Fail> {
-    refused(&rt, rt.alloc(), LABELS)?;
-    Ok(())
-}
-
 const CLASSES: &str = "\
     6 class label L access L{}run{}\n\
     8 class C access L label L{}run{}\n\
@@ -58,12 +45,6 @@ const CLASSES: &str = "\
     29 class C label L access L{int int;}run{}\n\
     26 class C label L access L{};run{}\n\
     26 class C label L access L{}label L={};run{}";
-
-#[test]
-fn classes(rt: HostRuntime) -> Result<(), Fail> {
-    refused(&rt, rt.alloc(), CLASSES)?;
-    Ok(())
-}
 
 const HEADS_OF_METHODS: &str = "\
     6 method(){}run{}\n\
@@ -85,12 +66,6 @@ const HEADS_OF_METHODS: &str = "\
     17 method m()begin L;run{}\n\
     19 method m()begin L{}class C label L access L{}run{}";
 
-#[test]
-fn heads_of_methods(rt: HostRuntime) -> Result<(), Fail> {
-    refused(&rt, rt.alloc(), HEADS_OF_METHODS)?;
-    Ok(())
-}
-
 const RESULTS: &str = "\
     24 method m()begin L{return;}run{}\n\
     26 method m()begin L{return 1}run{}\n\
@@ -99,12 +74,6 @@ const RESULTS: &str = "\
     24 method m()begin L{if(1){return 1;}}run{}\n\
     26 method m()begin L{return m();}run{}\n\
     24 method m()begin L{return";
-
-#[test]
-fn results(rt: HostRuntime) -> Result<(), Fail> {
-    refused(&rt, rt.alloc(), RESULTS)?;
-    Ok(())
-}
 
 const STATEMENTS: &str = "\
     25 method m()begin L{int x:L;}run{}\n\
@@ -136,12 +105,6 @@ const STATEMENTS: &str = "\
     18 method m()begin L{{}}run{}\n\
     19 method m()begin L{}{}run{}";
 
-#[test]
-fn statements(rt: HostRuntime) -> Result<(), Fail> {
-    refused(&rt, rt.alloc(), STATEMENTS)?;
-    Ok(())
-}
-
 const RIGHT_SIDES: &str = "\
     23 method m()begin L{x=m(1;}run{}\n\
     23 method m()begin L{x=m()+1;}run{}\n\
@@ -156,12 +119,6 @@ const RIGHT_SIDES: &str = "\
     30 method m()begin L{x=endorse(L to L);}run{}\n\
     36 method m()begin L{x=endorse(1,L to L;}run{}\n\
     18 method m()begin L{declassify(1,L to L);}run{}";
-
-#[test]
-fn right_sides(rt: HostRuntime) -> Result<(), Fail> {
-    refused(&rt, rt.alloc(), RIGHT_SIDES)?;
-    Ok(())
-}
 
 const BLOCKS: &str = "\
     21 method m()begin L{if 1{}}run{}\n\
@@ -180,12 +137,6 @@ const BLOCKS: &str = "\
     28 method m()begin L{atomic L{}}run{}\n\
     32 method m()begin L{atomic L{}else;}run{}\n\
     34 method m()begin L{atomic L{}else{}else{}}run{}";
-
-#[test]
-fn blocks(rt: HostRuntime) -> Result<(), Fail> {
-    refused(&rt, rt.alloc(), BLOCKS)?;
-    Ok(())
-}
 
 const EXPRESSIONS: &str = "\
     22 method m()begin L{x=1|;}run{}\n\
@@ -206,12 +157,6 @@ const EXPRESSIONS: &str = "\
     21 method m()begin L{x=-;}run{}\n\
     22 method m()begin L{x=-(;}run{}\n\
     22 method m()begin L{x=- -2147483648;}run{}";
-
-#[test]
-fn expressions(rt: HostRuntime) -> Result<(), Fail> {
-    refused(&rt, rt.alloc(), EXPRESSIONS)?;
-    Ok(())
-}
 
 const OPERANDS: &str = "\
     20 method m()begin L{x=2147483648;}run{}\n\
@@ -236,12 +181,6 @@ const OPERANDS: &str = "\
     20 method m()begin L{x=to;}run{}\n\
     21 method m()begin L{x=a@b;}run{}";
 
-#[test]
-fn operands(rt: HostRuntime) -> Result<(), Fail> {
-    refused(&rt, rt.alloc(), OPERANDS)?;
-    Ok(())
-}
-
 const ENDS_OF_TEXTS: &str = "\
     3 run\n\
     4 run{\n\
@@ -252,12 +191,6 @@ const ENDS_OF_TEXTS: &str = "\
     3 RUN{}\n\
     18 method m()begin L{\n\
     23 method m()begin L{x=1;}";
-
-#[test]
-fn ends_of_texts(rt: HostRuntime) -> Result<(), Fail> {
-    refused(&rt, rt.alloc(), ENDS_OF_TEXTS)?;
-    Ok(())
-}
 
 const ROOTS: &str = "\
     8 run{root}\n\
@@ -274,12 +207,6 @@ const ROOTS: &str = "\
     16 run{root r:C@s(-x);}\n\
     16 run{root r:C@s(1+1);}\n\
     15 run{root r:C@s(\"\");}";
-
-#[test]
-fn roots(rt: HostRuntime) -> Result<(), Fail> {
-    refused(&rt, rt.alloc(), ROOTS)?;
-    Ok(())
-}
 
 const SESSIONS_AND_POSTS: &str = "\
     11 run{session}\n\
@@ -298,12 +225,6 @@ const SESSIONS_AND_POSTS: &str = "\
     17 run{post a->b\"00\"}\n\
     16 run{post a->b\"\";session w{}}";
 
-#[test]
-fn sessions_and_posts(rt: HostRuntime) -> Result<(), Fail> {
-    refused(&rt, rt.alloc(), SESSIONS_AND_POSTS)?;
-    Ok(())
-}
-
 const CRASHES_AND_CACHES: &str = "\
     9 run{crash}\n\
     12 run{crash a 1;}\n\
@@ -319,12 +240,6 @@ const CRASHES_AND_CACHES: &str = "\
     11 run{cache 1}\n\
     12 run{cache 1;cache 1;}\n\
     12 run{cache 1;crash a after 1;}";
-
-#[test]
-fn crashes_and_caches(rt: HostRuntime) -> Result<(), Fail> {
-    refused(&rt, rt.alloc(), CRASHES_AND_CACHES)?;
-    Ok(())
-}
 
 const SCHEDULES: &str = "\
     12 run{schedule}\n\
@@ -343,12 +258,6 @@ const SCHEDULES: &str = "\
     20 run{schedule{recover;}}\n\
     13 run{schedule{fail;}}";
 
-#[test]
-fn schedules(rt: HostRuntime) -> Result<(), Fail> {
-    refused(&rt, rt.alloc(), SCHEDULES)?;
-    Ok(())
-}
-
 const EVENTS: &str = "\
     17 run{schedule{post;}}\n\
     19 run{schedule{post a->b\"\";}}\n\
@@ -362,12 +271,7 @@ const EVENTS: &str = "\
     23 run{schedule{crashin 1 crashin 1 begin a;}}\n\
     30 run{schedule{crashin 1 begin a}}";
 
-#[test]
-fn events(rt: HostRuntime) -> Result<(), Fail> {
-    refused(&rt, rt.alloc(), EVENTS)?;
-    Ok(())
-}
-
+/// The place of a text that can't be cut comes before that of a token that doesn't fit.
 const WORDS_AND_NUMBERS: &str = "\
     5 run{}$\n\
     5 run{}/ end\n\
@@ -384,13 +288,6 @@ const WORDS_AND_NUMBERS: &str = "\
     6 ; ; x-%;run{}\n\
     19 run{schedule{begin \x7f";
 
-/// The place of a text that can't be cut comes before that of a token that doesn't fit.
-#[test]
-fn words_and_numbers(rt: HostRuntime) -> Result<(), Fail> {
-    refused(&rt, rt.alloc(), WORDS_AND_NUMBERS)?;
-    Ok(())
-}
-
 const BYTES: &str = "\
     14 run{post a->b\"\n\
     15 run{post a->b\"0\n\
@@ -404,46 +301,44 @@ const BYTES: &str = "\
     4 ; \"0\"\n\
     0 ; \"00\"";
 
-#[test]
-fn bytes(rt: HostRuntime) -> Result<(), Fail> {
-    refused(&rt, rt.alloc(), BYTES)?;
-    Ok(())
-}
+const TABLES: [&str; 18] = [
+    NODES_AND_DELEGATIONS,
+    LABELS,
+    CLASSES,
+    HEADS_OF_METHODS,
+    RESULTS,
+    STATEMENTS,
+    RIGHT_SIDES,
+    BLOCKS,
+    EXPRESSIONS,
+    OPERANDS,
+    ENDS_OF_TEXTS,
+    ROOTS,
+    SESSIONS_AND_POSTS,
+    CRASHES_AND_CACHES,
+    SCHEDULES,
+    EVENTS,
+    WORDS_AND_NUMBERS,
+    BYTES,
+];
 
-/// The empty text, and texts of several lines.
+/// A text that a row can't hold, the empty one and those of several lines, and its place.
+const OF_LINES: [(&str, &str); 5] = [
+    ("", "syntax at 0\n"),
+    ("//\n", "syntax at 3\n"),
+    ("run{// {\r\n\t} // end\nx", "syntax at 20\n"),
+    ("run{post a->b\"00\n\";}", "syntax at 16\n"),
+    ("principal x\x0b;run{}", "syntax at 11\n"),
+];
+
 #[test]
-fn lines(rt: HostRuntime) -> Result<(), Fail> {
+fn texts(rt: HostRuntime) -> Result<(), Fail> {
     let alloc = rt.alloc();
-    let status = Status::Syntax { at: 0 };
-    expect(&rt, alloc, "fmt", b"", status, "syntax at 0\n")?;
-    let status = Status::Syntax { at: 3 };
-    expect(&rt, alloc, "eval", b"//\n", status, "syntax at 3\n")?;
-    let status = Status::Syntax { at: 20 };
-    expect(
-        &rt,
-        alloc,
-        "fmt",
-        b"run{// {\r\n\t} // end\nx",
-        status,
-        "syntax at 20\n",
-    )?;
-    let status = Status::Syntax { at: 16 };
-    expect(
-        &rt,
-        alloc,
-        "fmt",
-        b"run{post a->b\"00\n\";}",
-        status,
-        "syntax at 16\n",
-    )?;
-    let status = Status::Syntax { at: 11 };
-    expect(
-        &rt,
-        alloc,
-        "fmt",
-        b"principal x\x0b;run{}",
-        status,
-        "syntax at 11\n",
-    )?;
+    for table in TABLES {
+        refused(&rt, alloc, table)?;
+    }
+    for (text, line) in OF_LINES {
+        replies(&rt, alloc, "eval", text, 5, line, text)?;
+    }
     Ok(())
 }

@@ -36,19 +36,40 @@ pub(crate) fn expect(
     Ok(())
 }
 
+/// Asks with these words of a text, and compares the status's number and what is written. What differs
+/// is told with the row of the table.
+pub(crate) fn replies(
+    rt: &impl Abort,
+    alloc: Global,
+    words: &str,
+    text: &str,
+    status: u8,
+    reply: &str,
+    row: &str,
+) -> Result<(), NoMemory> {
+    let mut list = Vec::new(alloc);
+    for word in words.split(' ') {
+        list.push(String::from_str(alloc, word)?)?;
+    }
+    let mut source = SureSource::new(Seq::from_slice(alloc, text.as_bytes())?);
+    let mut sink = SureSink::new(alloc)?;
+    let found = fab(alloc, &list, &mut source, &mut sink);
+    assert_eq!(rt; found.number(), status, "{words}: {row}");
+    let Ok(written) = std::str::from_utf8(sink.bytes()) else {
+        panic!(rt; "no text of {words}: {row}");
+    };
+    assert_eq!(rt; written, reply, "{words}: {row}");
+    Ok(())
+}
+
 /// Each line of a table has a place and a text. `fmt` refuses the text there.
 pub(crate) fn refused(rt: &impl Abort, alloc: Global, table: &str) -> Result<(), NoMemory> {
-    let words = one_word(alloc, "fmt")?;
     for row in table.lines() {
         let Some((at, text)) = row.split_once(' ') else {
             panic!(rt; "no place in {row}");
         };
         let line = format!(in alloc; "syntax at {at}\n")?;
-        let mut source = SureSource::new(Seq::from_slice(alloc, text.as_bytes())?);
-        let mut sink = SureSink::new(alloc)?;
-        let status = fab(alloc, &words, &mut source, &mut sink);
-        assert_eq!(rt; status.number(), 5, "{row}");
-        assert_eq!(rt; sink.bytes(), line.as_bytes(), "{row}");
+        replies(rt, alloc, "fmt", text, 5, line.as_str(), row)?;
     }
     Ok(())
 }
