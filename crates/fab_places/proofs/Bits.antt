@@ -1,7 +1,7 @@
 -- The bits of masks.
-use Rattle.std.proofs.Common.{◌≡◌, ℕ, ◌+◌, ◌*◌, ◌^◌, ◌%◌, ◌<◌, ◌↔◌, min, ◌⊎◌, true, false, Bool, refl, inl, inr, sym, ap, ◌∙◌, subst, arith, IsTrue, IsBitSet, bit_and, bit_or}
+use Rattle.std.proofs.Common.{◌≡◌, ℕ, ◌+◌, ◌*◌, ◌^◌, ◌%◌, ◌<◌, ◌↔◌, true, false, Bool, inl, inr, sym, ap, ◌∙◌, subst, arith, IsBitSet, bit_and, bit_or}
 use Rattle.std.specs.Int.{bit_at, trailing_zeros, w64}
-use Rattle.std.proofs.lemmas.Bool.{cases_eq, false≢true}
+use Rattle.std.proofs.lemmas.Bool.{cases_eq}
 use Rattle.std.proofs.lemmas.Nat.{and_le_l}
 use Rattle.std.proofs.Math.Pow.{pow_pos}
 use Rattle.std.proofs.lemmas.Nat.Bits.{and_pow, bit_at_and, bit_at-lt, bit_at-zero, bit_at_set_same, bit_at_set_other, bit_at-trailing_zeros}
@@ -17,10 +17,6 @@ bit_of_one : (mask n : ℕ) → bit_at mask n ≡ 1 → IsBitSet mask n
 bit_of_one mask n one none =
     let zero_is : 1 * 2 ^ n ≡ 0 = sym (ap (λ b. b * 2 ^ n) one) ∙ sym (and_pow mask n) ∙ none in
     absurd (omega (arith, pow_pos n, zero_is))
-
--- a bit is set or it isn't
-pub bit_cases : (mask n : ℕ) → IsBitSet mask n ⊎ (IsBitSet mask n → ⊥)
-bit_cases mask n = elim (cases_eq (bit_and mask (2 ^ n)) 0) [ inl none ↦ inr (λ bit. bit none) | inr some ↦ inl some ]
 
 pub none_set : (n : ℕ) → IsBitSet 0 n → ⊥
 none_set n bit = absurd (omega (arith, one_bit 0 n bit, bit_at-zero n))
@@ -46,15 +42,6 @@ pub bit_kept : (mask k i : ℕ) → k < 64 → (i ≡ k → ⊥) → IsBitSet (b
 bit_kept mask k i below other = (
   λ bit. bit_of_one mask i (sym (bit_at_set_other w64 mask k below i other) ∙ one_bit _ i bit),
   λ bit. bit_of_one _ i (bit_at_set_other w64 mask k below i other ∙ one_bit mask i bit),
-)
-
--- a mask of what passes a test that decides P
-pub mask_is : (P : ℕ → Type 0) (bound mask : ℕ) (Post : ℕ → Bool → Type 0)
-    → ((k : ℕ) → IsBitSet mask k → (k < bound) × Post k true) → ((k : ℕ) → k < bound → (IsBitSet mask k → ⊥) → Post k false)
-    → ((k : ℕ) → k < bound → (b : Bool) → Post k b → IsTrue b ↔ P k) → (k : ℕ) → IsBitSet mask k ↔ ((k < bound) × P k)
-mask_is P bound mask Post set clear decides k = (
-  λ bit. ((set k bit).0, (decides k (set k bit).0 true (set k bit).1).0 refl),
-  λ (below, p). elim (bit_cases mask k) [ inl bit ↦ bit | inr none ↦ absurd (false≢true ((decides k below false (clear k below none)).1 p)) ],
 )
 
 -- the numbers below n that passed a test have their bits in the mask, and no others

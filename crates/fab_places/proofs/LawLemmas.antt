@@ -1,11 +1,10 @@
 -- Who acts for one of a covering policy acts for one of the covered one.
-use Rattle.std.proofs.Common.{◌≡◌, ℕ, ◌<◌, ◌⊎◌, List, ◌∷◌, length, get_or, inl, inr, subst, All, Any}
+use Rattle.std.proofs.Common.{ℕ, List, ◌∷◌, get_or, inl, inr, subst, All, Any}
 use Rattle.fab_base.specs.declared.label.Policy.{Policy}
 use Rattle.fab_base.specs.Principals.{Delegations, ActsFor}
 use Rattle.fab_base.specs.Labels.{ActsForOne, Covers}
 use Rattle.fab_principals.proofs.ChainLemmas.{ActsFor-trans}
 use Rattle.fab_labels.proofs.Searches.{Any-head, Any-cases}
-use Rattle.std.proofs.lemmas.List.{get_or_default}
 
 -- a principal acts for the owner of each policy or for one of those that it names
 abbrev pub WithinAll : Delegations → ℕ → List Policy → Type 0

@@ -1,9 +1,8 @@
 -- Places of workers and stores among principals, and masks of them.
-use Rattle.std.proofs.Common.{◌≡◌, ℕ, zero, suc, ◌+◌, ◌<◌, ◌≤◌, ◌↔◌, Bool, true, not, cond, ltb, List, [], ◌∷◌, length, get_or, Option, Some, None, unwrap_or, option_map, slice_get, IsSomeAnd, IfSome, inl, inr, refl, sym, ap, ◌∙◌, subst, arith, IsBitSet, All}
+use Rattle.std.proofs.Common.{◌≡◌, ℕ, suc, ◌+◌, ◌<◌, ◌≤◌, ◌↔◌, Bool, true, not, cond, ltb, List, [], ◌∷◌, length, get_or, Option, Some, None, unwrap_or, option_map, IsSomeAnd, IfSome, inl, inr, refl, sym, ap, ◌∙◌, subst, arith, IsBitSet}
 use Rattle.std.specs.List.{position_or_len}
 use Rattle.std.proofs.lemmas.Bool.{cases_Bool, cases_lt, eqb-true, false≢true, ltb-false}
-
-use Rattle.std.proofs.lemmas.Option.{slice_get_past, slice_get-get_or}
+use Rattle.std.proofs.lemmas.Option.{slice_get_past}
 use Rattle.std.proofs.lemmas.List.Sums.{prefix_len-le-length, passes_at_first}
 use Rattle.fab_base.specs.declared.label.Policy.{Policy}
 use Rattle.fab_base.specs.Principals.{Delegations}

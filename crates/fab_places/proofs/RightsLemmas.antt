@@ -1,5 +1,5 @@
 -- Rights over classes, from masks; and what rights over all classes say.
-use Rattle.std.proofs.Common.{◌≡◌, ℕ, zero, suc, true, ◌+◌, ◌<◌, ◌≤◌, ◌↔◌, List, [], ◌∷◌, ◌++◌, length, take, get_or, map, Option, Some, None, slice_get, IsSomeAnd, sym, ap, ◌∙◌, subst, arith, IsBitSet, bit_and}
+use Rattle.std.proofs.Common.{◌≡◌, ℕ, zero, suc, true, ◌+◌, ◌<◌, ◌↔◌, List, [], ◌∷◌, ◌++◌, length, take, get_or, map, Option, Some, None, slice_get, IsSomeAnd, refl, sym, ap, ◌∙◌, subst, arith, IsBitSet, bit_and}
 use Rattle.std.specs.List.{AllZip}
 use Rattle.std.proofs.lemmas.Slice.Zip.{AllZip-long, all_zipped_more}
 use Rattle.std.proofs.lemmas.List.{take_more}
@@ -18,7 +18,7 @@ use Rattle.fab_labelling.specs.Readers.{IsReader, IsWriter, IsNode, label_at, pr
 use Rattle.fab_labelling.specs.Placement.{IsWorker, IsStore, FetchesClass, WritesClass, HoldsClass, MayHoldNumber}
 use Rattle.fab_rights.specs.declared.rights.ClassRights.{ClassRights}
 use Rattle.fab_rights.specs.declared.rights.Rights.{Rights}
-use Rattle.fab_rights.specs.Rights.{IsWorkerIn, FitsField}
+use Rattle.fab_rights.specs.Rights.{FitsField}
 use Rattle.fab_places.specs.Places.{AreRights, HasNumbers, kind_of, kind_of_sort, MayContain}
 use Rattle.fab_places.specs.ClassRights.{IsClassRights}
 use Rattle.fab_places.proofs.Bits.{in_both}
@@ -38,7 +38,6 @@ module _ (r : Resolved) (class : Class) (numbers : HasNumbers r)
     (is_workers : (n : ℕ) → IsBitSet workers n ↔ ((n < 64) × IsWorker r n)) (is_stores : (n : ℕ) → IsBitSet stores n ↔ ((n < 64) × IsStore r n))
     (is_readers : Reading r (delegations_of r) class.label.number readers) (is_learners : Reading r (delegations_of r) class.access.number learners)
     (is_writers : Influencing r (delegations_of r) class.label.number writers) where
-
   worker_is : (n : ℕ) → IsWorker r n → (n < 64) × IsNode r n
   worker_is n worker = let node = there r n (λ x. is_worker x ≡ true) worker in (numbered r n numbers node, node)
 
@@ -96,6 +95,16 @@ at_number R P Q same (x ∷ xs) [] all k = absurd all
 at_number R P Q same (x ∷ xs) (y ∷ ys) all zero = same x y all.0
 at_number R P Q same (x ∷ xs) (y ∷ ys) all (suc k) = at_number R P Q same xs ys all.1 k
 
+-- each class has its fields' kinds
+all_kinds : (r : Resolved) (cs : List Class) (xs : List ClassRights) → AllZip (IsClassRights r) cs xs → map (λ x. x.fields) xs ≡ map (λ c. map kind_of c.fields) cs
+all_kinds r [] [] all = refl
+all_kinds r [] (x ∷ xs) all = absurd all
+all_kinds r (c ∷ cs) [] all = absurd all
+all_kinds r (c ∷ cs) (x ∷ xs) all =
+    let here : x.fields ≡ map kind_of c.fields = all.0.fields in
+    let rest : map (λ (y : ClassRights). y.fields) xs ≡ map (λ (k : Class). map kind_of k.fields) cs = all_kinds r cs xs all.1 in
+    cc
+
 -- what doesn't speak of the element
 beside : {A : Type 0} (W : Type 0) (P : A → Type 0) (o : Option A) → IsSomeAnd o (λ x. W × P x) ↔ (W × IsSomeAnd o P)
 beside W P None = (λ h. absurd h, λ h. absurd h.1)
@@ -126,7 +135,6 @@ fit_fields r rights held (f ∷ fs) (v ∷ vs) =
 
 module _ (r : Resolved) (rights : Rights) (numbers : HasNumbers r)
     (is_workers : (n : ℕ) → IsBitSet rights.workers n ↔ ((n < 64) × IsWorker r n)) (all : AllZip (IsClassRights r) r.classes rights.classes) where
-
   fetched : (n c : ℕ) → IsSomeAnd (slice_get rights.classes c) (λ x. IsBitSet x.fetchers n) ↔ (IsWorker r n × IsSomeAnd (slice_get r.classes c) (λ k. FetchesClass r (delegations_of r) n k))
   fetched n c = both_iff
       (at_number (IsClassRights r) (λ x. IsBitSet x.fetchers n) (λ k. IsWorker r n × FetchesClass r (delegations_of r) n k) (λ k x is. is.fetchers n) r.classes rights.classes all c)
@@ -153,6 +161,7 @@ module _ (r : Resolved) (rights : Rights) (numbers : HasNumbers r)
       record {
         workers = λ n. (λ bit. ((is_workers n).0 bit).1, λ worker. (is_workers n).1 (numbered r n numbers (there r n (λ x. is_worker x ≡ true) worker), worker));
         classes = λ c. (λ known. omega (arith, long, known), λ known. omega (arith, long, known));
+        kinds = all_kinds r r.classes rights.classes all;
         fetched = fetched;
         written = written;
         held = held;

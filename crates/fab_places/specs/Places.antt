@@ -1,5 +1,5 @@
 -- Rights that are those of a bundle, and which classes a set of nodes reads or can't have influenced.
-use Rattle.std.specs.Prelude.{◌≡◌, ℕ, ◌<◌, ◌↔◌, length, Option, Some, None, slice_get, IsSomeAnd, IfSome, All}
+use Rattle.std.specs.Prelude.{◌≡◌, ℕ, ◌<◌, ◌↔◌, length, map, Option, Some, None, slice_get, IsSomeAnd, IfSome, All}
 use Rattle.std.specs.List.{AllZip}
 use Rattle.fab_base.specs.declared.object.Value.{Value}
 use Rattle.fab_base.specs.declared.object.Value.TheVariants.{Int, Null, Ref}
@@ -48,6 +48,7 @@ IsPlaced r x = IsSomeAnd (slice_get r.classes x.class) (λ c. AllZip (λ f v. Ma
 pub record AreRights (r : Resolved) (rights : Rights) : Type 0 where
   pub workers : (n : ℕ) → IsWorkerIn rights n ↔ IsWorker r n
   pub classes : (c : ℕ) → Knows rights c ↔ (c < length r.classes)
+  pub kinds : map (λ x. x.fields) rights.classes ≡ map (λ c. map kind_of c.fields) r.classes
   pub fetched : (n c : ℕ) → MayFetch rights n c ↔ MayFetchNumber r (delegations_of r) n c
   pub written : (n c : ℕ) → MayWrite rights n c ↔ MayWriteNumber r (delegations_of r) n c
   pub held : (n c : ℕ) → MayHold rights n c ↔ MayHoldNumber r (delegations_of r) n c

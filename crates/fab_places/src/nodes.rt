@@ -10,8 +10,8 @@ use crate::policies::all_within;
 use fab_base::Policy;
 use fab_principals::Acts;
 use fab_rights::is_in;
-use fab_tree::resolved::{Principal, Resolved};
 use fab_tree::Role;
+use fab_tree::resolved::{Principal, Resolved};
 
 /// Whether a principal is the worker or store of this number.
 fn is_numbered(principal: &Principal, number: u16) -> bool
@@ -48,19 +48,13 @@ fn role_of(start: &Resolved, number: u16) -> Option<Role>
 fn is_worker(start: &Resolved, number: u16) -> bool
     ensures { IsTrue result ↔ IsWorker start.now number }
 {
-    match role_of(start, number) {
-        Some(Role::Worker { .. }) => true,
-        _ => false,
-    }
+    matches!(role_of(start, number), Some(Role::Worker { .. }))
 }
 
 fn is_store(start: &Resolved, number: u16) -> bool
     ensures { IsTrue result ↔ IsStore start.now number }
 {
-    match role_of(start, number) {
-        Some(Role::Store { .. }) => true,
-        _ => false,
-    }
+    matches!(role_of(start, number), Some(Role::Store { .. }))
 }
 
 /// The workers: bit n of a mask of nodes stands for node n.

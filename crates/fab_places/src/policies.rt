@@ -85,7 +85,5 @@ fn is_writer(acts: &Acts, p: u16, label: &Label) -> bool
 pub fn may_hold(acts: &Acts, store: u16, label: &Label, access: &Label) -> bool
     ensures exact { IsTrue result ↔ MayHold acts.now store label.now access.now }
 {
-    is_reader(acts, store, label)
-        && is_reader(acts, store, access)
-        && is_writer(acts, store, label)
+    is_reader(acts, store, label) && is_reader(acts, store, access) && is_writer(acts, store, label)
 }

@@ -5,7 +5,7 @@ ghost use Rattle.fab_language.specs.Flows.{delegations_of};
 ghost use Rattle.fab_labelling.specs.Readers.{IsVisible, Excludes, label_at};
 ghost use Rattle.fab_places.specs.Places.{ClassIsVisible, ClassExcludes};
 
-use crate::masks::{mask_of, Seen};
+use crate::masks::{Seen, mask_of};
 use crate::nodes::{influencing, reading};
 use fab_principals::Acts;
 use fab_tree::resolved::Resolved;

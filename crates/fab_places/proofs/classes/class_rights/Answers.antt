@@ -1,4 +1,4 @@
-use Rattle.std.proofs.Common.{sym, subst}
+use Rattle.std.proofs.Common.{subst}
 use Rattle.fab_base.specs.Principals.{Delegations}
 use Rattle.fab_places.proofs.RightsLemmas.{Reading, Influencing, class_rights_are}
 use Rattle.fab_places.proofs.classes.class_rights.Goals as goal

@@ -1,4 +1,4 @@
-use Rattle.std.proofs.Common.{ℕ, Bool, ◌+◌, ◌<◌, IsBitSet, true, false, sym, subst, arith}
+use Rattle.std.proofs.Common.{ℕ, Bool, ◌+◌, sym, subst, arith}
 use Rattle.fab_places.proofs.Bits.{Marks, marked, skipped}
 use Rattle.fab_places.proofs.masks.mask_of.Goals as goal
 use Rattle.fab_places.proofs.masks.mask_of.Goals.{then-test, else-test}
