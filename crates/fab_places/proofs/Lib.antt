@@ -1,0 +1,4 @@
+pub mod Bits
+pub mod LawLemmas
+pub mod NodeLemmas
+pub mod RightsLemmas

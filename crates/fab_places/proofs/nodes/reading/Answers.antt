@@ -1,0 +1,8 @@
+use Rattle.fab_labelling.specs.Readers.{label_at}
+use Rattle.fab_places.proofs.NodeLemmas.{nodes_within}
+use Rattle.fab_places.proofs.nodes.reading.Goals as goal
+
+pub returns : goal.returns
+returns c =
+    nodes_within c.args.start.now c.args.acts.now (label_at c.args.start.now c.args.label).conf c.all_within.result c.nodes_among.result c.requires.of
+    (λ p. rw c.conf_at.ensures at (c.all_within.ensures p)) c.nodes_among.ensures

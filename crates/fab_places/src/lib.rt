@@ -1,0 +1,17 @@
+//! Who may read, write and hold what, over a bundle and its closed delegations.
+#![tactic(auto)]
+
+mod classes;
+mod laws;
+mod masks;
+mod nodes;
+mod policies;
+mod sights;
+#[cfg(test)]
+mod tests;
+
+pub use classes::rights;
+pub use laws::{flows_narrow_readers, flows_widen_writers, outsiders_write_and_hold_nothing};
+pub use masks::Seen;
+pub use policies::{may_hold, readers, writers};
+pub use sights::{excluding, seen};

@@ -1,0 +1,10 @@
+//! Sets of nodes as masks: bit n of a `u64` stands for node n.
+
+ghost use Rattle.std.specs.Prelude.{◌↔◌, IsTrue, IsBitSet};
+
+/// Whether the bit of this number is set. A mask has no bits from 64 on.
+pub fn is_in(mask: u64, number: u16) -> bool
+    ensures exact { IsTrue result ↔ IsBitSet mask number }
+{
+    number < 64 && mask >> number & 1 == 1
+}

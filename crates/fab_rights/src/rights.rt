@@ -1,0 +1,128 @@
+//! Which worker may fetch and write, and which store may hold, the objects of each class.
+
+ghost use Rattle.std.specs.Prelude.{◌≡◌, ◌↔◌, IsTrue, option_copied, slice_get};
+ghost use Rattle.std.specs.List.{AllZip};
+ghost use Rattle.fab_rights.specs.Rights.{Knows, IsWorkerIn, MayFetch, MayWrite, MayHold, FitsField, IsWellFormed};
+
+use crate::masks::is_in;
+use fab_base::{Object, Seq, Value};
+
+/// Who may do what with the objects of a class. Bit n of a mask stands for node n. A field holds a
+/// number, or where it has the number of a class, a reference to an object of that class.
+#[derive(Debug, Drop)]
+pub struct ClassRights {
+    pub fetchers: u64,
+    pub writers: u64,
+    pub holders: u64,
+    pub fields: Seq<Option<u16>>,
+}
+
+/// Which nodes are workers, as a mask, and the rights over each class, in the order of their numbers.
+#[derive(Debug, Drop)]
+pub struct Rights {
+    pub workers: u64,
+    pub classes: Seq<ClassRights>,
+}
+
+impl Rights {
+    /// The rights of these workers over these classes.
+    pub fn make(workers: u64, classes: Seq<ClassRights>) -> Rights
+        ensures { result ≡ record { workers = workers; classes = classes } }
+    {
+        Rights { workers, classes }
+    }
+
+    /// The class of this number.
+    fn class(&self, class: u16) -> Option<&ClassRights>
+        ensures { option_copied result ≡ slice_get self.now.classes class }
+    {
+        self.classes.as_slice().get(usize::from(class))
+    }
+
+    /// Whether there is a class of this number.
+    pub fn knows(&self, class: u16) -> bool
+        ensures exact { IsTrue result ↔ Knows self.now class }
+    {
+        usize::from(class) < self.classes.len()
+    }
+
+    /// Whether the node of this number is a worker.
+    pub fn is_worker(&self, node: u16) -> bool
+        ensures exact { IsTrue result ↔ IsWorkerIn self.now node }
+    {
+        is_in(self.workers, node)
+    }
+
+    /// Whether the worker may fetch objects of the class.
+    pub fn may_fetch(&self, worker: u16, class: u16) -> bool
+        ensures exact { IsTrue result ↔ MayFetch self.now worker class }
+    {
+        match self.class(class) {
+            Some(rights) => is_in(rights.fetchers, worker),
+            None => false,
+        }
+    }
+
+    /// Whether the worker may write and make objects of the class.
+    pub fn may_write(&self, worker: u16, class: u16) -> bool
+        ensures exact { IsTrue result ↔ MayWrite self.now worker class }
+    {
+        match self.class(class) {
+            Some(rights) => is_in(rights.writers, worker),
+            None => false,
+        }
+    }
+
+    /// Whether the store may hold objects of the class.
+    pub fn may_hold(&self, store: u16, class: u16) -> bool
+        ensures exact { IsTrue result ↔ MayHold self.now store class }
+    {
+        match self.class(class) {
+            Some(rights) => is_in(rights.holders, store),
+            None => false,
+        }
+    }
+
+    /// Whether a field of this kind may hold the value.
+    fn fits(&self, kind: Option<u16>, value: Value) -> bool
+        ensures { IsTrue result ↔ FitsField self.now kind value }
+    {
+        match (kind, value) {
+            (None, Value::Int(_)) => true,
+            (Some(_), Value::Null) => true,
+            (Some(class), Value::Ref(oid)) => {
+                oid.class == class && self.may_hold(oid.store, class)
+            }
+            _ => false,
+        }
+    }
+
+    /// Whether there are as many values as fields, each of its field's kind.
+    fn all_fit(&self, kinds: &[Option<u16>], values: &[Value]) -> bool
+        ensures { IsTrue result ↔ AllZip (FitsField self.now) kinds.now values.now }
+    {
+        let (mut wanted, mut given) = (kinds, values);
+        while let Some((kind, other_kinds)) = wanted.split_first() {
+            let Some((value, other_values)) = given.split_first() else {
+                return false;
+            };
+            if !self.fits(*kind, *value) {
+                return false;
+            }
+            wanted = other_kinds;
+            given = other_values;
+        }
+        given.is_empty()
+    }
+
+    /// Whether the object is of a known class and its fields are that class's, each reference at a
+    /// store that may hold what it leads to.
+    pub fn well_formed(&self, object: &Object) -> bool
+        ensures exact { IsTrue result ↔ IsWellFormed self.now object.now }
+    {
+        match self.class(object.class) {
+            Some(rights) => self.all_fit(rights.fields.as_slice(), object.fields.as_slice()),
+            None => false,
+        }
+    }
+}
