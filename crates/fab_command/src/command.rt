@@ -5,6 +5,8 @@ use fab_base::Text;
 /// What a command line may ask for.
 #[derive(Debug, Drop)]
 pub enum Command {
+    /// Whether a bundle keeps the rules of labels.
+    Check,
     /// The evaluation of a bundle.
     Evaluate,
     /// Whether one label of a bundle flows to another, with the reasons.

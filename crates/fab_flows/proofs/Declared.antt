@@ -29,22 +29,22 @@ use Rattle.fab_flows.specs.Numbers.{AreOwned, HasOwners, HasPrincipals}
 
 -- ---- empty lists
 
-left_nil : {A : Type 0} (xs ys : List A) → xs ++ ys ≡ [] → xs ≡ []
+pub left_nil : {A : Type 0} (xs ys : List A) → xs ++ ys ≡ [] → xs ≡ []
 left_nil [] ys e = refl
 left_nil (x ∷ xs) ys e = absurd (omega (arith, ap length e))
 
-right_nil : {A : Type 0} (xs ys : List A) → xs ++ ys ≡ [] → ys ≡ []
+pub right_nil : {A : Type 0} (xs ys : List A) → xs ++ ys ≡ [] → ys ≡ []
 right_nil [] ys e = e
 right_nil (x ∷ xs) ys e = absurd (omega (arith, ap length e))
 
 -- lists made of each element that are empty together are empty each
-each_nil : {X A : Type 0} (f : X → List A) (xs : List X) → flat_map f xs ≡ [] → All (λ x. f x ≡ []) xs
+pub each_nil : {X A : Type 0} (f : X → List A) (xs : List X) → flat_map f xs ≡ [] → All (λ x. f x ≡ []) xs
 each_nil f [] e = All-nil (λ x. f x ≡ [])
 each_nil f (x ∷ xs) e = All-cons (λ y. f y ≡ []) x xs (left_nil (f x) (flat_map f xs) e) (each_nil f xs (right_nil (f x) (flat_map f xs) e))
 
 -- ---- a name that is found
 
-number_below : {A : Type 0} (name : A → Name) (items : List A) (x : Name) → if_found (named name items x) x ≡ [] → number_of name items x < length items
+pub number_below : {A : Type 0} (name : A → Name) (items : List A) (x : Name) → if_found (named name items x) x ≡ [] → number_of name items x < length items
 number_below name [] x e = absurd (omega (arith, ap length e))
 number_below name (y ∷ ys) x e =
     (elim (is_same_name (name y) x) as (λ v. if_found (cond v (Some y) (named name ys x)) x ≡ [] → cond v zero (suc (number_of name ys x)) < suc (length ys))
@@ -60,7 +60,7 @@ first_fails : {A : Type 0} (b : Bool) (x : A) (rest : Option A) → cond b (Some
 first_fails true x rest e = absurd (false≢true (ap is_none e))
 first_fails false x rest e = refl
 
-few_principals : (s : Start) → first_passed s ≡ None → length s.program.nodes ≤ 64
+pub few_principals : (s : Start) → first_passed s ≡ None → length s.program.nodes ≤ 64
 few_principals s e = ltb-false 64 (length s.program.nodes) (first_fails (passes s Principals) Principals _ e)
 
 -- ---- what is declared
@@ -110,7 +110,7 @@ first_two a b c d e f g h i all =
     (left_nil (a ++ b ++ c ++ d ++ e ++ f) g (left_nil (a ++ b ++ c ++ d ++ e ++ f ++ g) h (left_nil (a ++ b ++ c ++ d ++ e ++ f ++ g ++ h) i all))))))
 
 -- the first of five
-first_of : {A : Type 0} (a b c d e : List A) → a ++ b ++ c ++ d ++ e ≡ [] → a ≡ []
+pub first_of : {A : Type 0} (a b c d e : List A) → a ++ b ++ c ++ d ++ e ≡ [] → a ≡ []
 first_of a b c d e all = left_nil a b (left_nil (a ++ b) c (left_nil (a ++ b ++ c) d (left_nil (a ++ b ++ c ++ d) e all)))
 
 program_declared : (s : Start) → faults s ≡ [] → flat_map (in_delegation s) s.program.delegations ++ flat_map (in_label_text s) s.program.labels ≡ []

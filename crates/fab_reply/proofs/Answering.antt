@@ -16,7 +16,7 @@ use Rattle.fab_reply.specs.declared.front.Outcome.TheVariants as outcome
 use Rattle.fab_reply.specs.declared.status.Status.{Status}
 use Rattle.fab_reply.specs.declared.status.Status.TheVariants as status
 use Rattle.fab_reply.specs.Front.{Front, whole}
-use Rattle.fab_reply.specs.Reply.{Replies, usage, syntax, limit, formatted, misnamed, evaluated, unlabelled, flow, IsReply, RepliesWith, Ends, LacksLabel, label_of}
+use Rattle.fab_reply.specs.Reply.{Replies, usage, syntax, limit, formatted, misnamed, mislabelled, checked, evaluated, unlabelled, flow, IsReply, RepliesWith, Ends, LacksLabel, label_of}
 
 -- a bundle is within the limits, and its text isn't too long
 pub within : {text : List ℕ} {s : Start} → Front text (outcome.Bundle s) → first_passed s ≡ None
@@ -50,7 +50,9 @@ ends_so l l' w w' (syntax g) e = e
 ends_so l l' w w' (limit g) e = e
 ends_so l l' w w' (formatted g) e = e
 ends_so l l' w w' (misnamed c g h) e = e
-ends_so l l' w w' (evaluated g h) e = e
+ends_so l l' w w' (mislabelled c g h k) e = e
+ends_so l l' w w' (checked g h k) e = e
+ends_so l l' w w' (evaluated g h k) e = e
 ends_so l l' w w' (unlabelled g h k) e = e
 ends_so l l' w w' (flow g h k m n) e = e
 
@@ -61,7 +63,9 @@ no_read_fault (syntax g) e = absurd (cc)
 no_read_fault (limit g) e = absurd (cc)
 no_read_fault (formatted g) e = absurd (cc)
 no_read_fault (misnamed c g h) e = absurd (cc)
-no_read_fault (evaluated g h) e = absurd (cc)
+no_read_fault (mislabelled c g h k) e = absurd (cc)
+no_read_fault (checked g h k) e = absurd (cc)
+no_read_fault (evaluated g h k) e = absurd (cc)
 no_read_fault (unlabelled g h k) e = absurd (cc)
 no_read_fault (flow g h k m n) e = absurd (cc)
 
@@ -71,7 +75,9 @@ no_write_fault (syntax g) e = absurd (cc)
 no_write_fault (limit g) e = absurd (cc)
 no_write_fault (formatted g) e = absurd (cc)
 no_write_fault (misnamed c g h) e = absurd (cc)
-no_write_fault (evaluated g h) e = absurd (cc)
+no_write_fault (mislabelled c g h k) e = absurd (cc)
+no_write_fault (checked g h k) e = absurd (cc)
+no_write_fault (evaluated g h k) e = absurd (cc)
 no_write_fault (unlabelled g h k) e = absurd (cc)
 no_write_fault (flow g h k m n) e = absurd (cc)
 

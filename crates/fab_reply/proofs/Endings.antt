@@ -4,7 +4,7 @@ use Rattle.std.specs.Io.KnownBytes.{Appends, IsAtEnd, Consumes}
 use Rattle.fab_base.specs.declared.limit.What.TheVariants.{Bytes}
 use Rattle.fab_command.specs.declared.command.Command.{Command}
 use Rattle.fab_reply.specs.declared.status.Status.{Status}
-use Rattle.fab_reply.specs.declared.status.Status.TheVariants.{Ok, Usage, ReadFault, WriteFault, Memory, Syntax, Limit, Name}
+use Rattle.fab_reply.specs.declared.status.Status.TheVariants.{Ok, Usage, ReadFault, WriteFault, Memory, Syntax, Limit, Name, Label as Labelled}
 use Rattle.fab_reply.specs.Front.{IsTooLong}
 use Rattle.fab_reply.specs.Reply.{Replies, usage, IsReply, IsInput, unasked, read, RepliesWith, Ends, ComesTo, SpeaksOfText, line, what_word}
 use Rattle.fab_reply.proofs.Fronts.{one_of_long}
@@ -64,6 +64,7 @@ module _ (command : Option Command) (l l' w w' : Option (List ℕ)) where
   exactly (Syntax at) e f = with_reply e
   exactly (Limit what) e f = with_reply e
   exactly (Name x at) e f = with_reply e
+  exactly (Labelled x at from to) e f = with_reply e
 
   speaks_not : {status : Status} → SpeaksOfText status → Limit Bytes ≡ status → ⊥
   speaks_not s e = let h = subst SpeaksOfText (sym e) s in h
@@ -92,6 +93,7 @@ module _ (command : Option Command) (l l' w w' : Option (List ℕ)) where
   read_whole (Syntax at) e s = to_end s e
   read_whole (Limit what) e s = to_end s e
   read_whole (Name x at) e s = to_end s e
+  read_whole (Labelled x at from to) e s = to_end s e
 
   -- where nothing is asked, `usage` comes
   as_usage : {status : Status} → command ≡ None → RepliesWith status command l l' w w' → ComesTo status Usage w w' (line (codes "usage"))
@@ -109,6 +111,7 @@ module _ (command : Option Command) (l l' w w' : Option (List ℕ)) where
   usage_comes (Syntax at) e f none = as_usage none e
   usage_comes (Limit what) e f none = as_usage none e
   usage_comes (Name x at) e f none = as_usage none e
+  usage_comes (Labelled x at from to) e f none = as_usage none e
 
   -- and only there
   nothing_asked : {asked : Option Command} {text reply : List ℕ} → Replies asked text Usage reply → asked ≡ None
@@ -123,3 +126,4 @@ module _ (command : Option Command) (l l' w w' : Option (List ℕ)) where
   only_unasked (Syntax at) e h = absurd (cc)
   only_unasked (Limit what) e h = absurd (cc)
   only_unasked (Name x at) e h = absurd (cc)
+  only_unasked (Labelled x at from to) e h = absurd (cc)

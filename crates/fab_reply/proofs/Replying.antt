@@ -18,14 +18,19 @@ use Rattle.fab_language.specs.Faults.{faults, IsFirst}
 use Rattle.fab_language.specs.Flows.{FlowReply, IsFlowReply}
 use Rattle.fab_language.specs.Numbers.{resolved}
 use Rattle.fab_command.specs.declared.command.Command.{Command}
-use Rattle.fab_command.specs.declared.command.Command.TheVariants.{Evaluate, Flows, Format}
+use Rattle.fab_command.specs.declared.command.Command.TheVariants.{Check, Evaluate, Flows, Format}
 use Rattle.fab_reply.specs.declared.front.Outcome.{Outcome}
 use Rattle.fab_reply.specs.declared.front.Outcome.TheVariants as outcome
 use Rattle.fab_reply.specs.declared.status.Status.{Status}
-use Rattle.fab_reply.specs.declared.status.Status.TheVariants.{Ok, Usage, ReadFault, WriteFault, Memory, Syntax, Name, Limit}
+use Rattle.fab_reply.specs.declared.status.Status.TheVariants.{Ok, Usage, ReadFault, WriteFault, Memory, Syntax, Name, Label as Labelled, Limit}
 use Rattle.fab_reply.specs.Front.{Front, IsFront}
-use Rattle.fab_reply.specs.Reply.{Replies, usage, syntax, limit, formatted, misnamed, evaluated, unlabelled, flow, AsksNames, IsReply, LacksLabel, label_of, line, name_line, what_word}
+use Rattle.fab_reply.specs.Reply.{Replies, usage, syntax, limit, formatted, misnamed, mislabelled, checked, evaluated, unlabelled, flow, AsksNames, AsksLabels, IsReply, LacksLabel, label_of, label_line, line, name_line, what_word}
+use Rattle.fab_labelling.specs.declared.rule.Refusal.{Refusal}
+use Rattle.fab_labelling.specs.Claims.{IsWellLabelled}
+use Rattle.fab_labelling.specs.Refusals.{IsFirstRefusal}
 use Rattle.fab_reply.proofs.Faults.{one_first}
+use Rattle.fab_labelling.proofs.OneRefusal.{one_refusal}
+use Rattle.fab_reply.proofs.Refusals.{none_refused}
 use Rattle.fab_reply.proofs.Fronts.{one_of_long}
 
 -- ---- outcomes that are one
@@ -65,7 +70,9 @@ module _ {command : Command} {text : List ℕ} where
       go s r (limit {what = b} g) = not_limit (sym (f.only (outcome.Limit b) g))
       go s r (formatted {s = b} g) = not_bundle (sym (f.only (outcome.Bundle b) g))
       go s r (misnamed {s = b} c g h) = not_bundle (sym (f.only (outcome.Bundle b) g))
-      go s r (evaluated {s = b} g h) = not_bundle (sym (f.only (outcome.Bundle b) g))
+      go s r (mislabelled {s = b} c g h k) = not_bundle (sym (f.only (outcome.Bundle b) g))
+      go s r (checked {s = b} g h k) = not_bundle (sym (f.only (outcome.Bundle b) g))
+      go s r (evaluated {s = b} g h k) = not_bundle (sym (f.only (outcome.Bundle b) g))
       go s r (unlabelled {s = b} g h k) = not_bundle (sym (f.only (outcome.Bundle b) g))
       go s r (flow {s = b} g h k l m) = not_bundle (sym (f.only (outcome.Bundle b) g))
 
@@ -77,7 +84,9 @@ module _ {command : Command} {text : List ℕ} where
       go s r (limit {what = b} g) = let e = same_what (f.only (outcome.Limit b) g) in (ap Limit e, ap (λ x. line (codes "limit " ++ what_word x)) e)
       go s r (formatted {s = b} g) = no_limit (sym (f.only (outcome.Bundle b) g))
       go s r (misnamed {s = b} c g h) = no_limit (sym (f.only (outcome.Bundle b) g))
-      go s r (evaluated {s = b} g h) = no_limit (sym (f.only (outcome.Bundle b) g))
+      go s r (mislabelled {s = b} c g h k) = no_limit (sym (f.only (outcome.Bundle b) g))
+      go s r (checked {s = b} g h k) = no_limit (sym (f.only (outcome.Bundle b) g))
+      go s r (evaluated {s = b} g h k) = no_limit (sym (f.only (outcome.Bundle b) g))
       go s r (unlabelled {s = b} g h k) = no_limit (sym (f.only (outcome.Bundle b) g))
       go s r (flow {s = b} g h k l m) = no_limit (sym (f.only (outcome.Bundle b) g))
 
@@ -101,6 +110,7 @@ module _ {text : List ℕ} {start : Start} (f : IsFront text (outcome.Bundle sta
       go s r (limit {what = b} g) = no_limit (f.only (outcome.Limit b) g)
       go s r (formatted g) = (refl, ap canonical (same g))
       go s r (misnamed c g h) = absurd c
+      go s r (mislabelled c g h k) = absurd c
 
   pub name_reply : {command : Command} {x : Fault} → AsksNames command → IsFirst (faults start) x → IsReply (Some command) text (Name x.rule x.at) (name_line x.rule x.at)
   name_reply {x = x} asks h = record { is = misnamed asks f.is h; only = λ s r. go asks s r }
@@ -110,18 +120,52 @@ module _ {text : List ℕ} {start : Start} (f : IsFront text (outcome.Bundle sta
       go w s r (limit {what = b} g) = no_limit (f.only (outcome.Limit b) g)
       go w s r (formatted g) = absurd w
       go w s r (misnamed c g k) = let e = one_first _ _ _ _ (ap faults (same g)) k h in (ap (λ y. Name y.rule y.at) e, ap (λ y. name_line y.rule y.at) e)
-      go w s r (evaluated g k) = none_first (ap faults (sym (same g)) ∙ k) h
+      go w s r (mislabelled c g k l) = none_first (ap faults (sym (same g)) ∙ k) h
+      go w s r (checked g k l) = none_first (ap faults (sym (same g)) ∙ k) h
+      go w s r (evaluated g k l) = none_first (ap faults (sym (same g)) ∙ k) h
       go w s r (unlabelled g k l) = none_first (ap faults (sym (same g)) ∙ k) h
       go w s r (flow g k l m n) = none_first (ap faults (sym (same g)) ∙ k) h
 
-  pub evaluated_reply : faults start ≡ [] → IsReply (Some Evaluate) text Ok (evaluation_text (resolved start))
-  evaluated_reply right = record { is = evaluated f.is right; only = λ s r. go s r }
+  here : {b : Start} {x : Refusal} → Front text (outcome.Bundle b) → IsFirstRefusal (resolved b) x → IsFirstRefusal (resolved start) x
+  here {b} {x} g h = subst (λ y. IsFirstRefusal (resolved y) x) (same g) h
+
+  pub label_reply : {command : Command} {x : Refusal} → AsksLabels command → faults start ≡ [] → IsFirstRefusal (resolved start) x
+      → IsReply (Some command) text (Labelled x.rule x.at x.source x.target) (label_line (resolved start) x)
+  label_reply {x = x} asks right h = record { is = mislabelled asks f.is right h; only = λ s r. go asks s r }
     where
-      go : (s : Status) (r : List ℕ) → Replies (Some Evaluate) text s r → (s ≡ Ok) × (r ≡ evaluation_text (resolved start))
-      go s r (syntax {at = b} g) = not_bundle (f.only (outcome.Syntax b) g)
-      go s r (limit {what = b} g) = no_limit (f.only (outcome.Limit b) g)
-      go s r (misnamed c g k) = none_first (ap faults (same g) ∙ right) k
-      go s r (evaluated g k) = (refl, ap (λ y. evaluation_text (resolved y)) (same g))
+      go : {c : Command} → AsksLabels c → (s : Status) (r : List ℕ) → Replies (Some c) text s r → (s ≡ Labelled x.rule x.at x.source x.target) × (r ≡ label_line (resolved start) x)
+      go w s r (syntax {at = b} g) = not_bundle (f.only (outcome.Syntax b) g)
+      go w s r (limit {what = b} g) = no_limit (f.only (outcome.Limit b) g)
+      go w s r (formatted g) = absurd w
+      go w s r (misnamed c g k) = none_first (ap faults (same g) ∙ right) k
+      go w s r (mislabelled {s = b} {x = y} c g k l) =
+          let e = one_refusal (resolved start) y x (here g l) h in
+          (ap (λ z. Labelled z.rule z.at z.source z.target) e, ap (λ z. label_line (resolved z) y) (same g) ∙ ap (λ z. label_line (resolved start) z) e)
+      go w s r (checked {s = b} g k l) = none_refused (resolved start) x (subst (λ z. IsWellLabelled (resolved z)) (same g) l) h
+      go w s r (evaluated {s = b} g k l) = none_refused (resolved start) x (subst (λ z. IsWellLabelled (resolved z)) (same g) l) h
+      go w s r (unlabelled g k l) = absurd w
+      go w s r (flow g k l m n) = absurd w
+
+  module _ (right : faults start ≡ []) (well : IsWellLabelled (resolved start)) where
+    pub checked_reply : IsReply (Some Check) text Ok (line (codes "ok"))
+    checked_reply = record { is = checked f.is right well; only = λ s r. go s r }
+      where
+        go : (s : Status) (r : List ℕ) → Replies (Some Check) text s r → (s ≡ Ok) × (r ≡ line (codes "ok"))
+        go s r (syntax {at = b} g) = not_bundle (f.only (outcome.Syntax b) g)
+        go s r (limit {what = b} g) = no_limit (f.only (outcome.Limit b) g)
+        go s r (misnamed c g k) = none_first (ap faults (same g) ∙ right) k
+        go s r (mislabelled {x = y} c g k l) = none_refused (resolved start) y well (here g l)
+        go s r (checked g k l) = (refl, refl)
+
+    pub evaluated_reply : IsReply (Some Evaluate) text Ok (evaluation_text (resolved start))
+    evaluated_reply = record { is = evaluated f.is right well; only = λ s r. go s r }
+      where
+        go : (s : Status) (r : List ℕ) → Replies (Some Evaluate) text s r → (s ≡ Ok) × (r ≡ evaluation_text (resolved start))
+        go s r (syntax {at = b} g) = not_bundle (f.only (outcome.Syntax b) g)
+        go s r (limit {what = b} g) = no_limit (f.only (outcome.Limit b) g)
+        go s r (misnamed c g k) = none_first (ap faults (same g) ∙ right) k
+        go s r (mislabelled {x = y} c g k l) = none_refused (resolved start) y well (here g l)
+        go s r (evaluated g k l) = (refl, ap (λ y. evaluation_text (resolved y)) (same g))
 
   lacks : (a b : List ℕ) {x y : Label} {A : Type 0} → label_of start a ≡ Some x → label_of start b ≡ Some y → LacksLabel start a b → A
   lacks a b p q (inl n) = absurd (cc)
@@ -135,6 +179,7 @@ module _ {text : List ℕ} {start : Start} (f : IsFront text (outcome.Bundle sta
         go s r (syntax {at = b} g) = not_bundle (f.only (outcome.Syntax b) g)
         go s r (limit {what = b} g) = no_limit (f.only (outcome.Limit b) g)
         go s r (misnamed c g k) = none_first (ap faults (same g) ∙ right) k
+        go s r (mislabelled c g k l) = absurd c
         go s r (unlabelled g k m) = (refl, refl)
         go s r (flow g k m n o) = lacks a b (ap (λ x. label_of x a) (sym (same g)) ∙ m) (ap (λ x. label_of x b) (sym (same g)) ∙ n) l
 
@@ -145,6 +190,7 @@ module _ {text : List ℕ} {start : Start} (f : IsFront text (outcome.Bundle sta
         go s r (syntax {at = b} g) = not_bundle (f.only (outcome.Syntax b) g)
         go s r (limit {what = b} g) = no_limit (f.only (outcome.Limit b) g)
         go s r (misnamed c g k) = none_first (ap faults (same g) ∙ right) k
+        go s r (mislabelled c g k l) = absurd c
         go s r (unlabelled {s = z} g k m) = lacks a b p q (subst (λ w. LacksLabel w a b) (same g) m)
         go s r (flow {from = u} {to = v} g k m n o) =
             let i : u ≡ x = one_label m (ap (λ z. label_of z a) (same g)) p in

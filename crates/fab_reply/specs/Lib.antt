@@ -1,3 +1,4 @@
+pub mod Accepted
 pub mod Front
 pub mod Reading
 pub mod Reply

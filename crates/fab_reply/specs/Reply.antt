@@ -1,5 +1,5 @@
 -- What the program replies.
-use Rattle.std.specs.Prelude.{◌≡◌, ◌⊎◌, ℕ, ◌≤◌, List, [], ◌∷◌, ◌++◌, map, length, Option, Some, None, find, option_map, codes}
+use Rattle.std.specs.Prelude.{◌≡◌, ◌⊎◌, ℕ, ◌≤◌, List, [], ◌∷◌, ◌++◌, map, length, Option, Some, None, find, option_map, slice_get, codes}
 use Rattle.std.specs.Fmt.{decimal}
 use Rattle.std.specs.Io.KnownBytes.{Appends, Keeps}
 use Rattle.std.specs.Str.{bytes_eq}
@@ -13,15 +13,24 @@ use Rattle.fab_language.specs.declared.rule.NameRule.{NameRule}
 use Rattle.fab_language.specs.declared.rule.NameRule.TheVariants as rule
 use Rattle.fab_language.specs.Evaluation.{evaluation_text}
 use Rattle.fab_language.specs.Faults.{faults, IsFirst}
-use Rattle.fab_language.specs.Flows.{FlowReply}
+use Rattle.fab_language.specs.Flows.{FlowReply, principal_text}
+use Rattle.fab_language.specs.Words.{text_or}
 use Rattle.fab_language.specs.Numbers.{resolved}
+use Rattle.fab_tree.specs.declared.resolved.Resolved.{Resolved}
+use Rattle.fab_labelling.specs.declared.rule.LabelRule.{LabelRule}
+use Rattle.fab_labelling.specs.declared.rule.LabelRule.TheVariants as labels
+use Rattle.fab_labelling.specs.declared.rule.Refusal.{Refusal}
+use Rattle.fab_labelling.specs.declared.rule.Side.{Side}
+use Rattle.fab_labelling.specs.declared.rule.Side.TheVariants as side
+use Rattle.fab_labelling.specs.Claims.{IsWellLabelled}
+use Rattle.fab_labelling.specs.Refusals.{IsFirstRefusal}
 use Rattle.fab_reply.specs.declared.front.Outcome.TheVariants as outcome
 use Rattle.fab_reply.specs.Front.{Front}
 use Rattle.fab_reply.specs.Reading.{ReadsText, WritesFront}
 use Rattle.fab_reply.specs.declared.status.Status.{Status}
-use Rattle.fab_reply.specs.declared.status.Status.TheVariants.{Ok, Usage, ReadFault, WriteFault, Memory, Syntax, Name, Limit}
+use Rattle.fab_reply.specs.declared.status.Status.TheVariants.{Ok, Usage, ReadFault, WriteFault, Memory, Syntax, Name, Label as Labelled, Limit}
 use Rattle.fab_command.specs.declared.command.Command.{Command}
-use Rattle.fab_command.specs.declared.command.Command.TheVariants.{Evaluate, Flows, Format}
+use Rattle.fab_command.specs.declared.command.Command.TheVariants.{Check, Evaluate, Flows, Format}
 
 -- a line of a text
 abbrev pub line : List ℕ → List ℕ
@@ -57,11 +66,40 @@ rule_word rule.Typing = codes "type"
 abbrev pub name_line : NameRule → ℕ → List ℕ
 name_line x at = line (codes "name " ++ rule_word x ++ codes " at " ++ decimal at)
 
+abbrev pub label_rule_word : LabelRule → List ℕ
+label_rule_word labels.Placement = codes "placement"
+label_rule_word labels.Begin = codes "begin"
+label_rule_word labels.Atomic = codes "atomic"
+label_rule_word labels.Write = codes "write"
+label_rule_word labels.Access = codes "access"
+label_rule_word labels.Fail = codes "fail"
+label_rule_word labels.Declassify = codes "declassify"
+label_rule_word labels.Endorse = codes "endorse"
+label_rule_word labels.Authority = codes "authority"
+
+-- the name of a label or of a principal, `none` for a failure label that isn't there
+abbrev pub side_text : Resolved → Side → List ℕ
+side_text r (side.Label n) = text_or [] (option_map (λ x. x.name.text) (slice_get r.labels n))
+side_text r (side.Principal n) = principal_text r n
+side_text r side.Absent = codes "none"
+
+-- the line of what a rule of labels refuses
+abbrev pub label_line : Resolved → Refusal → List ℕ
+label_line r x = line (codes "label " ++ label_rule_word x.rule ++ codes " at " ++ decimal x.at ++ codes " from " ++ side_text r x.source ++ codes " to " ++ side_text r x.target)
+
 -- every command but `fmt` asks for the rules of names and types
 abbrev pub AsksNames : Command → Type 0
+AsksNames Check = Unit {0}
 AsksNames Evaluate = Unit {0}
 AsksNames (Flows a b) = Unit {0}
 AsksNames Format = ⊥
+
+-- `check` and `eval` ask for the rules of labels
+abbrev pub AsksLabels : Command → Type 0
+AsksLabels Check = Unit {0}
+AsksLabels Evaluate = Unit {0}
+AsksLabels (Flows a b) = ⊥
+AsksLabels Format = ⊥
 
 -- the label of a word of the command line
 abbrev pub label_of : Start → List ℕ → Option Label
@@ -82,8 +120,14 @@ pub data Replies : Option Command → List ℕ → Status → List ℕ → Type 
   misnamed : {command : Command} {text : List ℕ} {s : Start} {x : Fault}
       → AsksNames command → Front text (outcome.Bundle s) → IsFirst (faults s) x
       → Replies (Some command) text (Name x.rule x.at) (name_line x.rule x.at)
+  mislabelled : {command : Command} {text : List ℕ} {s : Start} {x : Refusal}
+      → AsksLabels command → Front text (outcome.Bundle s) → faults s ≡ [] → IsFirstRefusal (resolved s) x
+      → Replies (Some command) text (Labelled x.rule x.at x.source x.target) (label_line (resolved s) x)
+  checked : {text : List ℕ} {s : Start}
+      → Front text (outcome.Bundle s) → faults s ≡ [] → IsWellLabelled (resolved s) → Replies (Some Check) text Ok (line (codes "ok"))
   evaluated : {text : List ℕ} {s : Start}
-      → Front text (outcome.Bundle s) → faults s ≡ [] → Replies (Some Evaluate) text Ok (evaluation_text (resolved s))
+      → Front text (outcome.Bundle s) → faults s ≡ [] → IsWellLabelled (resolved s)
+      → Replies (Some Evaluate) text Ok (evaluation_text (resolved s))
   -- a word that is no label is refused as a name behind the text's last byte
   unlabelled : {a b text : List ℕ} {s : Start}
       → Front text (outcome.Bundle s) → faults s ≡ [] → LacksLabel s a b
@@ -133,6 +177,7 @@ SpeaksOfText (Syntax at) = Unit {0}
 SpeaksOfText (Limit w.Bytes) = ⊥
 SpeaksOfText (Limit what) = Unit {0}
 SpeaksOfText (Name x at) = Unit {0}
+SpeaksOfText (Labelled x at source target) = Unit {0}
 SpeaksOfText _ = ⊥
 
 -- this status and the whole reply, or memory ran out, or the sink failed

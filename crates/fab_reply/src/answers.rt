@@ -7,17 +7,18 @@ ghost use Rattle.fab_language.specs.Numbers.{resolved as resolved_of};
 ghost use Rattle.fab_language.specs.declared.rule.NameRule.TheVariants.{Unknown};
 ghost use Rattle.fab_command.specs.declared.command.Command.TheVariants as asks;
 ghost use Rattle.fab_reply.specs.Front.{IsFront};
-ghost use Rattle.fab_reply.specs.Reply.{IsReply, name_line};
+ghost use Rattle.fab_reply.specs.Reply.{IsReply, label_line, name_line};
 ghost use Rattle.fab_reply.specs.declared.front.Outcome.TheVariants.{Bundle};
-ghost use Rattle.fab_reply.specs.declared.status.Status.TheVariants.{Name};
+ghost use Rattle.fab_reply.specs.declared.status.Status.TheVariants.{Label as Labelled, Name};
 
-use crate::lines::name_line;
+use crate::accepted::{Accepted, accept, named};
+use crate::lines::{label_line, name_line};
 use crate::status::Status;
 use fab_base::{NoMemory, Seq, Text};
 use fab_evaluation::evaluation;
 use fab_flows::flow_reply;
+use fab_labelling::Refusal;
 use fab_language::{Fault, NameRule};
-use fab_names::{NameError, resolve};
 use fab_print::print_start;
 use fab_tree::Start;
 use fab_tree::resolved::{NamedLabel, Resolved};
@@ -37,18 +38,6 @@ pub(crate) fn format(
     Ok((Status::Ok, reply))
 }
 
-/// A bundle with numbers for names, or its first fault.
-fn named(alloc: Global, start: &Start) -> Result<Result<Resolved, Fault>, NoMemory>
-    requires { first_passed start.now ≡ Nothing }
-    ensures { IfOk result (λ found. MatchResult found (λ r. (faults start.now ≡ []) × (r ≡ resolved_of start.now)) (IsFirst (faults start.now))) }
-{
-    match resolve(alloc, start) {
-        Ok(resolved) => Ok(Ok(resolved)),
-        Err(NameError::Refused { rule, at }) => Ok(Err(Fault { rule, at })),
-        Err(NameError::Memory) => Err(AllocError),
-    }
-}
-
 /// The reply to a name that is refused.
 fn refused(alloc: Global, fault: Fault) -> Result<(Status, Seq<u8>), NoMemory>
     ensures { IfOk result (λ r. (r.0 ≡ Name fault.rule fault.at) × (r.1 ≡ name_line fault.rule fault.at)) }
@@ -56,6 +45,47 @@ fn refused(alloc: Global, fault: Fault) -> Result<(Status, Seq<u8>), NoMemory>
     let Fault { rule, at } = fault;
     let reply = name_line(alloc, rule, at)?;
     Ok((Status::Name { rule, at }, reply))
+}
+
+/// The reply to a label that is refused.
+fn mislabelled(
+    alloc: Global,
+    resolved: &Resolved,
+    refusal: Refusal,
+) -> Result<(Status, Seq<u8>), NoMemory>
+    ensures { IfOk result (λ r. (r.0 ≡ Labelled refusal.rule refusal.at refusal.source refusal.target) × (r.1 ≡ label_line resolved.now refusal)) }
+{
+    let reply = label_line(alloc, resolved, refusal)?;
+    let Refusal {
+        rule,
+        at,
+        source,
+        target,
+    } = refusal;
+    let status = Status::Label {
+        rule,
+        at,
+        source,
+        target,
+    };
+    Ok((status, reply))
+}
+
+/// What `check` replies to a text with this bundle.
+pub(crate) fn checked(
+    alloc: Global,
+    text: &[u8],
+    start: &Start,
+) -> Result<(Status, Seq<u8>), NoMemory>
+    requires { IsFront text.now (Bundle start.now) }
+    ensures { IfOk result (λ r. IsReply (Some asks.Check) text.now r.0 r.1) }
+{
+    let _text = text;
+    match accept(alloc, start)? {
+        Accepted::Bundle(_) => Ok((Status::Ok, Seq::from_slice(alloc, b"ok\n")?)),
+        Accepted::Misnamed(fault) => refused(alloc, fault),
+        Accepted::Mislabelled { resolved, refusal } => mislabelled(alloc, &resolved, refusal),
+    }
 }
 
 /// What `eval` replies to a text with this bundle.
@@ -68,12 +98,13 @@ pub(crate) fn evaluate(
     ensures { IfOk result (λ r. IsReply (Some asks.Evaluate) text.now r.0 r.1) }
 {
     let _text = text;
-    match named(alloc, start)? {
-        Ok(resolved) => {
+    match accept(alloc, start)? {
+        Accepted::Bundle(resolved) => {
             let reply = evaluation(alloc, resolved)?;
             Ok((Status::Ok, reply))
         }
-        Err(fault) => refused(alloc, fault),
+        Accepted::Misnamed(fault) => refused(alloc, fault),
+        Accepted::Mislabelled { resolved, refusal } => mislabelled(alloc, &resolved, refusal),
     }
 }
 

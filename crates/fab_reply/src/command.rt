@@ -9,7 +9,7 @@ ghost use Rattle.fab_reply.specs.declared.reading.ReadError.TheVariants.{Fault};
 ghost use Rattle.fab_reply.specs.declared.status.Status.{Status as AnyStatus};
 ghost use Rattle.fab_reply.specs.declared.status.Status.TheVariants.{Usage, ReadFault, WriteFault, Memory};
 
-use crate::answers::{evaluate, flows, format};
+use crate::answers::{checked, evaluate, flows, format};
 use crate::front::{Outcome, front};
 use crate::lines::{limit_line, syntax_line};
 use crate::reading::{ReadError, read_all};
@@ -33,6 +33,7 @@ fn replied(alloc: Global, command: &Command, text: &[u8]) -> Result<(Status, Seq
             Ok((Status::Limit { what }, reply))
         }
         Outcome::Bundle(start) => match command {
+            Command::Check => checked(alloc, text, &start),
             Command::Evaluate => evaluate(alloc, text, &start),
             Command::Flows { from, to } => flows(alloc, text, &start, from, to),
             Command::Format => format(alloc, text, &start),
@@ -94,7 +95,8 @@ fn run<S: Source, K: Sink>(
 /// Does what is asked, and says how it ended: nothing is asked where the words of a command line are
 /// none of the program's.
 ///
-/// `eval` asks for the evaluation of the bundle that the source has, `flows A B` whether its label A
+/// `check` asks whether the bundle that the source has keeps the rules of labels, `eval` for its
+/// evaluation, `flows A B` whether its label A
 /// flows to its label B, with the reasons, `fmt` for its canonical text. A text has at most
 /// 4,194,304 bytes. Of what the source has left and the sink holds, the clauses speak where these
 /// tell it.

@@ -1,6 +1,7 @@
 //! What is replied to a command and a text, and how that is read and written.
 #![tactic(auto)]
 
+mod accepted;
 mod answers;
 mod command;
 mod front;

@@ -1,10 +1,12 @@
 //! The lines of refusals.
-ghost use Rattle.std.specs.Prelude.{◌≡◌, ◌++◌, IfOk, codes};
+ghost use Rattle.std.specs.Prelude.{◌≡◌, ◌++◌, IfOk, OnOk, codes};
 ghost use Rattle.std.specs.Fmt.{decimal};
-ghost use Rattle.fab_reply.specs.Reply.{line, name_line, rule_word as rule_word_of, what_word as word_of};
+ghost use Rattle.fab_reply.specs.Reply.{label_line, label_rule_word as label_word_of, line, name_line, rule_word as rule_word_of, side_text, what_word as word_of};
 
 use fab_base::{NoMemory, Seq, What};
+use fab_labelling::{LabelRule, Refusal, Side};
 use fab_language::NameRule;
+use fab_tree::resolved::Resolved;
 use std::alloc::Global;
 
 /// The word of what has a limit.
@@ -75,6 +77,67 @@ pub(crate) fn name_line(alloc: Global, rule: NameRule, at: u32) -> Result<Seq<u8
     out.extend(b" at ")?;
     let digits = format!(in alloc; "{at}")?;
     out.extend(digits.as_str().as_bytes())?;
+    out.push(b'\n')?;
+    Ok(out)
+}
+
+/// The word of a rule of labels.
+fn label_word(rule: LabelRule) -> &'static str
+    ensures { result.now ≡ label_word_of rule }
+{
+    match rule {
+        LabelRule::Placement => "placement",
+        LabelRule::Begin => "begin",
+        LabelRule::Atomic => "atomic",
+        LabelRule::Write => "write",
+        LabelRule::Access => "access",
+        LabelRule::Fail => "fail",
+        LabelRule::Declassify => "declassify",
+        LabelRule::Endorse => "endorse",
+        LabelRule::Authority => "authority",
+    }
+}
+
+/// The name of one side of a flow.
+fn put_side(out: &mut Seq<u8>, start: &Resolved, side: Side) -> Result<(), NoMemory>
+    ensures { OnOk result (out.new ≡ out.old ++ side_text start.now side) }
+{
+    match side {
+        Side::Label(number) => match start.labels.as_slice().get(number as usize) {
+            Some(label) => out.extend(label.name.text.as_str().as_bytes()),
+            None => Ok(()),
+        },
+        Side::Principal(number) => match start.nodes.as_slice().get(number as usize) {
+            Some(principal) => out.extend(principal.name.text.as_str().as_bytes()),
+            None => Ok(()),
+        },
+        Side::Absent => out.extend(b"none"),
+    }
+}
+
+/// `label`, the rule that is broken, `at` and the place, `from` and `to` with the two sides.
+pub(crate) fn label_line(
+    alloc: Global,
+    start: &Resolved,
+    refusal: Refusal,
+) -> Result<Seq<u8>, NoMemory>
+    ensures { IfOk result (λ out. out ≡ label_line start.now refusal) }
+{
+    let Refusal {
+        rule,
+        at,
+        source,
+        target,
+    } = refusal;
+    let mut out = Seq::from_slice(alloc, b"label ")?;
+    out.extend(label_word(rule).as_bytes())?;
+    out.extend(b" at ")?;
+    let digits = format!(in alloc; "{at}")?;
+    out.extend(digits.as_str().as_bytes())?;
+    out.extend(b" from ")?;
+    put_side(&mut out, start, source)?;
+    out.extend(b" to ")?;
+    put_side(&mut out, start, target)?;
     out.push(b'\n')?;
     Ok(out)
 }

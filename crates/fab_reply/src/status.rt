@@ -2,9 +2,12 @@
 ghost use Rattle.std.specs.Prelude.{◌≡◌, ℕ};
 ghost use Rattle.fab_base.specs.declared.limit.What.{What as WhatHasALimit};
 ghost use Rattle.fab_language.specs.declared.rule.NameRule.{NameRule as Rule};
+ghost use Rattle.fab_labelling.specs.declared.rule.LabelRule.{LabelRule as LabelsRule};
+ghost use Rattle.fab_labelling.specs.declared.rule.Side.{Side as OneSide};
 ghost use Rattle.fab_reply.specs.declared.status.Status.TheVariants as status;
 
 use fab_base::What;
+use fab_labelling::{LabelRule, Side};
 use fab_language::NameRule;
 
 /// How a run of the program ended.
@@ -22,12 +25,27 @@ pub enum Status {
     Memory,
     /// The text isn't of the language. `at` is the place of the first byte or token that doesn't
     /// fit, or the text's length.
-    Syntax { at: u32 },
+    Syntax {
+        at: u32,
+    },
     /// The bundle breaks a rule of names and types, first at this place; or a word of the command
     /// line is no label of it, at the text's length.
-    Name { rule: NameRule, at: u32 },
+    Name {
+        rule: NameRule,
+        at: u32,
+    },
+    /// The bundle breaks a rule of labels, first at this place: what the source says doesn't flow
+    /// to the target, or isn't the target's to do.
+    Label {
+        rule: LabelRule,
+        at: u32,
+        source: Side,
+        target: Side,
+    },
     /// The bundle has too many of something.
-    Limit { what: What },
+    Limit {
+        what: What,
+    },
 }
 
 impl Status {
@@ -40,6 +58,7 @@ impl Status {
         ensures memory { self ≡ status.Memory → result ≡ 4 }
         ensures syntax { (at : ℕ) → self ≡ status.Syntax at → result ≡ 5 }
         ensures name { (rule : Rule) (at : ℕ) → self ≡ status.Name rule at → result ≡ 6 }
+        ensures label { (rule : LabelsRule) (at : ℕ) (source target : OneSide) → self ≡ status.Label rule at source target → result ≡ 7 }
         ensures limit { (what : WhatHasALimit) → self ≡ status.Limit what → result ≡ 8 }
     {
         match self {
@@ -50,6 +69,7 @@ impl Status {
             Status::Memory => 4,
             Status::Syntax { .. } => 5,
             Status::Name { .. } => 6,
+            Status::Label { .. } => 7,
             Status::Limit { .. } => 8,
         }
     }

@@ -12,8 +12,9 @@ const DECLARED: &str =
     label E={};class A label L access L{int m;int n;}class B label L access L{int k;B b;}";
 
 /// Methods that the bodies call.
-const CALLED: &str = "method f()begin L{}method g(int i:L)returns int:L begin L{i=i+1;return i*2;}\
-    method h(int i:L,A c:L)begin L{c.m=i;c=null;i=0;}\
+const CALLED: &str =
+    "method f()begin L fails{}method g(int i:L)returns int:L begin L fails{i=i+1;return i*2;}\
+    method h(int i:L,A c:L)begin L fails{c.m=i;c=null;i=0;}\
     method k(A c:L,int i:L)begin L fails{c.m=c.m*10;c.n=6/i;}";
 
 /// Each row has the body of a method that is run on two objects and 5, and what the fields of the
@@ -84,9 +85,9 @@ const RUNS: [(&str, &str, &str); 9] = [
         object h r A 2147483647 -2147483648\nobject h n B 2 q\nend\n",
     ),
     (
-        "method a()returns int:L begin L{return -1;}method b()returns B:L begin L{return null;}\
-        method c(B b:L)returns B:L begin L{return b;}method d(B b:L)returns B:L begin L{return b.b;}\
-        method e()begin L{}method f(int k:L)returns B:L begin L{B b:L=null;b=new B@h(k,b);return b;}",
+        "method a()returns int:L begin L fails{return -1;}method b()returns B:L begin L fails{return null;}\
+        method c(B b:L)returns B:L begin L fails{return b;}method d(B b:L)returns B:L begin L fails{return b.b;}\
+        method e()begin L fails{}method f(int k:L)returns B:L begin L fails{B b:L=null;b=new B@h(k,b);return b;}",
         "root r:B@s(1,q);root q:B@s(2,null);\
         session w{a();b();c(r);d(r);d(q);e();f(-5);f(-0);c(null);d(null);}",
         "outcome w 1 ended -1\noutcome w 2 ended null\noutcome w 3 ended r\noutcome w 4 ended q\n\
@@ -110,7 +111,7 @@ const RUNS: [(&str, &str, &str); 9] = [
         method m(A x:L)begin L fails{x.m=1;atomic L{fail;}else{fail;}}\
         method n(A x:L)begin L fails{x.m=1;int t:L=0;t=endorse(1/0,L to L);}\
         method o(A x:L)begin L fails{A y:L=null;y=new A@s(1,1);x.m=2;b(x);}\
-        method q(A x:L)begin L{x.m=x.m+1;}",
+        method q(A x:L)begin L fails{x.m=x.m+1;}",
         "root x:A@s(9,9);\
         session w{q(x);a(x);b(x);c(x);d(x);e(x);f(x);g(x);i(x);j(x);k(x);l(x);m(x);n(x);o(x);q(x);}",
         "outcome w 1 ended none\noutcome w 2 failed\noutcome w 3 failed\noutcome w 4 failed\n\
@@ -120,10 +121,10 @@ const RUNS: [(&str, &str, &str); 9] = [
         object s x A 11 9\nend\n",
     ),
     (
-        "method a(int n:L)begin L{B b:L=null;int i:L=0;while(i<n){b=new B@s(i,b);i=i+1;\
+        "method a(int n:L)begin L fails{B b:L=null;int i:L=0;while(i<n){b=new B@s(i,b);i=i+1;\
         }b=new B@h(9,b);}method b()returns B:L begin L fails{B b:L=null;int i:L=0;\
         while(i<3){b=new B@s(i,b);atomic L{b=new B@s(7,b);if(i-1){fail;}}else{i=i+0;}i=i+1;\
-        }return b;}method c(B r:L)begin L{r.b=r;r.k=r.k+1;B b:L=r.b;b=new B@s(r.k,b);r.b=b;}",
+        }return b;}method c(B r:L)begin L fails{r.b=r;r.k=r.k+1;B b:L=r.b;b=new B@s(r.k,b);r.b=b;}",
         "root r:B@s(0,null);session w{a(2);b();c(r);c(r);a(0);}",
         "outcome w 1 ended none\noutcome w 2 ended #000200010000000000010000000200020002\n\
         outcome w 3 ended none\noutcome w 4 ended none\noutcome w 5 ended none\n\
@@ -151,12 +152,12 @@ const RUNS: [(&str, &str, &str); 9] = [
         object h r B 0 #000200010003000000010000000200000000\nend\n",
     ),
     (
-        "method a(A x:L,int k:L)returns int:L begin L{x.m=x.m*3+k;return x.m;}",
+        "method a(A x:L,int k:L)returns int:L begin L fails{x.m=x.m*3+k;return x.m;}",
         "root x:A@h(1,0);session v{a(x,1);a(x,2);}session w{a(x,5);}",
         "outcome w 1 ended 8\noutcome v 1 ended 25\noutcome v 2 ended 77\nobject h x A 77 0\nend\n",
     ),
     (
-        "method a(A x:L)begin L{x.m=x.m+1;}",
+        "method a(A x:L)begin L fails{x.m=x.m+1;}",
         "root x:A@s(1,0);session v{}session w{a(x);}post h->s\"\";\
         post u->w\"0f\";crash s after 1;crash w after 1 keep 0;cache 1;\
         schedule{begin v;resume w;deliver h w;deliver u s;idle w h;idle v u;recover s;post h;\
@@ -164,13 +165,13 @@ const RUNS: [(&str, &str, &str); 9] = [
         "outcome w 1 ended none\nobject s x A 2 0\nend\n",
     ),
     (
-        "method r(int n:L)begin L{if(n){r(n-1);}}\
-        method q(int n:L)returns int:L begin L{int t:L=0;if(n){t=p(n-1);}return t+1;}\
-        method p(int n:L)returns int:L begin L{int t:L=0;if(n){t=q(n-1);}return t+1;}\
-        method o(int n:L)begin L{atomic L{r(n);}else{}}\
-        method n()begin L{int i:L=0;while(i<70){r(9);i=i+1;}}method e()begin L{}\
-        method d(A x:L,int n:L)begin L{x.m=n;if(n){d(x,n-1);}else{if(1/n){}}}\
-        method c(A x:L)begin L{atomic L{d(x,62);}else{x.n=1;}}",
+        "method r(int n:L)begin L fails{if(n){r(n-1);}}\
+        method q(int n:L)returns int:L begin L fails{int t:L=0;if(n){t=p(n-1);}return t+1;}\
+        method p(int n:L)returns int:L begin L fails{int t:L=0;if(n){t=q(n-1);}return t+1;}\
+        method o(int n:L)begin L fails{atomic L{r(n);}else{}}\
+        method n()begin L fails{int i:L=0;while(i<70){r(9);i=i+1;}}method e()begin L fails{}\
+        method d(A x:L,int n:L)begin L fails{x.m=n;if(n){d(x,n-1);}else{if(1/n){}}}\
+        method c(A x:L)begin L fails{atomic L{d(x,62);}else{x.n=1;}}",
         "root x:A@s(9,9);session w{r(63);r(64);q(63);q(64);o(62);o(63);n();r(2147483647);c(x);}",
         "outcome w 1 ended none\noutcome w 2 stopped depth\noutcome w 3 ended 64\n\
         outcome w 4 stopped depth\noutcome w 5 ended none\noutcome w 6 stopped depth\n\
@@ -180,12 +181,12 @@ const RUNS: [(&str, &str, &str); 9] = [
     (
         "method a(int n:L,int k:L)begin L fails{int i:L=0;while(i<n){i=i+1;}if(n){f();\
         }else{}atomic L{fail;}else{B x:L=null;}B b:L=null;b=null;i=g(1);i=endorse(1,L to L);\
-        while(0){}if(k){f();}}method b()begin L{atomic L{while(1){}}else{}}\
-        method c(int n:L,int k:L,int j:L)begin L{atomic L{int i:L=0;while(i<n){i=i+1;}fail;\
+        while(0){}if(k){f();}}method b()begin L fails{atomic L{while(1){}}else{}}\
+        method c(int n:L,int k:L,int j:L)begin L fails{atomic L{int i:L=0;while(i<n){i=i+1;}fail;\
         }else{}while(k){k=k-1;}if(j){f();}}\
-        method d(int n:L,int k:L)returns int:L begin L{while(n){n=n-1;}if(k){B b:L=null;\
-        b=new B@s(k,b);b.k=k;}f();return n+k;}method f()begin L{}\
-        method g(int i:L)returns int:L begin L{i=i+1;return i*2;}",
+        method d(int n:L,int k:L)returns int:L begin L fails{while(n){n=n-1;}if(k){B b:L=null;\
+        b=new B@s(k,b);b.k=k;}f();return n+k;}method f()begin L fails{}\
+        method g(int i:L)returns int:L begin L fails{i=i+1;return i*2;}",
         "session w{a(499993,0);a(499993,1);b();c(400000,99997,0);c(400000,99997,1);d(499997,1);\
         d(499998,1);}",
         "outcome w 1 ended none\noutcome w 2 stopped fuel\noutcome w 3 stopped fuel\n\
@@ -203,7 +204,7 @@ const WHOLE: [(&str, &str); 3] = [
         "object C C L 1 2\nend\n",
     ),
     (
-        "principal Bank;worker w1;store s1;w1 actsfor Bank;label T={Bank->w1;Bank<-};\
+        "principal Bank;worker w1;store s1;w1 actsfor Bank;s1 actsfor Bank;label T={Bank->w1;Bank<-};\
         class Account label T access T{int balance;}\
         method transfer(Account a:T,Account b:T,int n:T)begin T fails{a.balance=a.balance-n;\
         b.balance=b.balance+n;}run{root a:Account@s1(100);root b:Account@s1(0);\

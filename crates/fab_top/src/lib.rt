@@ -1,6 +1,8 @@
 //! The top call: what the program does with its words, its input and its output.
 #![tactic(auto)]
 
+#[cfg(test)]
+mod check_tests;
 mod command;
 #[cfg(test)]
 mod eval_tests;

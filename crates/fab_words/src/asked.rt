@@ -16,7 +16,9 @@ use std::alloc::{AllocError, Global};
 fn named(word: &str) -> Option<Command>
     ensures { result ≡ command_of word.now }
 {
-    if word == "eval" {
+    if word == "check" {
+        Some(Command::Check)
+    } else if word == "eval" {
         Some(Command::Evaluate)
     } else if word == "fmt" {
         Some(Command::Format)

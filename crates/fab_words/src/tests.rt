@@ -6,8 +6,10 @@ use std::alloc::Global;
 const NOTHING: &[&str] = &[];
 
 /// Words, and the words of the command that they ask for.
-const TABLE: [(&[&str], &[&str]); 31] = [
+const TABLE: [(&[&str], &[&str]); 33] = [
     (&[], NOTHING),
+    (&["check"], &["check"]),
+    (&["check", "A", "B"], NOTHING),
     (&["eval"], &["eval"]),
     (&["fmt"], &["fmt"]),
     (&["-h"], NOTHING),
@@ -44,6 +46,7 @@ const TABLE: [(&[&str], &[&str]); 31] = [
 fn is_spelled(asked: &Option<Command>, words: &[&str]) -> bool {
     match (asked, words) {
         (None, []) => true,
+        (Some(Command::Check), [word]) => *word == "check",
         (Some(Command::Evaluate), [word]) => *word == "eval",
         (Some(Command::Format), [word]) => *word == "fmt",
         (Some(Command::Flows { from, to }), [word, a, b]) => {

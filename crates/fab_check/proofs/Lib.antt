@@ -1,0 +1,9 @@
+pub mod Blocks
+pub mod Callings
+pub mod Deciding
+pub mod Forms
+pub mod Given
+pub mod Least
+pub mod Parts
+pub mod Sitings
+pub mod Walks

@@ -1,0 +1,8 @@
+use Rattle.std.proofs.Common.{◌≡◌, ◌++◌, ◌+◌, ◌≤◌, ◌==◌, ℕ, ◌||◌, ◌∷◌, [], List, Bool, length, drop, take, map}
+use Rattle.fab_labelling.specs.Obligations.{for_each}
+use Rattle.fab_check.specs.Noted.{all_noted}
+use Rattle.fab_check.specs.Shown.{all_given}
+use Rattle.fab_check.proofs.calls.note_each_given.Given as goal
+
+abbrev pub invariant-loop-value : goal.invariant-loop-value
+invariant-loop-value l = all_noted l.verdicts (all_given l.names l.under (drop l.value-index l.values) (for_each l.to (drop l.value-index l.values))) ≡ all_noted l.initial.verdicts (all_given l.names l.under l.values (for_each l.to l.values))

@@ -1,0 +1,11 @@
+use Rattle.std.proofs.Common.{◌≡◌, length, None}
+use Rattle.fab_labelling.specs.Obligations.{all_conf}
+use Rattle.fab_labelling.specs.declared.rule.LabelRule.TheVariants.{Access}
+use Rattle.fab_check.specs.Noted.{all_noted}
+use Rattle.fab_check.proofs.notes.note_confs.Given as goal
+
+abbrev pub invariant-labels : goal.invariant-labels
+invariant-labels l = all_noted l.verdicts (all_conf Access l.at l.rest l.to) ≡ all_noted l.initial.verdicts (all_conf Access l.at l.from l.to)
+
+abbrev pub decreases-labels : goal.decreases-labels
+decreases-labels l = length l.rest

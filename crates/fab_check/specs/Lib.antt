@@ -1,0 +1,6 @@
+pub mod Decided
+pub mod Noted
+pub mod Authority
+pub mod Called
+pub mod Shown
+pub mod Sited
