@@ -282,6 +282,13 @@ Decides-claim r (holds store class) =
     Decides-and (is_store_role (role_of r store)) (holds_class r (principal_of r store) (slice_get r.classes class)) (is_store_is (role_of r store)) (holds_class_is r store (slice_get r.classes class))
 Decides-claim r (answers_for worker m p) = Decides-answers r worker m p
 
+-- a label flows to itself
+pub flows_to_itself : (r : Resolved) (a b : ℕ) → a ≡ b → true ≡ decided r (flows a b)
+flows_to_itself r a b same = sym ((Decides-claim r (flows a b)).1 (subst (λ (w : ℕ). Flows (delegations_of r) (label_at r a) (label_at r w)) same (record { conf = λ p g h. h; integ = λ p g h. h })))
+
+pub conf_to_itself : (r : Resolved) (a b : ℕ) → a ≡ b → true ≡ decided r (conf a b)
+conf_to_itself r a b same = sym ((Decides-claim r (conf a b)).1 (subst (λ (w : ℕ). FlowsConf (delegations_of r) (label_at r a) (label_at r w)) same (λ p g h. h)))
+
 -- ---- what a call answered
 
 module _ (r : Resolved) (x : Bool) (d : Delegations) (is_d : d ≡ delegations_of r) where

@@ -6,6 +6,7 @@ use Rattle.fab_labelling.specs.Obligations.{Owed}
 use Rattle.fab_labelling.specs.Refusals.{told}
 use Rattle.fab_check.specs.Decided.{decided}
 use Rattle.fab_check.specs.Noted.{Noting, noted, sooner, all_noted}
+use Rattle.fab_check.proofs.Walks.{both, end, front, step, three}
 
 noted_in_parts : (r : Resolved) (first : Option Refusal) (xs ys : List Owed) → noted r first (xs ++ ys) ≡ noted r (noted r first xs) ys
 noted_in_parts r first [] ys = refl
@@ -30,8 +31,7 @@ module _ {A : Type 0} (F : List A → List Owed) (f : A → List Owed) (by_cons 
   behind_one n m whole x xs is so_far = ap (λ (k : Noting). all_noted k (F xs)) is ∙ sym (in_parts n (f x) (F xs)) ∙ ap (all_noted n) (sym (by_cons x xs)) ∙ so_far
 
   pub one_more : (n m whole : Noting) (xs : List A) (i : ℕ) (x : A) → i < length xs → x ≡ get_or xs i x → m ≡ all_noted n (f x) → all_noted n (F (drop i xs)) ≡ whole → all_noted m (F (drop (i + 1) xs)) ≡ whole
-  one_more n m whole xs i x within is next so_far =
-      rw add-one (behind_one n m whole x (drop (suc i) xs) next (ap (λ (ys : List A). all_noted n (F ys)) (ap (λ (y : A). y ∷ drop (suc i) xs) is ∙ sym (drop-cons xs i x within)) ∙ so_far))
+  one_more n m whole xs i x within is next so_far = step all_noted in_parts F f by_cons n m whole xs i x within is next so_far
 
 -- nothing is left of a list
 pub at_none : {A : Type 0} (F : List A → List Owed) (n whole : Noting) (xs : List A) → F [] ≡ [] → length xs ≡ 0 → all_noted n (F xs) ≡ whole → n ≡ whole
@@ -39,22 +39,18 @@ at_none F n whole [] nil empty so_far = sym (in_none n) ∙ ap (all_noted n) (sy
 at_none F n whole (x ∷ xs) nil empty so_far = absurd (omega (arith, empty))
 
 pub at_end : {A : Type 0} (F : List A → List Owed) (n whole : Noting) (xs : List A) (i : ℕ) → F [] ≡ [] → length xs ≤ i → all_noted n (F (drop i xs)) ≡ whole → n ≡ whole
-at_end F n whole xs i nil past so_far = at_none F n whole (drop i xs) nil (simp length-drop (omega arith)) so_far
+at_end F n whole xs i nil past so_far = end all_noted in_parts F nil in_none n whole xs i past so_far
 
 -- one part after another
 pub in_two : (n m k : Noting) (xs ys zs : List Owed) → zs ≡ xs ++ ys → m ≡ all_noted n xs → k ≡ all_noted m ys → k ≡ all_noted n zs
-in_two n m k xs ys zs is first second = second ∙ ap (λ (o : Noting). all_noted o ys) first ∙ sym (in_parts n xs ys) ∙ ap (all_noted n) (sym is)
+in_two n m k xs ys zs is first second = both all_noted in_parts n m k xs ys zs is first second
 
 pub in_three : (n a b k : Noting) (xs ys zs whole : List Owed) → whole ≡ xs ++ ys ++ zs → a ≡ all_noted n xs → b ≡ all_noted a ys → k ≡ all_noted b zs → k ≡ all_noted n whole
-in_three n a b k xs ys zs whole is first second third = in_two n b k (xs ++ ys) zs whole is (in_two n a b xs ys (xs ++ ys) refl first second) third
+in_three n a b k xs ys zs whole is first second third = three all_noted in_parts n a b k xs ys zs whole is first second third
 
 -- the same of what is put behind a list
 pub put_two : (out m k xs ys zs : List ℕ) → zs ≡ xs ++ ys → m ≡ out ++ xs → k ≡ m ++ ys → k ≡ out ++ zs
 put_two out m k xs ys zs is first second = second ∙ ap (λ (o : List ℕ). o ++ ys) first ∙ append_assoc out xs ys ∙ ap (λ (o : List ℕ). out ++ o) (sym is)
-
--- the first of what is left of a list, and the rest
-pub front : {A : Type 0} (xs : List A) (i : ℕ) (x : A) → i < length xs → x ≡ get_or xs i x → drop i xs ≡ x ∷ drop (i + 1) xs
-front {A} xs i x within is = drop-cons xs i x within ∙ ap (λ (y : A). y ∷ drop (suc i) xs) (sym is) ∙ rw add-one refl
 
 -- one element more of a front of a list
 pub one_taken : {A : Type 0} (f : A → ℕ) (out more whole : List ℕ) (xs : List A) (i left k : ℕ) (x : A) → i < length xs → x ≡ get_or xs i x → left ≡ suc k → more ≡ out ++ f x ∷ []

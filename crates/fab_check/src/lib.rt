@@ -1,6 +1,7 @@
 //! The label checker: whether a bundle keeps the rules of labels, or its first refusal.
 #![tactic(auto)]
 
+mod answers;
 mod assignments;
 mod authority;
 mod calls;

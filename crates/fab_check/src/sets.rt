@@ -15,7 +15,7 @@ pub(crate) fn contains(set: u64, k: u16) -> bool
 }
 
 /// The set of a principal alone.
-fn only(k: u16) -> u64
+pub(crate) fn only(k: u16) -> u64
     requires { k < 64 }
     ensures { (i : ℕ) → in_set result i ≡ (i == k) }
 {

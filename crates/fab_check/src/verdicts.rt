@@ -8,6 +8,7 @@ ghost use Rattle.fab_labelling.specs.declared.rule.LabelRule.TheVariants.{Access
 ghost use Rattle.fab_check.specs.Decided.{decided};
 ghost use Rattle.fab_check.specs.Noted.{all_noted, is_sooner, sooner, with_refusal};
 
+use crate::answers::Answers;
 use crate::placement::principal_of;
 use fab_base::{Label, Seq};
 use fab_labelling::{LabelRule, Refusal, Side};
@@ -64,6 +65,8 @@ pub(crate) struct Verdicts<'a> {
     start: &'a Resolved,
     acts: &'a Acts,
     blank: Label,
+    flowing: Answers,
+    hiding: Answers,
     first: Option<Refusal>,
 }
 
@@ -73,6 +76,9 @@ impl<'a> Model for Verdicts<'a> {
     ghost use Rattle.std.specs.Coded.{codes};
     ghost use Rattle.fab_tree.specs.contracts.resolved.Statement as statements;
     ghost use Rattle.fab_tree.specs.contracts.resolved.Expression as expressions;
+    ghost use Rattle.fab_labelling.specs.Obligations.{flows, conf};
+    ghost use Rattle.fab_check.specs.Answers.{AreRight};
+    ghost use Rattle.fab_check.specs.Decided.{decided};
     ghost use Rattle.fab_check.specs.Noted.{Noting};
 
     ghost Value = { Noting };
@@ -81,7 +87,7 @@ impl<'a> Model for Verdicts<'a> {
 
     ghost view = { λ v. record { start = v.start.now; first = v.first } };
 
-    ghost invariant = { λ v. (v.acts.now ≡ delegations_of v.start.now) × (v.blank ≡ record { conf = []; integ = [] }) × (length v.start.now.nodes ≤ 64) };
+    ghost invariant = { λ v. (v.acts.now ≡ delegations_of v.start.now) × (v.blank ≡ record { conf = []; integ = [] }) × (length v.start.now.nodes ≤ 64) × AreRight (λ a b. decided v.start.now (flows a b)) v.flowing × AreRight (λ a b. decided v.start.now (conf a b)) v.hiding };
 }
 
 impl<'a> Verdicts<'a> {
@@ -100,6 +106,8 @@ impl<'a> Verdicts<'a> {
             start,
             acts,
             blank,
+            flowing: Answers::new(),
+            hiding: Answers::new(),
             first: None,
         }
     }
@@ -147,20 +155,54 @@ impl<'a> Verdicts<'a> {
         }
     }
 
-    /// Whether the one label flows to the other.
+    /// Whether the one label flows to the other, by what they say.
+    fn ask_flows(&self, from: u16, to: u16) -> bool
+        ensures { result ≡ decided self.now.start (flows from to) }
+    {
+        if from == to {
+            return true;
+        }
+        fab_labels::flows(self.acts(), self.label(from), self.label(to))
+    }
+
+    /// Whether the confidentiality of the one label flows to that of the other, by what they say.
+    fn ask_flows_conf(&self, from: u16, to: u16) -> bool
+        ensures { result ≡ decided self.now.start (conf from to) }
+    {
+        if from == to {
+            return true;
+        }
+        fab_labels::flows_conf(self.acts(), self.label(from), self.label(to))
+    }
+
+    /// Whether the one label flows to the other. It is asked once.
     pub(crate) fn flows(&mut self, from: u16, to: u16) -> bool
         ensures decided { result ≡ decided self.old.start (flows from to) }
         ensures same { self.new ≡ self.old }
     {
-        fab_labels::flows(self.acts(), self.label(from), self.label(to))
+        match self.flowing.known(from, to) {
+            Some(answer) => answer,
+            None => {
+                let answer = self.ask_flows(from, to);
+                self.flowing.remember(from, to, answer);
+                answer
+            }
+        }
     }
 
-    /// Whether the confidentiality of the one label flows to that of the other.
+    /// Whether the confidentiality of the one label flows to that of the other. It is asked once.
     pub(crate) fn flows_conf(&mut self, from: u16, to: u16) -> bool
         ensures decided { result ≡ decided self.old.start (conf from to) }
         ensures same { self.new ≡ self.old }
     {
-        fab_labels::flows_conf(self.acts(), self.label(from), self.label(to))
+        match self.hiding.known(from, to) {
+            Some(answer) => answer,
+            None => {
+                let answer = self.ask_flows_conf(from, to);
+                self.hiding.remember(from, to, answer);
+                answer
+            }
+        }
     }
 
     /// One more refusal.
