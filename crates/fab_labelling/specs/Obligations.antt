@@ -42,7 +42,7 @@ pub data Claim : Type 0 where
   endorses : ℕ → ℕ → List ℕ → Claim
   -- the store may hold the class
   holds : ℕ → ℕ → Claim
-  -- the worker acts for the principal, if a method that the method reaches has its authority
+  -- the worker acts for the principal, if a method that this one reaches has the authority of the principal
   answers_for : ℕ → ℕ → ℕ → Claim
 
 pub record Owed : Type 0 where

@@ -16,7 +16,7 @@ use Rattle.fab_tree.specs.declared.resolved.Method.{Method}
 use Rattle.fab_tree.specs.declared.resolved.Resolved.{Resolved}
 use Rattle.fab_labelling.specs.Obligations.{part, under}
 
--- the sites in an expression, in the order of the text
+-- these sites and those, in their order
 abbrev pub all_sites : List (List ℕ) → List ℕ
 all_sites = flat_map (λ ns. ns)
 
@@ -30,6 +30,7 @@ form_sites (f.Not ns) = ns
 form_sites (f.Chain ns others) = ns ++ all_sites others
 form_sites (f.Compared ns comparison ms) = ns ++ ms
 
+-- the sites in an expression, in the order of the text
 abbrev pub sites_in : Expression → List ℕ
 sites_in = fold-Expression (List ℕ) (List ℕ) (List ℕ) form_sites (λ e. e.form) (λ u. u.operand)
 

@@ -34,6 +34,8 @@ const BODIES: &str = "write S P ^n=s;\n\
     write S P if(s){^c=new C@s(1,null);}\n\
     write S P n=^declassify(s,P to P);\n\
     write S P ^n=declassify(s,S to S);\n\
+    write S P n=^endorse(s,P to P);\n\
+    write S P n=^declassify(h.f,P to P);\n\
     write P T ^int x:T=1;\n\
     write S P ^c.f=h.f;\n\
     write S P if(s){if(n){^n=1;}}\n\
@@ -147,9 +149,31 @@ fn labels(rt: HostRuntime) -> Result<(), Fail> {
         let text = format!(in alloc; "{DECLARED}{row}")?;
         replies(&rt, alloc, "check", text.as_str(), 0, "ok\n", row)?;
     }
-    // Neither `flows` nor `fmt` asks for labels, and names come first.
+    // Names come first, and neither `flows` nor `fmt` asks for labels.
     let text =
         "principal A;label S={A->};label P={};method m(int s:S,int n:P)begin P{n=s;n=q;}run{}";
     replies(&rt, alloc, "check", text, 6, "name unknown at 76\n", text)?;
+    let text = format!(in alloc; "{DECLARED}method q(int n:P,int s:S)begin P{{n=s;}}run{{}}")?;
+    replies(
+        &rt,
+        alloc,
+        "flows S P",
+        text.as_str(),
+        0,
+        "no\nA ->\n",
+        "flows",
+    )?;
+    let text =
+        "principal A;\nlabel S = {A ->};\nlabel P = {};\nmethod m(int n : P, int s : S) begin P {\n  n = s;\n}\nrun {\n}\n";
+    replies(&rt, alloc, "fmt", text, 0, text, text)?;
+    replies(
+        &rt,
+        alloc,
+        "check",
+        text,
+        7,
+        "label write at 88 from S to P\n",
+        text,
+    )?;
     Ok(())
 }

@@ -15,10 +15,10 @@ use std::alloc::{AllocError, Global};
 
 /// Does what the words ask for, and says how it ended.
 ///
-/// `eval` asks for the evaluation of the bundle that the source has, `flows A B` whether its label A
-/// flows to its label B, with the reasons, `fmt` for its canonical text. A text has at most
-/// 4,194,304 bytes. Of what the source has left and the sink holds, the clauses speak where these
-/// tell it.
+/// `check` asks whether the bundle that the source has keeps the rules of labels, `eval` for its
+/// evaluation, `flows A B` whether its label A flows to its label B, with the reasons, `fmt` for its
+/// canonical text. A text has at most 4,194,304 bytes. Of what the source has left and the sink
+/// holds, the clauses speak where these tell it.
 pub fn fab<S: Source, K: Sink>(
     alloc: Global,
     words: &[String],
