@@ -6,7 +6,7 @@ use Rattle.fab_tree.specs.declared.resolved.Statement.{Statement, fold-roll-Stat
 use Rattle.fab_tree.specs.declared.resolved.Statement.TheVariants as kinds
 use Rattle.fab_tree.specs.declared.resolved.Statement.TheOpen as s
 use Rattle.fab_labelling.specs.declared.rule.LabelRule.TheVariants.{Atomic}
-use Rattle.fab_labelling.specs.Obligations.{Owed, Owes, all_flow, statement_step, under}
+use Rattle.fab_labelling.specs.Obligations.{Owed, all_flow, statement_step, under}
 use Rattle.fab_check.specs.Shown.{block_owes, labels_of, numbers_of, owes_of, statement_owes}
 use Rattle.fab_check.specs.declared.notes.Under.{Under}
 use Rattle.fab_check.specs.declared.scope.Scope.{Scope}

@@ -1,9 +1,10 @@
 -- Calls, gathered part by part, and sets that gain by them.
-use Rattle.std.proofs.Common.{◌≡◌, ◌≢◌, ◌⊎◌, inl, inr, refl, sym, ap, ◌∙◌, subst, ℕ, zero, suc, ◌+◌, ◌*◌, ◌-◌, ◌^◌, ◌<◌, ◌≤◌, ◌==◌, Bool, true, false, ◌||◌, List, [], ◌∷◌, ◌++◌, map, length, drop, take, get_or, set, sum, slice_get, append_assoc, add-one, arith, All, Contains, MatchBool}
+use Rattle.std.proofs.Common.{◌≡◌, ◌≢◌, ◌⊎◌, inl, inr, refl, sym, ap, ◌∙◌, subst, ℕ, zero, suc, ◌+◌, ◌*◌, ◌^◌, ◌<◌, ◌≤◌, ◌==◌, Bool, true, false, ◌||◌, ◌&&◌, List, [], ◌∷◌, ◌++◌, map, length, drop, take, get_or, set, sum, slice_get, append_assoc, add-one, arith, All, Contains, MatchBool}
 use Rattle.std.specs.Bool.{Decides}
+use Rattle.std.specs.Cmp.{IsEquivalence}
 use Rattle.std.specs.List.{flat_map, AllWithin}
-use Rattle.std.proofs.lemmas.Bool.{cases_Bool, both_ways, or_cases, or_left, or_right}
-use Rattle.std.proofs.lemmas.Bool.Decides.{Decides-eqb, same_from_decides}
+use Rattle.std.proofs.lemmas.Bool.{cases_Bool, both_ways, or_cases, or_left}
+use Rattle.std.proofs.lemmas.Bool.Decides.{Decides-and, Decides-eqb, Decides-like, same_from_decides}
 use Rattle.std.proofs.lemmas.List.{append-nil, map-append, length-set, get_or-set_same, get_or-set_other, get_or_default, take_all, take-append-le}
 use Rattle.std.proofs.lemmas.List.Elements.{All-contains, AllWithin-more, Contains-append_cases, Contains-get_or, at_read}
 use Rattle.std.proofs.lemmas.List.Sums.{sum_by-cons}
@@ -16,12 +17,11 @@ use Rattle.fab_tree.specs.declared.resolved.Statement.TheOpen as s
 use Rattle.fab_tree.specs.declared.resolved.Method.{Method}
 use Rattle.fab_tree.specs.declared.resolved.Resolved.{Resolved}
 use Rattle.fab_labelling.specs.Obligations.{authority_of}
-use Rattle.fab_labelling.specs.Claims.{called_in, called_step, calls_from, calls_of, HasAuthorityOf, ReachesMethod}
+use Rattle.fab_labelling.specs.Claims.{called_in, called_step, calls_from, calls_of, HasAuthorityOf}
 use Rattle.fab_principals.specs.Sets.{in_set}
-use Rattle.fab_principals.specs.Tables.{Reaches}
 use Rattle.fab_principals.proofs.ChainLemmas.{Leads-more, Reaches-append}
 use Rattle.fab_principals.proofs.SetLemmas.{in_set-zero}
-use Rattle.fab_check.specs.Authority.{AreOwn, AreUsed, IsMask, UsesAuthority}
+use Rattle.fab_check.specs.Authority.{AreOwn, AreUsed, IsMask}
 use Rattle.fab_check.specs.Called.{AreGrown, Calls, IsSettled, block_calls, with_calls}
 use Rattle.fab_check.specs.Decided.{has_authority, uses_authority}
 use Rattle.fab_check.proofs.Deciding.{Decides-uses, has_authority_is}
@@ -210,3 +210,35 @@ pub all_written : (new items : List ℕ) (len : ℕ) → length new ≡ length i
 all_written new items len same is =
     let n : len ≤ length new = omega arith in
     take-append-le len new (drop (length new) items) n ∙ take_all len new (omega arith)
+
+-- ---- each call once
+
+abbrev pub same_call : ℕ × ℕ → ℕ × ℕ → Bool
+same_call x y = (x.0 == y.0) && (x.1 == y.1)
+
+pair_is : (x y : ℕ × ℕ) → x.0 ≡ y.0 → x.1 ≡ y.1 → x ≡ y
+pair_is x y e f = ap (λ (a : ℕ). (a, x.1)) e ∙ ap (λ (b : ℕ). (y.0, b)) f
+
+pub Decides-same_call : (x y : ℕ × ℕ) → Decides (same_call x y) (x ≡ y)
+Decides-same_call x y =
+    Decides-like (same_call x y) (λ both. pair_is x y both.0 both.1) (λ e. (ap (λ (w : ℕ × ℕ). w.0) e, ap (λ (w : ℕ × ℕ). w.1) e))
+    (Decides-and (x.0 == y.0) (x.1 == y.1) (Decides-eqb x.0 y.0) (Decides-eqb x.1 y.1))
+
+pub same_call_is_equivalence : IsEquivalence same_call
+same_call_is_equivalence = record {
+  refl = λ x. (Decides-same_call x x).1 refl;
+  symm = λ x y. same_from_decides (same_call x y) (same_call y x) (Decides-same_call x y) (Decides-like (same_call y x) sym sym (Decides-same_call y x));
+  congr = λ x y z e. ap (λ (w : ℕ × ℕ). same_call w z) ((Decides-same_call x y).0 e);
+}
+
+-- over more calls
+pub grown_over : (calls more : Calls) (a b : List ℕ) → ((d : ℕ × ℕ) → Contains calls d → Contains more d) → AreGrown calls a b → AreGrown more a b
+grown_over calls more a b inside grown = record {
+  size = grown.size;
+  kept = grown.kept;
+  from = λ m p h. let far = grown.from m p h in (far.0, (far.1.0, Leads-more calls more (λ u v c. inside (u, v) c) m far.1.0 far.0 far.1.1), far.2);
+}
+
+-- over fewer
+pub settled_over : (calls fewer : Calls) (sets : List ℕ) → ((d : ℕ × ℕ) → Contains fewer d → Contains calls d) → All (IsSettled sets) calls → All (IsSettled sets) fewer
+settled_over calls fewer sets inside settled = λ k d within. All-contains (IsSettled sets) calls (get_or fewer k d) settled (inside (get_or fewer k d) (Contains-get_or fewer k d within))

@@ -1,5 +1,5 @@
 -- What is computed of a claim is whether it holds.
-use Rattle.std.proofs.Common.{◌≡◌, ◌≢◌, ℕ, zero, suc, ◌+◌, ◌*◌, ◌^◌, ◌<◌, ◌≤◌, ◌↔◌, ◌⊎◌, Bool, true, false, not, ◌||◌, ◌&&◌, ◌==◌, List, [], ◌∷◌, length, get_or, slice_get, Option, Some, None, IsSomeAnd, IsTrue, IsBitSet, inl, inr, refl, sym, ap, ◌∙◌, subst, arith, All, Any, Contains, max, bit_and, bit_or}
+use Rattle.std.proofs.Common.{◌≡◌, ◌≢◌, ℕ, zero, suc, ◌+◌, ◌*◌, ◌^◌, ◌<◌, ◌↔◌, ◌⊎◌, Bool, true, not, ◌||◌, ◌&&◌, ◌==◌, List, [], ◌∷◌, length, get_or, slice_get, Option, Some, None, IsSomeAnd, IsTrue, IsBitSet, inl, inr, refl, sym, ap, ◌∙◌, subst, arith, All, Any, Contains, max, bit_or}
 use Rattle.std.specs.Bool.{Decides}
 use Rattle.std.specs.Int.{bit_at}
 use Rattle.std.specs.List.{list_any, list_all, range_with_len}
@@ -10,7 +10,7 @@ use Rattle.std.proofs.lemmas.Nat.Bits.{and_pow, bit_at_or, bit_at-pow_same, bit_
 use Rattle.std.proofs.lemmas.Option.{slice_get_within}
 use Rattle.fab_base.specs.declared.label.Policy.{Policy}
 use Rattle.fab_base.specs.declared.label.Label.{Label}
-use Rattle.fab_base.specs.Principals.{Delegations, ActsFor, Leads}
+use Rattle.fab_base.specs.Principals.{Delegations, ActsFor}
 use Rattle.fab_base.specs.Labels.{ActsForOne, Covers, Flows, FlowsConf, FlowsInteg, DeclassifyOk, EndorseOk}
 use Rattle.fab_tree.specs.declared.declaration.Role.{Role}
 use Rattle.fab_tree.specs.declared.resolved.Class.{Class}
@@ -23,8 +23,8 @@ use Rattle.fab_labels.proofs.FlowLemmas.{deny_covered, deny_covered_with, covere
 use Rattle.fab_principals.specs.Sets.{in_set}
 use Rattle.fab_principals.specs.Tables.{Reaches}
 use Rattle.fab_principals.proofs.ChainLemmas.{Reaches-cons, ActsFor-reaches}
-use Rattle.fab_labelling.specs.Readers.{IsReader, IsWriter, label_at, principal_of}
-use Rattle.fab_labelling.specs.Placement.{MayHold, HoldsClass, MayHoldNumber, role_of}
+use Rattle.fab_labelling.specs.Readers.{label_at, principal_of}
+use Rattle.fab_labelling.specs.Placement.{MayHold, HoldsClass, role_of}
 use Rattle.fab_labelling.specs.Obligations.{Claim, flows, conf, nowhere, declassifies, endorses, holds, answers_for, authority_of}
 use Rattle.fab_labelling.specs.Claims.{Holds, IsSetOf, HasAuthorityOf, ReachesMethod, calls_of}
 use Rattle.fab_check.specs.Decided.{Pairs, reaches, acts_within, covers, covered, covered_with, acts_in_all, may_hold, holds_class, is_store_role, has_authority, uses_authority, decided}

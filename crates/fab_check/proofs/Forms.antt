@@ -11,7 +11,7 @@ use Rattle.fab_tree.specs.declared.resolved.Use.{Use}
 use Rattle.fab_tree.specs.declared.resolved.Class.{Class}
 use Rattle.fab_tree.specs.declared.resolved.Local.{Local}
 use Rattle.fab_labelling.specs.Obligations.{Owed, Part, Tail, part, form_step, tail_owes, division}
-use Rattle.fab_check.specs.Shown.{labels_of, owes_of, part_of}
+use Rattle.fab_check.specs.Shown.{labels_of, owes_of}
 use Rattle.fab_check.specs.declared.labels.Names.{Names}
 use Rattle.fab_check.specs.declared.notes.Under.{Under}
 

@@ -1,5 +1,5 @@
 -- Values that are given in turn to what has labels.
-use Rattle.std.proofs.Common.{◌≡◌, ℕ, ◌+◌, ◌<◌, List, [], ◌∷◌, ◌++◌, length, get_or, drop, refl, sym, ap, ◌∙◌, arith}
+use Rattle.std.proofs.Common.{◌≡◌, ℕ, ◌+◌, ◌<◌, List, [], ◌∷◌, length, get_or, drop, refl, sym, ap, ◌∙◌, arith}
 use Rattle.fab_tree.specs.declared.resolved.Expression.{Expression}
 use Rattle.fab_check.specs.Noted.{Noting, all_noted}
 use Rattle.fab_check.specs.Shown.{all_given, given, owes_of}

@@ -1,11 +1,9 @@
 -- What is noted in parts.
-use Rattle.std.proofs.Common.{◌≡◌, ℕ, suc, ◌+◌, ◌<◌, ◌≤◌, refl, sym, ap, ◌∙◌, List, [], ◌∷◌, ◌++◌, Option, drop, length, get_or, drop-cons, length-drop, add-one, append_assoc, arith, map, take}
+use Rattle.std.proofs.Common.{◌≡◌, ℕ, suc, ◌+◌, ◌<◌, ◌≤◌, refl, sym, ap, ◌∙◌, List, [], ◌∷◌, ◌++◌, Option, drop, length, get_or, append_assoc, arith, map, take}
 use Rattle.fab_tree.specs.declared.resolved.Resolved.{Resolved}
 use Rattle.fab_labelling.specs.declared.rule.Refusal.{Refusal}
 use Rattle.fab_labelling.specs.Obligations.{Owed}
-use Rattle.fab_labelling.specs.Refusals.{told}
-use Rattle.fab_check.specs.Decided.{decided}
-use Rattle.fab_check.specs.Noted.{Noting, noted, sooner, all_noted}
+use Rattle.fab_check.specs.Noted.{Noting, noted, all_noted}
 use Rattle.fab_check.proofs.Walks.{both, end, front, step, three}
 
 noted_in_parts : (r : Resolved) (first : Option Refusal) (xs ys : List Owed) → noted r first (xs ++ ys) ≡ noted r (noted r first xs) ys

@@ -1,5 +1,5 @@
 -- Which methods call which, and the sets of those whose authority they use.
-use Rattle.std.specs.Prelude.{◌≡◌, ℕ, ◌<◌, true, List, ◌++◌, map, length, slice_index, sum, All}
+use Rattle.std.specs.Prelude.{◌≡◌, ℕ, ◌<◌, true, List, ◌++◌, map, length, slice_index}
 use Rattle.fab_base.specs.Principals.{Leads}
 use Rattle.fab_tree.specs.declared.resolved.Statement.{Statement}
 use Rattle.fab_labelling.specs.Claims.{all_called, called_in}

@@ -1,5 +1,5 @@
 //! Whose authority methods use, those that they call included.
-ghost use Rattle.std.specs.Prelude.{◌≡◌, ◌<◌, ◌∷◌, [], All, IfOk, OnOk, MatchBool, slice_index, sum};
+ghost use Rattle.std.specs.Prelude.{◌≡◌, ◌<◌, ◌↔◌, ℕ, Contains, ◌∷◌, [], All, IfOk, OnOk, MatchBool, slice_index, sum};
 ghost use Rattle.fab_labelling.specs.Claims.{called_by_right, called_in, calls_from};
 ghost use Rattle.fab_check.specs.Authority.{AreOwn, AreUsed, IsFew};
 ghost use Rattle.fab_check.specs.Called.{AreGrown, IsSettled, block_calls, with_calls};
@@ -78,6 +78,14 @@ fn put_call(out: &mut Vec<(usize, u16)>, caller: usize, called: u16) -> Result<(
     Ok(())
 }
 
+/// Each call once.
+fn leave_one_of_each(calls: &mut Vec<(usize, u16)>)
+    ensures { (d : ℕ × ℕ) → Contains calls.new.items d ↔ Contains calls.old.items d }
+{
+    calls.sort_unstable();
+    calls.dedup();
+}
+
 /// All calls of a program.
 fn calls_of(alloc: Global, methods: &[Method]) -> Result<Vec<(usize, u16)>, NoMemory>
     ensures { IfOk result (λ calls. calls.items ≡ calls_from 0 methods.now) }
@@ -154,7 +162,8 @@ pub(crate) fn used_sets(alloc: Global, start: &Resolved) -> Result<Vec<u64>, NoM
     ensures { IfOk result (λ sets. AreUsed start.now sets.items) }
 {
     let methods = start.methods.as_slice();
-    let calls = calls_of(alloc, methods)?;
+    let mut calls = calls_of(alloc, methods)?;
+    leave_one_of_each(&mut calls);
     let mut sets = own_sets(alloc, methods)?;
     settle(&mut sets, calls.as_slice());
     Ok(sets)

@@ -1,7 +1,6 @@
-use Rattle.std.proofs.Common.{◌≡◌, ◌+◌, ℕ, List, [], ◌∷◌, ◌++◌, sym, ap, ◌∙◌, subst, take}
+use Rattle.std.proofs.Common.{◌≡◌, ◌+◌, List, [], ◌∷◌, ◌++◌, sym, ap, ◌∙◌, subst, take}
 use Rattle.std.proofs.lemmas.List.{take_more}
 use Rattle.fab_tree.specs.declared.resolved.Method.{Method}
-use Rattle.fab_labelling.specs.Obligations.{authority_of}
 use Rattle.fab_tree.specs.declared.resolved.Use.{Use}
 use Rattle.fab_check.specs.Authority.{AreOwn, IsMask}
 use Rattle.fab_check.specs.Shown.{numbers_of}

@@ -1,6 +1,6 @@
-use Rattle.std.proofs.Common.{List, ℕ, ◌≡◌, ◌+◌, refl, sym, ap, ◌∙◌, arith, drop}
+use Rattle.std.proofs.Common.{List, ◌+◌, refl, arith, drop}
 use Rattle.fab_tree.specs.declared.resolved.Expression.{Expression}
-use Rattle.fab_check.specs.Noted.{Noting, all_noted}
+use Rattle.fab_check.specs.Noted.{all_noted}
 use Rattle.fab_check.specs.Shown.{all_given}
 use Rattle.fab_check.proofs.Given.{to_next, to_nothing}
 use Rattle.fab_check.proofs.Parts.{at_end}

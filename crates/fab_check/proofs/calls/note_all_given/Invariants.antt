@@ -1,4 +1,4 @@
-use Rattle.std.proofs.Common.{◌≡◌, ◌++◌, ◌+◌, ◌≤◌, ◌==◌, ℕ, ◌||◌, ◌∷◌, [], List, Bool, length, drop, take, map}
+use Rattle.std.proofs.Common.{◌≡◌, drop}
 use Rattle.fab_check.specs.Noted.{all_noted}
 use Rattle.fab_check.specs.Shown.{all_given}
 use Rattle.fab_check.proofs.calls.note_all_given.Given as goal

@@ -1,7 +1,7 @@
-use Rattle.std.proofs.Common.{◌≡◌, ◌++◌, List, ℕ, sym, ap, ◌∙◌, refl, arith}
+use Rattle.std.proofs.Common.{◌++◌, List, sym, ap, ◌∙◌, refl, arith}
 use Rattle.std.specs.List.{flat_map}
 use Rattle.std.proofs.lemmas.Result.{on_ok_weaker}
-use Rattle.fab_tree.specs.declared.resolved.Expression.{Expression, out-Expression}
+use Rattle.fab_tree.specs.declared.resolved.Expression.{Expression}
 use Rattle.fab_tree.specs.declared.resolved.Operand.{Operand, out-Operand}
 use Rattle.fab_labelling.specs.Obligations.{division}
 use Rattle.fab_check.specs.Noted.{all_noted}

@@ -1,4 +1,4 @@
-use Rattle.std.proofs.Common.{◌≡◌, ◌++◌, drop}
+use Rattle.std.proofs.Common.{◌≡◌, drop}
 use Rattle.std.specs.List.{flat_map}
 use Rattle.fab_check.specs.Noted.{all_noted}
 use Rattle.fab_check.proofs.Forms.{tail_owed}

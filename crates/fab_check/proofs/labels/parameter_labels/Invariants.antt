@@ -1,4 +1,4 @@
-use Rattle.std.proofs.Common.{◌≡◌, ◌++◌, ◌+◌, drop, map, take}
+use Rattle.std.proofs.Common.{◌≡◌, ◌++◌, drop, map, take}
 use Rattle.fab_check.proofs.labels.parameter_labels.Given as goal
 
 abbrev pub invariant-loop-local : goal.invariant-loop-local

@@ -1,4 +1,4 @@
-use Rattle.std.proofs.Common.{arith, refl, sym, ap, ◌∙◌, List}
+use Rattle.std.proofs.Common.{arith, refl, ap, ◌∙◌, List}
 use Rattle.std.specs.List.{flat_map}
 use Rattle.fab_tree.specs.declared.resolved.Method.{Method}
 use Rattle.fab_labelling.specs.Obligations.{method_owes}

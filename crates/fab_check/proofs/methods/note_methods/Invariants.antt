@@ -1,4 +1,4 @@
-use Rattle.std.proofs.Common.{◌≡◌, ◌++◌, ◌+◌, ◌≤◌, ◌==◌, ℕ, ◌||◌, ◌∷◌, [], List, Bool, length, drop, take, map}
+use Rattle.std.proofs.Common.{◌≡◌, drop}
 use Rattle.std.specs.List.{flat_map}
 use Rattle.fab_labelling.specs.Obligations.{method_owes}
 use Rattle.fab_check.specs.Noted.{all_noted}

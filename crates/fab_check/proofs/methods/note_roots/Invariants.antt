@@ -1,4 +1,4 @@
-use Rattle.std.proofs.Common.{◌≡◌, ◌++◌, ◌+◌, ◌≤◌, ◌==◌, ℕ, ◌||◌, ◌∷◌, [], List, Bool, length, drop, take, map}
+use Rattle.std.proofs.Common.{◌≡◌, length, map}
 use Rattle.fab_labelling.specs.Obligations.{root_owes}
 use Rattle.fab_check.specs.Noted.{all_noted}
 use Rattle.fab_check.proofs.methods.note_roots.Given as goal

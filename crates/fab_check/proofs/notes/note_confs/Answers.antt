@@ -1,6 +1,6 @@
-use Rattle.std.proofs.Common.{List, ℕ, [], ◌∷◌, None, refl, sym, ap, ◌∙◌}
-use Rattle.fab_labelling.specs.Obligations.{all_conf, flows, conf, nowhere, owe}
-use Rattle.fab_labelling.specs.declared.rule.LabelRule.TheVariants.{Access, Fail}
+use Rattle.std.proofs.Common.{List, ℕ, [], ◌∷◌, refl, sym, ap, ◌∙◌}
+use Rattle.fab_labelling.specs.Obligations.{all_conf, conf, owe}
+use Rattle.fab_labelling.specs.declared.rule.LabelRule.TheVariants.{Access}
 use Rattle.fab_check.specs.Noted.{all_noted}
 use Rattle.fab_check.proofs.Parts.{behind_one, at_none}
 use Rattle.fab_check.proofs.notes.note_confs.Goals as goal

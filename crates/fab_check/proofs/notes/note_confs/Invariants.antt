@@ -1,4 +1,4 @@
-use Rattle.std.proofs.Common.{◌≡◌, length, None}
+use Rattle.std.proofs.Common.{◌≡◌, length}
 use Rattle.fab_labelling.specs.Obligations.{all_conf}
 use Rattle.fab_labelling.specs.declared.rule.LabelRule.TheVariants.{Access}
 use Rattle.fab_check.specs.Noted.{all_noted}

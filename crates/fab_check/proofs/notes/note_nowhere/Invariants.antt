@@ -1,6 +1,5 @@
 use Rattle.std.proofs.Common.{◌≡◌, length, None}
 use Rattle.fab_labelling.specs.Obligations.{all_fail}
-use Rattle.fab_labelling.specs.declared.rule.LabelRule.TheVariants.{Access}
 use Rattle.fab_check.specs.Noted.{all_noted}
 use Rattle.fab_check.proofs.notes.note_nowhere.Given as goal
 

@@ -1,4 +1,4 @@
-use Rattle.std.proofs.Common.{◌≡◌, ◌++◌, ◌+◌, ◌≤◌, ◌==◌, ℕ, ◌||◌, ◌∷◌, [], List, Bool, length, drop, take, map}
+use Rattle.std.proofs.Common.{◌≡◌, length}
 use Rattle.std.specs.List.{list_any}
 use Rattle.fab_check.specs.Decided.{reaches}
 use Rattle.fab_check.proofs.placement.acts_for_one.Given as goal

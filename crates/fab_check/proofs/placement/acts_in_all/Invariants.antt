@@ -1,4 +1,4 @@
-use Rattle.std.proofs.Common.{◌≡◌, ◌++◌, ◌+◌, ◌≤◌, ◌==◌, ℕ, ◌||◌, ◌∷◌, [], List, Bool, length, drop, take, map}
+use Rattle.std.proofs.Common.{◌≡◌, length}
 use Rattle.fab_check.specs.Decided.{acts_in_all}
 use Rattle.fab_check.proofs.placement.acts_in_all.Given as goal
 

@@ -1,4 +1,4 @@
-use Rattle.std.proofs.Common.{◌≡◌, ◌++◌, ◌+◌, ◌≤◌, ◌==◌, ℕ, ◌||◌, ◌∷◌, [], List, Bool, length, drop, take, map}
+use Rattle.std.proofs.Common.{◌≡◌, ◌==◌, ℕ, take}
 use Rattle.std.specs.List.{list_any}
 use Rattle.fab_principals.specs.Sets.{in_set}
 use Rattle.fab_check.specs.Shown.{numbers_of}

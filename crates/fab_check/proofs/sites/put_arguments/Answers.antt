@@ -1,4 +1,4 @@
-use Rattle.std.proofs.Common.{◌≡◌, ◌++◌, List, ℕ, refl, arith}
+use Rattle.std.proofs.Common.{List, ℕ, refl, arith}
 use Rattle.std.specs.List.{flat_map}
 use Rattle.fab_labelling.specs.Sites.{sites_in}
 use Rattle.fab_check.specs.Sited.{with_sites}

@@ -1,4 +1,4 @@
-use Rattle.std.proofs.Common.{◌≡◌, ◌++◌, ◌+◌, ◌≤◌, ◌==◌, ℕ, ◌||◌, ◌∷◌, [], List, Bool, length, drop, take, map}
+use Rattle.std.proofs.Common.{◌≡◌, length}
 use Rattle.fab_labelling.specs.Obligations.{under}
 use Rattle.fab_check.proofs.statements.inside.Given as goal
 

@@ -1,4 +1,4 @@
-use Rattle.std.proofs.Common.{◌≡◌, ◌++◌, ◌+◌, ◌≤◌, ◌==◌, ℕ, ◌||◌, ◌∷◌, [], List, Bool, length, drop, take, map}
+use Rattle.std.proofs.Common.{◌≡◌, ◌==◌, length}
 use Rattle.std.specs.List.{list_any}
 use Rattle.fab_check.proofs.statements.is_among.Given as goal
 

@@ -1,4 +1,4 @@
-use Rattle.std.proofs.Common.{◌≡◌, ℕ, subst}
+use Rattle.std.proofs.Common.{subst}
 use Rattle.fab_labelling.specs.Refusals.{IsFirstRefusal}
 use Rattle.fab_check.proofs.Least.{first_is, same_refusal}
 use Rattle.fab_check.proofs.whole.check.Goals as goal
