@@ -1,9 +1,9 @@
 -- Calls, gathered part by part, and sets that gain by them.
-use Rattle.std.proofs.Common.{◌≡◌, ◌≢◌, ◌⊎◌, inl, inr, refl, sym, ap, ◌∙◌, subst, ℕ, zero, suc, ◌+◌, ◌*◌, ◌^◌, ◌<◌, ◌≤◌, ◌==◌, Bool, true, false, ◌||◌, ◌&&◌, List, [], ◌∷◌, ◌++◌, map, length, drop, take, get_or, set, sum, slice_get, append_assoc, add-one, arith, All, Contains, MatchBool}
+use Rattle.std.proofs.Common.{◌≡◌, ◌⊎◌, inl, inr, refl, sym, ap, ◌∙◌, subst, ℕ, zero, suc, ◌+◌, ◌*◌, ◌^◌, ◌<◌, ◌≤◌, ◌==◌, Bool, true, false, ◌||◌, ◌&&◌, List, [], ◌∷◌, ◌++◌, map, length, drop, take, get_or, set, sum, slice_get, append_assoc, add-one, arith, All, Contains, MatchBool}
 use Rattle.std.specs.Bool.{Decides}
 use Rattle.std.specs.Cmp.{IsEquivalence}
 use Rattle.std.specs.List.{flat_map, AllWithin}
-use Rattle.std.proofs.lemmas.Bool.{cases_Bool, both_ways, or_cases, or_left}
+use Rattle.std.proofs.lemmas.Bool.{or_cases, or_left}
 use Rattle.std.proofs.lemmas.Bool.Decides.{Decides-and, Decides-eqb, Decides-like, same_from_decides}
 use Rattle.std.proofs.lemmas.List.{append-nil, map-append, length-set, get_or-set_same, get_or-set_other, get_or_default, take_all, take-append-le}
 use Rattle.std.proofs.lemmas.List.Elements.{All-contains, AllWithin-more, Contains-append_cases, Contains-get_or, at_read}
@@ -24,7 +24,7 @@ use Rattle.fab_principals.proofs.SetLemmas.{in_set-zero}
 use Rattle.fab_check.specs.Authority.{AreOwn, AreUsed, IsMask}
 use Rattle.fab_check.specs.Called.{AreGrown, Calls, IsSettled, block_calls, with_calls}
 use Rattle.fab_check.specs.Decided.{has_authority, uses_authority}
-use Rattle.fab_check.proofs.Deciding.{Decides-uses, has_authority_is}
+use Rattle.fab_check.proofs.Deciding.{Decides-uses, has_authority_is, same_number}
 use Rattle.fab_check.proofs.Walks.{front}
 
 -- ---- calls
@@ -129,9 +129,6 @@ grown_by_one calls d a b c one = record {
     only : (u v : ℕ) → Contains (d ∷ []) (u, v) → d ≡ (u, v)
     only u v (zero, within, is) = is
     only u v (suc k, within, is) = absurd (omega (arith, within))
-
-same_number : (p q : ℕ) → (q ≡ p) ⊎ (q ≢ p)
-same_number p q = elim (cases_Bool (q == p)) [ inl t ↦ inl ((Decides-eqb q p).0 t) | inr f ↦ inr (λ e. both_ways (q == p) f ((Decides-eqb q p).1 e)) ]
 
 pub grown_by_union : (sets : List ℕ) (d : ℕ × ℕ) (all : ℕ) → d.0 < length sets → ((p : ℕ) → in_set all p ≡ (in_set (get_or sets d.0 0) p || in_set (get_or sets d.1 0) p)) → AreGrown (d ∷ []) sets (set sets d.0 all)
 grown_by_union sets d all within either = record {

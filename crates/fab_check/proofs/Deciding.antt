@@ -108,7 +108,7 @@ bits_of : List ℕ → ℕ
 bits_of [] = 0
 bits_of (p ∷ ps) = bit_or (2 ^ p) (bits_of ps)
 
-same_number : (p q : ℕ) → (q ≡ p) ⊎ (q ≢ p)
+pub same_number : (p q : ℕ) → (q ≡ p) ⊎ (q ≢ p)
 same_number p q = elim (cases_Bool (q == p)) [ inl t ↦ inl ((Decides-eqb q p).0 t) | inr f ↦ inr (λ e. both_ways (q == p) f ((Decides-eqb q p).1 e)) ]
 
 bits_are : (ps : List ℕ) → IsSetOf ps (bits_of ps)

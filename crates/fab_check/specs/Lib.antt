@@ -1,6 +1,6 @@
-pub mod Answers
 pub mod Decided
 pub mod Noted
+pub mod Remembered
 pub mod Authority
 pub mod Called
 pub mod Shown

@@ -50,7 +50,8 @@ abbrev pub call_owes : Scope → Under → Use → List Expression → List Owed
 call_owes s u x es = o.call_owes s.names.classes.now s.methods.now s.names.locals.now (numbers_of s.authority.now) u.pc.now u.failure x es
 
 abbrev pub making : Scope → Under → ℕ → List Expression → Use → List Owed
-making s u at es x = o.making s.names.classes.now s.methods.now s.names.locals.now (numbers_of s.authority.now) u.pc.now u.failure at es (slice_get s.names.classes.now x.number)
+making s u at es x =
+    o.making s.names.classes.now s.methods.now s.names.locals.now (numbers_of s.authority.now) u.pc.now u.failure at es (slice_get s.names.classes.now x.number)
 
 abbrev pub downgrading : Scope → Downgrade → ℕ → ℕ → ℕ → Owed
 downgrading s d at from to = o.downgrading s.names.classes.now s.methods.now s.names.locals.now (numbers_of s.authority.now) d at from to

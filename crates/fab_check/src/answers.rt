@@ -1,7 +1,7 @@
 //! Answers of questions on two labels, which are remembered.
 ghost use Rattle.std.specs.Prelude.{◌≡◌, ◌<◌, ◌⊎◌, ℕ, Bool, true, IfSome, slice_index};
 ghost use Rattle.fab_principals.specs.Sets.{in_set};
-ghost use Rattle.fab_check.specs.Answers.{AreRight};
+ghost use Rattle.fab_check.specs.Remembered.{AreRight};
 
 use crate::sets::{contains, only, union};
 

@@ -93,20 +93,52 @@ fn is_store(start: &Resolved, p: u16) -> bool
     }
 }
 
-/// A store is to be one that may hold the class.
-#[tactic(auto, unfolding(crate::specs::Noted::all_noted, crate::specs::Decided::decided))]
-pub(crate) fn note_placement(verdicts: &mut Verdicts<'_>, at: u32, store: u16, class: u16)
-    ensures { verdicts.new ≡ all_noted verdicts.old (owe OfPlacement at (holds store class) ∷ []) }
+/// The label of the class of a number.
+fn class_label(start: &Resolved, class: u16) -> u16
+    ensures { result ≡ class_label start.now class }
+{
+    match start.classes.as_slice().get(usize::from(class)) {
+        None => 0,
+        Some(found) => found.label.number,
+    }
+}
+
+/// Whether the principal, which is the store of this number, may hold the class, by what labels say.
+#[tactic(auto, unfolding(crate::specs::Decided::decided))]
+fn ask_holds(verdicts: &Verdicts<'_>, store: u16, class: u16) -> bool
+    ensures { result ≡ decided verdicts.now.start (holds store class) }
 {
     let start = verdicts.start();
     let p = verdicts.principal(store);
     match start.classes.as_slice().get(usize::from(class)) {
-        None => verdicts.refuse(LabelRule::Placement, at, Side::Label(0), Side::Principal(p)),
-        Some(found) => {
-            if !(is_store(start, p) && may_hold(verdicts, p, found)) {
-                let label = Side::Label(found.label.number);
-                verdicts.refuse(LabelRule::Placement, at, label, Side::Principal(p));
-            }
+        None => false,
+        Some(found) => is_store(start, p) && may_hold(verdicts, p, found),
+    }
+}
+
+/// Whether the store may hold the class. It is asked once.
+fn holds(verdicts: &mut Verdicts<'_>, store: u16, class: u16) -> bool
+    ensures decided { result ≡ decided verdicts.old.start (holds store class) }
+    ensures same { verdicts.new ≡ verdicts.old }
+{
+    match verdicts.known_to_hold(store, class) {
+        Some(answer) => answer,
+        None => {
+            let answer = ask_holds(verdicts, store, class);
+            verdicts.remember_holding(store, class, answer);
+            answer
         }
+    }
+}
+
+/// A store is to be one that may hold the class.
+#[tactic(auto, unfolding(crate::specs::Noted::all_noted))]
+pub(crate) fn note_placement(verdicts: &mut Verdicts<'_>, at: u32, store: u16, class: u16)
+    ensures { verdicts.new ≡ all_noted verdicts.old (owe OfPlacement at (holds store class) ∷ []) }
+{
+    if !holds(verdicts, store, class) {
+        let source = Side::Label(class_label(verdicts.start(), class));
+        let target = Side::Principal(verdicts.principal(store));
+        verdicts.refuse(LabelRule::Placement, at, source, target);
     }
 }

@@ -1,8 +1,8 @@
 //! Which claims hold, and the first refusal so far.
-ghost use Rattle.std.specs.Prelude.{◌≡◌, ◌≤◌, ◌∷◌, [], length, None as Nothing};
+ghost use Rattle.std.specs.Prelude.{◌≡◌, ◌≤◌, ◌∷◌, [], IfSome, length, None as Nothing};
 ghost use Rattle.fab_language.specs.Flows.{delegations_of};
 ghost use Rattle.fab_labelling.specs.Readers.{label_at, principal_of};
-ghost use Rattle.fab_labelling.specs.Obligations.{owe, flows, conf, nowhere};
+ghost use Rattle.fab_labelling.specs.Obligations.{owe, flows, conf, nowhere, holds};
 ghost use Rattle.fab_labelling.specs.Refusals.{rank as rank_of};
 ghost use Rattle.fab_labelling.specs.declared.rule.LabelRule.TheVariants.{Access as OfAccess, Fail as OfFail};
 ghost use Rattle.fab_check.specs.Decided.{decided};
@@ -67,6 +67,7 @@ pub(crate) struct Verdicts<'a> {
     blank: Label,
     flowing: Answers,
     hiding: Answers,
+    placing: Answers,
     first: Option<Refusal>,
 }
 
@@ -76,10 +77,8 @@ impl<'a> Model for Verdicts<'a> {
     ghost use Rattle.std.specs.Coded.{codes};
     ghost use Rattle.fab_tree.specs.contracts.resolved.Statement as statements;
     ghost use Rattle.fab_tree.specs.contracts.resolved.Expression as expressions;
-    ghost use Rattle.fab_labelling.specs.Obligations.{flows, conf};
-    ghost use Rattle.fab_check.specs.Answers.{AreRight};
-    ghost use Rattle.fab_check.specs.Decided.{decided};
     ghost use Rattle.fab_check.specs.Noted.{Noting};
+    ghost use Rattle.fab_check.specs.Remembered.{HasAnswers};
 
     ghost Value = { Noting };
 
@@ -87,7 +86,7 @@ impl<'a> Model for Verdicts<'a> {
 
     ghost view = { λ v. record { start = v.start.now; first = v.first } };
 
-    ghost invariant = { λ v. (v.acts.now ≡ delegations_of v.start.now) × (v.blank ≡ record { conf = []; integ = [] }) × (length v.start.now.nodes ≤ 64) × AreRight (λ a b. decided v.start.now (flows a b)) v.flowing × AreRight (λ a b. decided v.start.now (conf a b)) v.hiding };
+    ghost invariant = { λ v. (v.acts.now ≡ delegations_of v.start.now) × (v.blank ≡ record { conf = []; integ = [] }) × (length v.start.now.nodes ≤ 64) × HasAnswers v.start.now v.flowing v.hiding v.placing };
 }
 
 impl<'a> Verdicts<'a> {
@@ -108,6 +107,7 @@ impl<'a> Verdicts<'a> {
             blank,
             flowing: Answers::new(),
             hiding: Answers::new(),
+            placing: Answers::new(),
             first: None,
         }
     }
@@ -203,6 +203,21 @@ impl<'a> Verdicts<'a> {
                 answer
             }
         }
+    }
+
+    /// Whether the store may hold the class, if it was asked before.
+    pub(crate) fn known_to_hold(&self, store: u16, class: u16) -> Option<bool>
+        ensures { IfSome result (λ answer. answer ≡ decided self.now.start (holds store class)) }
+    {
+        self.placing.known(store, class)
+    }
+
+    /// Whether the store may hold the class is known from now on.
+    pub(crate) fn remember_holding(&mut self, store: u16, class: u16, answer: bool)
+        requires { answer ≡ decided self.old.start (holds store class) }
+        ensures { self.new ≡ self.old }
+    {
+        self.placing.remember(store, class, answer);
     }
 
     /// One more refusal.
