@@ -1,0 +1,91 @@
+-- In a well labelled bundle a request leaves objects at stores that may hold them.
+use Rattle.std.proofs.Common.{◌≡◌, ℕ, List, [], ◌∷◌, Bool, true, false, Some, refl, sym, ◌∙◌}
+use Rattle.std.specs.List.{AllByRecursion}
+use Rattle.fab_base.specs.declared.object.Oid.{Oid}
+use Rattle.fab_base.specs.declared.object.Object.{Object}
+use Rattle.fab_base.specs.declared.object.Tid.{Tid}
+use Rattle.fab_base.specs.declared.object.Value.{Value}
+use Rattle.fab_base.specs.declared.object.Value.TheVariants.{Int, Null, Ref}
+use Rattle.fab_base.specs.FlatMap.{FlatMap, get}
+use Rattle.fab_tree.specs.declared.resolved.Request.{Request}
+use Rattle.fab_tree.specs.declared.resolved.Resolved.{Resolved}
+use Rattle.fab_language.specs.declared.ending.Ending.{Ending}
+use Rattle.fab_language.specs.declared.ending.Ending.TheVariants.{Ended, Failed, Stopped, Missing}
+use Rattle.fab_language.specs.Evaluation.{tid_of, meant, if_ended, map_behind, in_turn}
+use Rattle.fab_language.specs.Heaps.{is_among}
+use Rattle.fab_language.specs.Meaning.{Meant, meaning}
+use Rattle.fab_labelling.specs.Claims.{IsWellLabelled}
+use Rattle.fab_labelling.specs.Obligations.{holds}
+use Rattle.fab_check.specs.Decided.{decided}
+use Rattle.fab_check.proofs.Deciding.{Decides-claim}
+use Rattle.fab_laws.specs.Changes.{OnlyChanges}
+use Rattle.fab_laws.specs.Kinds.{Claim, given, counted, made, claims_of}
+use Rattle.fab_laws.specs.Origins.{Passes, MakesPassing, OnlyPassing}
+use Rattle.fab_laws.proofs.Changes.{leaves}
+use Rattle.fab_laws.proofs.Placed.{meant_passes}
+use Rattle.fab_laws.proofs.Values.{all_more}
+use Rattle.fab_held.specs.Held.{IsHeld, RefersToHeld, AllHeld, HasOnlyHeld, MakesHeld, OnlyHeld}
+use Rattle.fab_held.proofs.Made.{all_made}
+
+module _ (r : Resolved) where
+  -- whether the store of a name may hold the name's class
+  abbrev is_held : Oid → Bool
+  is_held o = decided r (holds o.store o.class)
+
+  is_so : (o : Oid) → is_held o ≡ true → IsHeld r o
+  is_so o = (Decides-claim r (holds o.store o.class)).0
+
+  passing : (v : Value) → RefersToHeld r v → Passes is_held v
+  passing (Int n) h = tt
+  passing Null h = tt
+  passing (Ref o) h = (Decides-claim r (holds o.store o.class)).1 h
+
+  from_passing : (v : Value) → Passes is_held v → RefersToHeld r v
+  from_passing (Int n) h = tt
+  from_passing Null h = tt
+  from_passing (Ref o) h = is_so o h
+
+  making : (tid : Tid) (c : Claim) → MakesHeld r c → MakesPassing is_held tid c
+  making tid (given taker kind) h = tt
+  making tid (counted places values) h = tt
+  making tid (made store class site) h = λ index below. (Decides-claim r (holds store class)).1 h
+
+  -- the name of an object that was neither written nor made is a known one
+  name_behind : (known : FlatMap) (m : Meant) → HasOnlyHeld r known → OnlyChanges known m → OnlyPassing is_held m → (o : Oid) (x : Object) → get m.map o ≡ Some x → IsHeld r o
+  name_behind known m h changes p o x e = by (is_among o m.made) (is_among o m.written) refl refl
+    where
+      by : (a b : Bool) → is_among o m.made ≡ a → is_among o m.written ≡ b → IsHeld r o
+      by true b i j = is_so o (p.made o i)
+      by false true i j = is_so o (p.written o j)
+      by false false i j = h.names o x (sym (changes.others o (rw (i, j) refl)) ∙ e)
+
+  module _ (well : IsWellLabelled r) where
+    pub meant_held : (known : FlatMap) (request : Request) (tid : Tid) (fuel : ℕ) → AllHeld r request.args → HasOnlyHeld r known → OnlyHeld r (meaning r known request tid fuel)
+    meant_held known request tid fuel args h =
+        let p : OnlyPassing is_held (meaning r known request tid fuel) =
+        meant_passes is_held r tid (all_more (MakesHeld r) (MakesPassing is_held tid) (claims_of r) (making tid) (all_made r well)) known request fuel
+        (all_more (RefersToHeld r) (Passes is_held) request.args passing args)
+        (λ o x e. all_more (RefersToHeld r) (Passes is_held) x.fields passing (h.references o x e)) in
+        record {
+          touched = λ o e. is_so o (p.touched o e);
+          written = λ o e. is_so o (p.written o e);
+          made = λ o e. is_so o (p.made o e);
+          missing = λ site o e. is_so o (p.missing site o e);
+          objects = record {
+            names = name_behind known (meaning r known request tid fuel) h (leaves known r tid request fuel).changes p;
+            references = λ o x e. all_more (Passes is_held) (RefersToHeld r) x.fields from_passing (p.objects o x e);
+          };
+          result = λ v e. from_passing v (p.result v e);
+        }
+
+    behind_ending : (e : Ending) (m n : FlatMap) → HasOnlyHeld r m → HasOnlyHeld r n → HasOnlyHeld r (if_ended e m n)
+    behind_ending (Ended result) m n h k = h
+    behind_ending Failed m n h k = k
+    behind_ending (Stopped stop) m n h k = k
+    behind_ending (Missing site o) m n h k = k
+
+    pub course_held : (known : FlatMap) (requests : List Request) → AllByRecursion (λ q. AllHeld r q.args) requests → HasOnlyHeld r known → HasOnlyHeld r (in_turn r known requests).map
+    course_held known [] a h = h
+    course_held known (request ∷ requests) a h =
+        let k = meant_held known request (tid_of request) 1000000 a.0 h in
+        course_held (map_behind r known request) requests a.1 (behind_ending (meant r known request).ending (meant r known request).map known k.objects h)
