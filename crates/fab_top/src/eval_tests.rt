@@ -196,7 +196,7 @@ const RUNS: [(&str, &str, &str); 9] = [
 ];
 
 /// Whole bundles and their evaluations.
-const WHOLE: [(&str, &str); 3] = [
+const WHOLE: [(&str, &str); 4] = [
     ("store s1;worker w1;run{}", "end\n"),
     (
         "principal s;worker L;store C;label L={};label C={L->C};\
@@ -213,6 +213,14 @@ const WHOLE: [(&str, &str); 3] = [
         "outcome w1 1 ended none\noutcome w1 2 ended none\noutcome w1 3 ended none\n\
         outcome w1 4 ended none\noutcome w1 5 failed\nobject s1 a Account 97\n\
         object s1 b Account 3\nend\n",
+    ),
+    (
+        "principal Bank;worker w1;store s1;w1 actsfor Bank;s1 actsfor Bank;label T={Bank->;Bank<-};\
+        class Account label T access T{int balance;}\
+        method transfer(Account a:T,Account b:T,int n:T)begin T fails{a.balance=a.balance-n/1;\
+        b.balance=b.balance+n;}run{root a:Account@s1(100);root b:Account@s1(0);\
+        session w1{transfer(a,b,5);}}",
+        "outcome w1 1 ended none\nobject s1 a Account 95\nobject s1 b Account 5\nend\n",
     ),
 ];
 
