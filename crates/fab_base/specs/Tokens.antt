@@ -187,7 +187,8 @@ quoted_at bytes =
     then stands (p.Spelled (k.Bytes (bytes_of digits)) (length digits + 2))
     else unfit (length digits + 1)
 
--- What stands at the front: a space, a comment from `//` to before the next line feed, bytes in quotation marks, a word, or a sign. A run of word bytes is one word or none.
+-- What stands at the front: a space, a comment from `//` to before the next line feed, bytes in quotation marks, a
+-- word, or a sign. A run of word bytes is one word or none.
 abbrev pub front_at : List ℕ → Front
 front_at [] = unfit 0
 front_at (b ∷ bs) =

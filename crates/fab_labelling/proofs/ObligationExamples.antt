@@ -1,6 +1,7 @@
 -- Worked examples of what a program owes its labels: each form, with places, rules and claims in their order.
 --
--- In all of them the local 0 is `c` of the class C, under label 3, the local 1 is `n` under 4 and the local 2 is `s` under 5; C is of label 6 and access 7.
+-- In all of them the local 0 is `c` of the class C, under label 3, the local 1 is `n` under 4 and the local 2 is
+-- `s` under 5; C is of label 6 and access 7.
 use Rattle.std.proofs.Common.{◌≡◌, ℕ, Bool, true, false, pos, List, [], ◌∷◌, ◌++◌, map, Some, None, refl, ap, codes}
 use Rattle.fab_tree.specs.declared.name.Name.{Name}
 use Rattle.fab_tree.specs.declared.declaration.Role.TheVariants as roles

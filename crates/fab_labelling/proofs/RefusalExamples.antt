@@ -1,4 +1,5 @@
--- Worked examples of claims that hold and that don't, and of which one a refusal tells. Labels, classes and who acts for whom are those of `ReaderExamples`.
+-- Worked examples of claims that hold and that don't, and of which one a refusal tells. Labels, classes and who
+-- acts for whom are those of `ReaderExamples`.
 use Rattle.std.proofs.Common.{◌≡◌, ◌∙◌, ◌+◌, ◌*◌, ◌^◌, ◌<◌, ℕ, zero, suc, true, pos, List, [], ◌∷◌, map, Some, None, IsBitSet, slice_get, ◌++◌, refl, sym, ap, subst, arith, inl, inr, ⊎_elim, lit<, lit≤}
 use Rattle.std.specs.Int.{bit_at}
 use Rattle.std.specs.Prelude.{Contains}
@@ -163,7 +164,8 @@ v_answers_for_b (suc (suc (suc n))) way has = absurd (let below : suc (suc (suc 
 
 -- ---- the first refusal
 
--- principal A; label S = {A ->}; label P = {}; class C label P access P { int f; } method m(C c : P, int s : S) begin P fails { if (s) { c.f = 1; } }, with `c` of the write at 112
+-- principal A; label S = {A ->}; label P = {}; class C label P access P { int f; } method m(C c : P, int s : S)
+-- begin P fails { if (s) { c.f = 1; } }, with `c` of the write at 112
 abbrev refused : Resolved
 refused = record (bundle (method [] (roll-Statement (s.If (expression_at 106 (f.Local (used 1 106))) (roll-Statement (s.Write (used 0 112) 0 (expression_at 118 (f.Number (pos 1))) 0) ∷ []) []) ∷ []) ∷ [])) { classes = class 1 1 ∷ [] }
 

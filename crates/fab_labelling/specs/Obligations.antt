@@ -1,6 +1,8 @@
 -- What a program owes its labels, as a list: at a place, under a rule, a claim. When a claim holds is `Claims`.
 --
--- A statement stands under labels that say what decided that it runs, `pc`, the outermost first, and a label to which its failures flow, if there is one. The labels of an expression are those of what it reads. The joint of labels is never computed: several labels flow to another where each of them does.
+-- A statement stands under labels that say what decided that it runs, `pc`, the outermost first, and a label to
+-- which its failures flow, if there is one. The labels of an expression are those of what it reads. The joint of
+-- labels is never computed: several labels flow to another where each of them does.
 use Rattle.std.specs.Prelude.{ℕ, ◌==◌, if◌then◌else◌, List, [], ◌∷◌, ◌++◌, map, take, length, Option, Some, None, slice_get}
 use Rattle.std.specs.List.{flat_map, list_any, range_with_len}
 use Rattle.fab_tree.specs.declared.expression.Operator.{Operator}

@@ -8,7 +8,8 @@ use Rattle.fab_tree.specs.declared.resolved.Resolved.{Resolved}
 use Rattle.fab_language.specs.Names.{is_store, is_worker}
 use Rattle.fab_labelling.specs.Readers.{IsReader, IsWriter, label_at, principal_of}
 
--- A store may hold objects with this label, which are asked for under that one: it may read both, and it may have influenced the objects, since it can answer for them what it likes.
+-- A store may hold objects with this label, which are asked for under that one: it may read both, and it may have
+-- influenced the objects, since it can answer for them what it likes.
 pub record MayHold (d : Delegations) (store : ℕ) (label access : Label) : Type 0 where
   pub reads : IsReader d label store
   pub learns : IsReader d access store

@@ -6,7 +6,8 @@ use Rattle.fab_base.specs.Labels.{ActsForOne}
 use Rattle.fab_tree.specs.declared.resolved.Principal.{Principal}
 use Rattle.fab_tree.specs.declared.resolved.Resolved.{Resolved}
 
--- A principal may read where, for each policy of confidentiality, it acts for the owner or for one of the readers. So anybody may where there is no policy.
+-- A principal may read where, for each policy of confidentiality, it acts for the owner or for one of the readers.
+-- So anybody may where there is no policy.
 abbrev pub IsReader : Delegations → Label → ℕ → Type 0
 IsReader d label p = All (λ policy. ActsForOne d p (policy.owner ∷ policy.others)) label.conf
 

@@ -23,7 +23,8 @@ use Rattle.fab_language.proofs.MeaningExamples.{number}
 use Rattle.fab_language.proofs.CallExamples.{plain_name, method, program, local, returning}
 use Rattle.fab_language.proofs.Forms.{local_means, assign_means, write_means, fail_means}
 
--- ---- a bundle: a principal, then the workers u and v with the stores b and a between them, a class with a field and one without, and roots at both stores
+-- ---- a bundle: a principal, then the workers u and v with the stores b and a between them, a class with a field
+-- and one without, and roots at both stores
 
 abbrev node : Role → List ℕ → Option ℕ → Principal
 node role text number = record { role = role; name = plain_name text; node = number }

@@ -90,7 +90,8 @@ plain = bundle program
 nothing_wrong : faults plain ≡ []
 nothing_wrong = refl
 
--- w actsfor L; label M = {P -> w, q; R <-}; class E label L access A { K f; int f; } method k(K a : A) returns K : A begin A authority w, A { }: a label is no principal, and C has an f, too
+-- w actsfor L; label M = {P -> w, q; R <-}; class E label L access A { K f; int f; } method k(K a : A) returns K :
+-- A begin A authority w, A { }: a label is no principal, and C has an f, too
 undeclared : faults (bundle (record program {
   delegations = record { actor = called (codes "w") 1; principal = called (codes "L") 2 } ∷ [];
   labels = program.labels ++ record { name = called (codes "M") 3; policies = record { owner = called (codes "P") 4; aspect = Confidentiality; others = called (codes "w") 5 ∷ called (codes "q") 6 ∷ [] } ∷ record { owner = called (codes "R") 7; aspect = Integrity; others = [] } ∷ [] } ∷ [];

@@ -1,4 +1,5 @@
--- The fourth rule of names: the number of arguments isn't that of the parameters, or that of values isn't that of the fields. The place is the name of the method, of the class behind `new`, or of the root.
+-- The fourth rule of names: the number of arguments isn't that of the parameters, or that of values isn't that of
+-- the fields. The place is the name of the method, of the class behind `new`, or of the root.
 use Rattle.std.specs.Prelude.{ℕ, ◌==◌, List, [], ◌∷◌, ◌++◌, length, Option, Some, None, if◌then◌else◌}
 use Rattle.std.specs.List.{flat_map}
 use Rattle.fab_tree.specs.declared.name.Name.{Name}

@@ -1,6 +1,8 @@
 -- The reply to whether one label flows to another, with its reasons.
 --
--- A label flows to another where each of its confidentiality policies is covered by one of the other's, and each of the other's integrity policies by one of its own. The reply names for each of these the first that covers it, and the best chain of delegations between the owners; or it names the first that nothing covers.
+-- A label flows to another where each of its confidentiality policies is covered by one of the other's, and each of
+-- the other's integrity policies by one of its own. The reply names for each of these the first that covers it, and
+-- the best chain of delegations between the owners; or it names the first that nothing covers.
 use Rattle.std.specs.Prelude.{◌≡◌, ℕ, ◌<◌, List, [], ◌∷◌, ◌++◌, length, take, Option, Some, None, option_map, slice_get, codes, All, Any}
 use Rattle.std.specs.List.{flat_map}
 use Rattle.fab_base.specs.declared.label.Policy.{Policy}

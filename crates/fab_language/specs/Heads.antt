@@ -1,6 +1,7 @@
 -- What names and values stand in a method, and which locals are known there.
 --
--- A local is known from the end of its declaration to the end of its block. So a method comes to a list of heads, what each statement holds outside its blocks, each with the locals that are known where it stands.
+-- A local is known from the end of its declaration to the end of its block. So a method comes to a list of heads,
+-- what each statement holds outside its blocks, each with the locals that are known where it stands.
 use Rattle.std.specs.Prelude.{List, [], ◌∷◌, ◌++◌, map, Option, Some, None}
 use Rattle.fab_tree.specs.declared.name.Name.{Name}
 use Rattle.fab_tree.specs.declared.declaration.Sort.{Sort}

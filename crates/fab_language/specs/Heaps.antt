@@ -5,7 +5,8 @@ use Rattle.fab_base.specs.declared.object.Oid.{Oid}
 use Rattle.fab_base.specs.declared.object.Object.{Object}
 use Rattle.fab_base.specs.FlatMap.{FlatMap, get, put, is_same}
 
--- All objects by name, the names that were written of objects that were there before, and the names that were made in this attempt, both in the order in which they came. A failed `atomic` puts the whole of it back.
+-- All objects by name, the names that were written of objects that were there before, and the names that were made
+-- in this attempt, both in the order in which they came. A failed `atomic` puts the whole of it back.
 pub record Heap : Type 0 where
   pub rows : FlatMap
   pub written : List Oid

@@ -1,6 +1,9 @@
 -- The meaning of a request over a flat map: what each form does, big step by big step.
 --
--- An expression and a statement mean a function from a state to a run, made of what their parts mean. A run went on, with a value and the state behind it, or ended, with the state that it ended in. So a failure, and each limit, comes exactly where the rules put it, and what was touched before stands in the state. Calls recurse on the depth that is left, loops on the fuel that is left.
+-- An expression and a statement mean a function from a state to a run, made of what their parts mean. A run went
+-- on, with a value and the state behind it, or ended, with the state that it ended in. So a failure, and each
+-- limit, comes exactly where the rules put it, and what was touched before stands in the state. Calls recurse on
+-- the depth that is left, loops on the fuel that is left.
 use Rattle.std.specs.Prelude.{ℕ, zero, suc, ◌-◌, ◌==◌, Bool, true, false, not, if◌then◌else◌, ℤ, pos, negsuc, int_le, int_lt, ◌+ℤ◌, ◌-ℤ◌, ◌*ℤ◌, List, [], ◌∷◌, ◌++◌, map, length, drop, Option, Some, None, slice_get, slice_set, unwrap_or}
 use Rattle.std.specs.Int.{w32, int_wrap, int_bit_and, int_bit_or}
 use Rattle.std.specs.Ordering.{int_eq}
@@ -37,7 +40,9 @@ use Rattle.fab_language.specs.Heaps.{Heap, index_at, Reach, gone, full, found, r
 
 -- ---- states and runs
 
--- What a run has at a point: the fuel that is left, the locals of the method that it is in, the heap, the touches in order, each a site and an object, and the values of downgrades in order, each with its site. The given values are what a meaning that doesn't see all takes at downgrades; nothing here takes one.
+-- What a run has at a point: the fuel that is left, the locals of the method that it is in, the heap, the touches
+-- in order, each a site and an object, and the values of downgrades in order, each with its site. The given values
+-- are what a meaning that doesn't see all takes at downgrades; nothing here takes one.
 pub record State : Type 0 where
   pub fuel : ℕ
   pub locals : List Value

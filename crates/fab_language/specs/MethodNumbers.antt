@@ -1,6 +1,7 @@
 -- Methods with numbers for names.
 --
--- Sites are numbered from 0 over the whole program, in the order of the text. So what may have sites is numbered in turn, from the number of the next site.
+-- Sites are numbered from 0 over the whole program, in the order of the text. So what may have sites is numbered in
+-- turn, from the number of the next site.
 use Rattle.std.specs.Prelude.{ℕ, suc, List, [], ◌∷◌, map, length, option_map, Option, Some, None}
 use Rattle.fab_tree.specs.declared.expression.Operator.{Operator}
 use Rattle.fab_tree.specs.declared.expression.Expression.{Expression, Expression-F, fold-Expression}

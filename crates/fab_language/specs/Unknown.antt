@@ -1,6 +1,7 @@
 -- The first rule of names: a name isn't declared in the space that its place needs.
 --
--- The spaces are principals with the nodes, labels, classes, methods, the fields of one class, the locals that are known at a place, and roots. The field behind a dot is looked for only where the local's class is known.
+-- The spaces are principals with the nodes, labels, classes, methods, the fields of one class, the locals that are
+-- known at a place, and roots. The field behind a dot is looked for only where the local's class is known.
 use Rattle.std.specs.Prelude.{List, [], ◌∷◌, ◌++◌, Option, Some, None}
 use Rattle.std.specs.List.{flat_map}
 use Rattle.fab_tree.specs.declared.name.Name.{Name}

@@ -1,6 +1,7 @@
 -- One walk over the trees: what each primitive step keeps, each run of a program keeps.
 --
--- A law gives what holds of a state, what is had of a value of a kind, how a later state follows an earlier one, which objects are missing, and which claims of the program are met; then it shows that each step keeps these.
+-- A law gives what holds of a state, what is had of a value of a kind, how a later state follows an earlier one,
+-- which objects are missing, and which claims of the program are met; then it shows that each step keeps these.
 use Rattle.std.proofs.Common.{◌≡◌, ℕ, zero, suc, ◌-◌, List, [], ◌∷◌, ◌++◌, length, Option, Some, None, ℤ, Bool, true, false, ◌==◌, cond, if◌then◌else◌, map, refl, sym, ap, subst, arith}
 use Rattle.std.specs.Prelude.{slice_get, slice_set, unwrap_or}
 use Rattle.std.specs.List.{AllByRecursion, flat_map}

@@ -21,13 +21,15 @@ abbrev pub before : Change → Heap → Heap
 before (Wrote o field old joined) h = record h { rows = put_field o field old h.rows; written = if joined then but_last h.written else h.written }
 before (Made o) h = record h { rows = removed o h.rows; made = but_last h.made }
 
--- What counting an object as changed made of a heap: nothing, since it would be one too many; or the object joined those that were written, or it was changed before.
+-- What counting an object as changed made of a heap: nothing, since it would be one too many; or the object joined
+-- those that were written, or it was changed before.
 abbrev pub Counts : Oid → Heap → Heap → Option Bool → Type 0
 Counts o old new None = (is_changed o old ≡ false) × (is_spent old ≡ true) × (new ≡ old)
 Counts o old new (Some true) = (is_changed o old ≡ false) × (is_spent old ≡ false) × (new ≡ record old { written = old.written ++ o ∷ [] })
 Counts o old new (Some false) = (is_changed o old ≡ true) × (new ≡ old)
 
--- What a step from an old heap to a new one gave, where it was to come to this heap or to none: a change that leads back, or nothing, with the heap as it was.
+-- What a step from an old heap to a new one gave, where it was to come to this heap or to none: a change that leads
+-- back, or nothing, with the heap as it was.
 abbrev pub Steps : Option Heap → Heap → Heap → Option Change → Type 0
 Steps next old new None = (next ≡ None) × (new ≡ old)
 Steps next old new (Some c) = (next ≡ Some new) × (before c new ≡ old)

@@ -22,7 +22,8 @@ objects_of answers = map (λ a. (a.0, a.2)) answers
 abbrev pub versions_of : Answers → List (Oid × ℕ)
 versions_of answers = map (λ a. (a.0, a.1)) answers
 
--- The versions with which objects were answered; the heap; the heaps to which a failure may have to go back, the last one first; and the touches in order, each a site and an object.
+-- The versions with which objects were answered; the heap; the heaps to which a failure may have to go back, the
+-- last one first; and the touches in order, each a site and an object.
 pub record Nested : Type 0 where
   pub versions : List (Oid × ℕ)
   pub now : Heap

@@ -8,7 +8,8 @@ use Rattle.fab_labelling.specs.Refusals.{IsFirstRefusal}
 use Rattle.fab_reply.specs.declared.accepted.Accepted.{Accepted}
 use Rattle.fab_reply.specs.declared.accepted.Accepted.TheVariants.{Bundle, Misnamed, Mislabelled}
 
--- A bundle is accepted, with numbers for names, where it keeps the rules of names, types and labels; else this is its first fault, or the first refusal of its labels.
+-- A bundle is accepted, with numbers for names, where it keeps the rules of names, types and labels; else this is
+-- its first fault, or the first refusal of its labels.
 abbrev pub IsAccepted : Start → Accepted → Type 0
 IsAccepted s (Bundle r) = (faults s ≡ []) × (r ≡ resolved s) × IsWellLabelled (resolved s)
 IsAccepted s (Misnamed x) = IsFirst (faults s) x

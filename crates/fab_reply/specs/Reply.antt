@@ -109,7 +109,9 @@ label_of s word = option_map (λ x. x.label) (find (λ x. bytes_eq x.name.text w
 abbrev pub LacksLabel : Start → List ℕ → List ℕ → Type 0
 LacksLabel s a b = (label_of s a ≡ None) ⊎ (label_of s b ≡ None)
 
--- Replies command text status written: the status, and what is written, for what is asked and the text that there was. A refusal of the text is the same for every command, and so is one of its names for every command that asks for them.
+-- Replies command text status written: the status, and what is written, for what is asked and the text that there
+-- was. A refusal of the text is the same for every command, and so is one of its names for every command that asks
+-- for them.
 pub data Replies : Option Command → List ℕ → Status → List ℕ → Type 0 where
   usage : {text : List ℕ} → Replies None text Usage (line (codes "usage"))
   syntax : {command : Command} {text : List ℕ} {at : ℕ}

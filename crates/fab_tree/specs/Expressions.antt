@@ -1,6 +1,7 @@
 -- The grammar of expressions.
 --
--- A chain is an operand and any number of further ones with operators of its level between them; the levels are those of `|`, of `&`, of `+` and `-`, and of `*` and `/`. Between the second and the third stands the comparison.
+-- A chain is an operand and any number of further ones with operators of its level between them; the levels are
+-- those of `|`, of `&`, of `+` and `-`, and of `*` and `/`. Between the second and the third stands the comparison.
 use Rattle.std.specs.Prelude.{◌≡◌, ℕ, List, [], ◌∷◌, pos}
 use Rattle.fab_base.specs.declared.token.Mark.TheVariants as m
 use Rattle.fab_base.specs.declared.token.Kind.TheVariants as k

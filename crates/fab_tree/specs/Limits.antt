@@ -1,6 +1,7 @@
 -- The limits on the counts of a bundle.
 --
--- What has a limit stands in one table, in the order in which a refusal names it. The limits on bytes and on open brackets come before these: they belong to reading a text (`Depth` and the program).
+-- What has a limit stands in one table, in the order in which a refusal names it. The limits on bytes and on open
+-- brackets come before these: they belong to reading a text (`Depth` and the program).
 use Rattle.std.specs.Prelude.{ℕ, Bool, true, false, nat_lt, max, List, [], ◌∷◌, ◌++◌, map, length, count_by, find, sum_by, Option, Some, None}
 use Rattle.std.specs.List.{flat_map}
 use Rattle.fab_base.specs.declared.limit.What.{What}

@@ -1,6 +1,7 @@
 -- The pieces of the grammar: marks, names, numbers and lists.
 --
--- IsX a t b says: the tokens a begin with those of the tree t, and b is what follows. In the rules in comments, [x] is at most one x, {x} any number, and quoted marks stand for themselves.
+-- IsX a t b says: the tokens a begin with those of the tree t, and b is what follows. In the rules in comments, [x]
+-- is at most one x, {x} any number, and quoted marks stand for themselves.
 use Rattle.std.specs.Prelude.{◌≡◌, ◌<◌, ℕ, List, [], ◌∷◌, Option, Some, None, ℤ, pos, negsuc, zero, suc}
 use Rattle.fab_base.specs.declared.token.Mark.{Mark}
 use Rattle.fab_base.specs.declared.token.Kind.TheVariants as k

@@ -180,7 +180,9 @@ class x =
 
 -- ---- expressions
 
--- What is shown of an expression: the level at which its form stands in the grammar, and its text without brackets round it. The levels are 0 for `|`, 1 for `&`, 2 for comparisons, 3 for sums, 4 for products, 5 for signs before an operand, and 6.
+-- What is shown of an expression: the level at which its form stands in the grammar, and its text without brackets
+-- round it. The levels are 0 for `|`, 1 for `&`, 2 for comparisons, 3 for sums, 4 for products, 5 for signs before
+-- an operand, and 6.
 pub record Shown : Type 0 where
   pub level : ℕ
   pub inks : Inks

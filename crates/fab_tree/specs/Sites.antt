@@ -1,6 +1,7 @@
 -- The sites of a program: where a heap object is reached, made or downgraded, by their places in the order of the text.
 --
--- A site is a heap read, a field write, a `new`, a `declassify` or an `endorse`. The place of a read or a write is that of the object's name, that of the others the keyword's.
+-- A site is a heap read, a field write, a `new`, a `declassify` or an `endorse`. The place of a read or a write is
+-- that of the object's name, that of the others the keyword's.
 use Rattle.std.specs.Prelude.{ℕ, List, [], ◌∷◌, ◌++◌, Option, Some, None}
 use Rattle.std.specs.List.{flat_map}
 use Rattle.fab_tree.specs.declared.expression.Expression.{Expression, fold-Expression}
