@@ -18,22 +18,22 @@ decided = Decided first 1 None (1 ∷ [])
 header_is : header_bytes 1 258 ≡ 70 ∷ 65 ∷ 66 ∷ 74 ∷ 0 ∷ 1 ∷ 1 ∷ 2 ∷ []
 header_is = refl
 
-decided_is : record_bytes decided ≡ (0 ∷ 0 ∷ 0 ∷ 20 ∷ []) ++ 1 ∷ (0 ∷ 0 ∷ 0 ∷ 0 ∷ 0 ∷ 1 ∷ 0 ∷ 0 ∷ 0 ∷ 1 ∷ []) ++ (0 ∷ 0 ∷ 0 ∷ 1 ∷ []) ++ 3 ∷ 0 ∷ 1 ∷ 0 ∷ 1 ∷ []
+decided_is : record_bytes 1 decided ≡ (0 ∷ 0 ∷ 0 ∷ 20 ∷ []) ++ 1 ∷ (0 ∷ 0 ∷ 0 ∷ 0 ∷ 0 ∷ 1 ∷ 0 ∷ 0 ∷ 0 ∷ 1 ∷ []) ++ (0 ∷ 0 ∷ 0 ∷ 1 ∷ []) ++ 3 ∷ 0 ∷ 1 ∷ 0 ∷ 1 ∷ []
 decided_is = refl
 
-null_is : length (record_bytes (Decided first 1 (Some Null) (1 ∷ 2 ∷ []))) ≡ 26
+null_is : length (record_bytes 1 (Decided first 1 (Some Null) (1 ∷ 2 ∷ []))) ≡ 26
 null_is = refl
 
-closed_is : record_bytes (Closed 7 4 2) ≡ 0 ∷ 0 ∷ 0 ∷ 8 ∷ 2 ∷ 0 ∷ 0 ∷ 0 ∷ 7 ∷ 4 ∷ 0 ∷ 2 ∷ []
+closed_is : record_bytes 1 (Closed 7 4 2) ≡ 0 ∷ 0 ∷ 0 ∷ 8 ∷ 2 ∷ 0 ∷ 0 ∷ 0 ∷ 7 ∷ 4 ∷ 0 ∷ 2 ∷ []
 closed_is = refl
 
-boot_is : record_bytes (Boot 2) ≡ 0 ∷ 0 ∷ 0 ∷ 5 ∷ 3 ∷ 0 ∷ 0 ∷ 0 ∷ 2 ∷ []
+boot_is : record_bytes 1 (Boot 2) ≡ 0 ∷ 0 ∷ 0 ∷ 5 ∷ 3 ∷ 0 ∷ 0 ∷ 0 ∷ 2 ∷ []
 boot_is = refl
 
-prepared_is : length (record_bytes (Prepared first (record { reads = []; writes = []; creates = [] }))) ≡ 21
+prepared_is : length (record_bytes 1 (Prepared first (record { reads = []; writes = []; creates = [] }))) ≡ 21
 prepared_is = refl
 
-boot_seen_is : record_bytes (BootSeen 3 2) ≡ 0 ∷ 0 ∷ 0 ∷ 7 ∷ 8 ∷ 0 ∷ 3 ∷ 0 ∷ 0 ∷ 0 ∷ 2 ∷ []
+boot_seen_is : record_bytes 1 (BootSeen 3 2) ≡ 0 ∷ 0 ∷ 0 ∷ 7 ∷ 8 ∷ 0 ∷ 3 ∷ 0 ∷ 0 ∷ 0 ∷ 2 ∷ []
 boot_seen_is = refl
 
 journal_is : length (journal_bytes 1 0 (decided ∷ Applied first ∷ [])) ≡ 8 + 24 + 15
@@ -89,7 +89,7 @@ bad_version : GoesWrongAt (70 ∷ 65 ∷ 66 ∷ 74 ∷ 0 ∷ 2 ∷ 0 ∷ 0 ∷ [
 bad_version = inl (record { within = lit< tt; known = lit< tt; same = refl; wrong = λ e. omega (arith, e) })
 
 -- no body begins with the kind 9
-kind_is_low : (entry : Entry) (more : List ℕ) → get_or (body_bytes entry ++ more) 0 0 ≤ 8
+kind_is_low : (entry : Entry) (more : List ℕ) → get_or (body_bytes 1 entry ++ more) 0 0 ≤ 8
 kind_is_low (Decided tid request result stores) more = lit≤ tt
 kind_is_low (Closed request outcome node) more = lit≤ tt
 kind_is_low (Boot boot) more = lit≤ tt
@@ -99,33 +99,33 @@ kind_is_low (Applied tid) more = lit≤ tt
 kind_is_low (Released tid) more = lit≤ tt
 kind_is_low (BootSeen worker boot) more = lit≤ tt
 
-no_kind_nine : (entry : Entry) (rest more : List ℕ) → (9 ∷ rest ++ more ≡ body_bytes entry) ⊎ (9 ∷ rest ≡ body_bytes entry ++ more) → ⊥
-no_kind_nine entry rest more (inl e) = omega (arith, ap (λ xs. get_or xs 0 0) e, kind_is_low entry [], ap (λ xs. get_or xs 0 0) (append-nil (body_bytes entry)))
+no_kind_nine : (entry : Entry) (rest more : List ℕ) → (9 ∷ rest ++ more ≡ body_bytes 1 entry) ⊎ (9 ∷ rest ≡ body_bytes 1 entry ++ more) → ⊥
+no_kind_nine entry rest more (inl e) = omega (arith, ap (λ xs. get_or xs 0 0) e, kind_is_low entry [], ap (λ xs. get_or xs 0 0) (append-nil (body_bytes 1 entry)))
 no_kind_nine entry rest more (inr e) = omega (arith, ap (λ xs. get_or xs 0 0) e, kind_is_low entry more)
 
 -- the Decided record with the kind 9 is bad at its kind, byte 12
-kind_nine_is_bad : GoesWrongAt (header_bytes 1 0 ++ framed (9 ∷ drop 1 (body_bytes decided))) 12
+kind_nine_is_bad : GoesWrongAt (header_bytes 1 0 ++ framed (9 ∷ drop 1 (body_bytes 1 decided))) 12
 kind_nine_is_bad = inr (record {
   before = [];
   start = 8;
   front = record { node = 0; in_range = lit< tt; entries_fit = tt; within = lit≤ tt; spelled = refl };
-  body = 9 ∷ drop 1 (body_bytes decided);
+  body = 9 ∷ drop 1 (body_bytes 1 decided);
   more = [];
   length_fits = lit< tt;
   follows = refl;
   place = 4;
   bad = record {
-    unspelled = λ entry fits e. no_kind_nine entry (drop 1 (body_bytes decided)) [] (inl e);
-    wrong = inl (0, refl, (lit< tt, (decided, body_bytes decided, decided_is_spelled, inl refl), λ g. no_kind_nine g.0 [] g.1 g.3));
+    unspelled = λ entry fits e. no_kind_nine entry (drop 1 (body_bytes 1 decided)) [] (inl e);
+    wrong = inl (0, refl, (lit< tt, (decided, body_bytes 1 decided, decided_is_spelled, inl refl), λ g. no_kind_nine g.0 [] g.1 g.3));
   };
   at_place = refl;
 })
 
 -- a Boot with a length of 6 and a byte more is bad at its length, byte 8
 boot_and_more : List ℕ
-boot_and_more = body_bytes (Boot 2) ++ 0 ∷ []
+boot_and_more = body_bytes 1 (Boot 2) ++ 0 ∷ []
 
-no_entry_of_six : (entry : Entry) → get_or (body_bytes entry) 0 0 ≡ 3 → length (body_bytes entry) ≡ 6 → ⊥
+no_entry_of_six : (entry : Entry) → get_or (body_bytes 1 entry) 0 0 ≡ 3 → length (body_bytes 1 entry) ≡ 6 → ⊥
 no_entry_of_six (Boot boot) kind len = omega (arith, len)
 no_entry_of_six (Decided tid request result stores) kind len = omega (arith, kind)
 no_entry_of_six (Closed request outcome node) kind len = omega (arith, kind)

@@ -1,6 +1,6 @@
 -- The bytes of the fields that messages and journal records are made of, and what has such bytes. Every number
 -- is big-endian. A value's and an object's version is that of the message or journal that it stands in.
-use Rattle.std.specs.Prelude.{ℕ, ◌<◌, ◌≤◌, ◌^◌, List, [], ◌∷◌, ◌++◌, length, FitsSigned}
+use Rattle.std.specs.Prelude.{ℕ, ◌+◌, ◌<◌, ◌≤◌, ◌^◌, List, [], ◌∷◌, ◌++◌, length, FitsSigned}
 use Rattle.std.specs.List.{flat_map, All, AllByRecursion}
 use Rattle.std.specs.Int.{w16, w32, to_be_bytes, cast_unsigned}
 use Rattle.fab_base.specs.declared.object.Tid.{Tid}
@@ -107,4 +107,12 @@ pub record KeepsItems (i : Items) : Type 0 where
   pub writes : length i.writes ≤ 256
   pub written : All (λ w. length w.2.fields ≤ 16) i.writes
   pub creates : length i.creates ≤ 256
+  pub created : All (λ c. length c.1.fields ≤ 16) i.creates
+
+-- What an honest worker has one store prepare: at most 1,024 touched objects, read or written, and at most 256
+-- written or made, each of at most 16 fields.
+pub record AreHonest (i : Items) : Type 0 where
+  pub touched : length i.reads + length i.writes ≤ 1024
+  pub changed : length i.writes + length i.creates ≤ 256
+  pub written : All (λ w. length w.2.fields ≤ 16) i.writes
   pub created : All (λ c. length c.1.fields ≤ 16) i.creates

@@ -1,7 +1,7 @@
 -- Journals as bytes: a header, and then records, each its body behind the body's length. What a crash leaves of
 -- one may end inside a record; the records before that are its whole part.
 use Rattle.std.specs.Prelude.{◌≡◌, ◌≢◌, ◌⊎◌, ℕ, ◌+◌, ◌<◌, ◌≤◌, ◌^◌, Option, Some, None, List, [], ◌∷◌, ◌++◌, length, take, drop, slice_index}
-use Rattle.std.specs.List.{flat_map, AllByRecursion}
+use Rattle.std.specs.List.{flat_map}
 use Rattle.fab_base.specs.declared.object.Value.{Value}
 use Rattle.fab_base.specs.declared.entry.Entry.{Entry}
 use Rattle.fab_base.specs.declared.entry.Entry.TheVariants.{Decided, Closed, Boot, Prepared, Refused, Applied, Released, BootSeen}
@@ -43,16 +43,17 @@ pub record IsOutcome (outcome named : ℕ) : Type 0 where
   pub in_range : named < 2 ^ 16
   pub unnamed : (NamesNode outcome → ⊥) → named ≡ 65535
 
--- the body: the kind, and what the entry says. Prepared has the items as a Prepare has them.
-abbrev pub body_bytes : Entry → List ℕ
-body_bytes (Decided tid request result stores) = 1 ∷ (tid_bytes tid ++ four_bytes request ++ result_bytes result ++ stores_bytes stores)
-body_bytes (Closed request outcome node) = 2 ∷ (four_bytes request ++ outcome ∷ two_bytes node)
-body_bytes (Boot boot) = 3 ∷ four_bytes boot
-body_bytes (Prepared tid items) = 4 ∷ (tid_bytes tid ++ items_bytes items)
-body_bytes (Refused tid) = 5 ∷ tid_bytes tid
-body_bytes (Applied tid) = 6 ∷ tid_bytes tid
-body_bytes (Released tid) = 7 ∷ tid_bytes tid
-body_bytes (BootSeen worker boot) = 8 ∷ (two_bytes worker ++ four_bytes boot)
+-- the body in a version of the format: the kind, and what the entry says. Prepared has the items as a Prepare
+-- has them. A version that isn't known spells what version 1 spells.
+abbrev pub body_bytes : ℕ → Entry → List ℕ
+body_bytes version (Decided tid request result stores) = 1 ∷ (tid_bytes tid ++ four_bytes request ++ result_bytes result ++ stores_bytes stores)
+body_bytes version (Closed request outcome node) = 2 ∷ (four_bytes request ++ outcome ∷ two_bytes node)
+body_bytes version (Boot boot) = 3 ∷ four_bytes boot
+body_bytes version (Prepared tid items) = 4 ∷ (tid_bytes tid ++ items_bytes items)
+body_bytes version (Refused tid) = 5 ∷ tid_bytes tid
+body_bytes version (Applied tid) = 6 ∷ tid_bytes tid
+body_bytes version (Released tid) = 7 ∷ tid_bytes tid
+body_bytes version (BootSeen worker boot) = 8 ∷ (two_bytes worker ++ four_bytes boot)
 
 -- what an entry's numbers, orders and counts keep in a version of the format; 1 is the only version
 abbrev pub IsEntryBody : ℕ → Entry → Type 0
@@ -80,18 +81,30 @@ KeepsEntry _ = Unit {0}
 abbrev pub framed : List ℕ → List ℕ
 framed body = four_bytes (length body) ++ body
 
-abbrev pub record_bytes : Entry → List ℕ
-record_bytes entry = framed (body_bytes entry)
+abbrev pub record_bytes : ℕ → Entry → List ℕ
+record_bytes version entry = framed (body_bytes version entry)
 
-abbrev pub records_bytes : List Entry → List ℕ
-records_bytes entries = flat_map record_bytes entries
+-- the version of the records behind an entry's; in version 1 every entry keeps it
+abbrev pub next_version : ℕ → Entry → ℕ
+next_version version entry = version
+
+-- records, the first in this version
+abbrev pub records_from : ℕ → List Entry → List ℕ
+records_from version [] = []
+records_from version (entry ∷ entries) = record_bytes version entry ++ records_from (next_version version entry) entries
+
+-- the version of the record behind all of these
+abbrev pub version_behind : ℕ → List Entry → ℕ
+version_behind version [] = version
+version_behind version (entry ∷ entries) = version_behind (next_version version entry) entries
 
 -- a journal
 abbrev pub journal_bytes : ℕ → ℕ → List Entry → List ℕ
-journal_bytes version node entries = header_bytes version node ++ records_bytes entries
+journal_bytes version node entries = header_bytes version node ++ records_from version entries
 
 abbrev pub AreEntries : ℕ → List Entry → Type 0
-AreEntries version entries = AllByRecursion (IsEntry version) entries
+AreEntries version [] = Unit {0}
+AreEntries version (entry ∷ entries) = IsEntry version entry × AreEntries (next_version version entry) entries
 
 -- bytes that begin a header and are shorter than it
 pub record IsTornHeader (bytes : List ℕ) : Type 0 where
@@ -128,19 +141,21 @@ pub record IsFirstWrong (right bytes : List ℕ) (at : ℕ) : Type 0 where
   pub same : take at bytes ≡ take at right
   pub wrong : slice_index bytes at ≢ slice_index right at
 
--- The bytes go along with some body as far as both go: they begin one, or begin with one.
-abbrev pub GoesAlong : List ℕ → Type 0
-GoesAlong bytes = (entry : Entry) × (more : List ℕ) × IsEntry 1 entry × ((bytes ++ more ≡ body_bytes entry) ⊎ (bytes ≡ body_bytes entry ++ more))
+-- The bytes go along with some body of this version as far as both go: they begin one, or begin with one.
+abbrev pub GoesAlong : ℕ → List ℕ → Type 0
+GoesAlong version bytes =
+    (entry : Entry) × (more : List ℕ) × IsEntry version entry
+    × ((bytes ++ more ≡ body_bytes version entry) ⊎ (bytes ≡ body_bytes version entry ++ more))
 
 -- the first byte of a body with which it goes along with no body of any length
-abbrev pub IsWrongByte : List ℕ → ℕ → Type 0
-IsWrongByte body at = (at < length body) × GoesAlong (take at body) × (GoesAlong (take (at + 1) body) → ⊥)
+abbrev pub IsWrongByte : ℕ → List ℕ → ℕ → Type 0
+IsWrongByte version body at = (at < length body) × GoesAlong version (take at body) × (GoesAlong version (take (at + 1) body) → ⊥)
 
 -- A record's body that is no spelling, and where, counted from the first byte of its length: at its first wrong
 -- byte. Where there is none, a body is spelled, but is shorter or longer than the length says: the length is wrong.
-pub record IsBadBody (body : List ℕ) (place : ℕ) : Type 0 where
-  pub unspelled : (entry : Entry) → IsEntry 1 entry → body ≢ body_bytes entry
-  pub wrong : ((at : ℕ) × (place ≡ 4 + at) × IsWrongByte body at) ⊎ ((place ≡ 0) × GoesAlong body)
+pub record IsBadBody (version : ℕ) (body : List ℕ) (place : ℕ) : Type 0 where
+  pub unspelled : (entry : Entry) → IsEntry version entry → body ≢ body_bytes version entry
+  pub wrong : ((at : ℕ) × (place ≡ 4 + at) × IsWrongByte version body at) ⊎ ((place ≡ 0) × GoesAlong version body)
 
 -- the first whole record that is no spelling: a journal stands before it, and there it goes wrong
 pub record IsBadRecord (bytes : List ℕ) (at : ℕ) : Type 0 where
@@ -152,7 +167,7 @@ pub record IsBadRecord (bytes : List ℕ) (at : ℕ) : Type 0 where
   pub length_fits : length body < 2 ^ 32
   pub follows : drop start bytes ≡ framed body ++ more
   pub place : ℕ
-  pub bad : IsBadBody body place
+  pub bad : IsBadBody (version_behind 1 before) body place
   pub at_place : at ≡ start + place
 
 -- where bytes go wrong: in the header, whose node may be any, or in a whole record

@@ -7,5 +7,6 @@ pub mod Labels
 pub mod MessageSpelling
 pub mod Principals
 pub mod Sinks
+pub mod Tids
 pub mod Tokens
 pub mod formers

@@ -48,6 +48,10 @@ kind_and_body (messages.Inquire tid) = 9 ∷ tid_bytes tid
 abbrev pub message_bytes : ℕ → Message → List ℕ
 message_bytes version m = version ∷ kind_and_body m
 
+-- the spelling in version 1, the one that is sent
+abbrev pub spelled : Message → List ℕ
+spelled m = message_bytes 1 m
+
 -- what the numbers and counts of a body keep
 abbrev pub IsBody : ℕ → Message → Type 0
 IsBody version (messages.Fetch tid oid) = IsTid tid × IsOid oid

@@ -1,5 +1,5 @@
 -- What a call does to a sink, and when it may fail.
-use Rattle.std.specs.Prelude.{◌≢◌, ℕ, zero, suc, ◌≤◌, List, [], take, Option, Result, Ok, Err}
+use Rattle.std.specs.Prelude.{◌≡◌, ℕ, ◌<◌, ◌≤◌, List, length, take, Option, Result, Ok, Err}
 use Rattle.std.specs.Io.KnownBytes.{Keeps, Appends}
 use Rattle.fab_base.specs.Faults.{Rose}
 use Rattle.fab_base.specs.declared.outside.traits.SinkError.{SinkError}
@@ -11,14 +11,14 @@ SinkTakes old new (Ok n) piece = Appends old new (take n piece)
 SinkTakes old new (Err Failed) piece = (n : ℕ) × Appends old new (take n piece)
 SinkTakes old new (Err Memory) piece = Keeps old new
 
--- a failure raises the count, and so does a piece of which nothing was taken
-abbrev pub RaisesOnFault : Result ℕ SinkError → List ℕ → ℕ → ℕ → Type 0
-RaisesOnFault (Ok zero) piece before now = piece ≢ [] → Rose before now
-RaisesOnFault (Ok (suc n)) piece before now = Unit {0}
-RaisesOnFault (Err Failed) piece before now = Rose before now
-RaisesOnFault (Err Memory) piece before now = Unit {0}
+-- a call failed, or took nothing of a piece that isn't empty; want of memory is no fault
+abbrev pub IsFault : Result ℕ SinkError → List ℕ → Type 0
+IsFault (Ok n) piece = (n ≡ 0) × (0 < length piece)
+IsFault (Err Failed) piece = Unit {0}
+IsFault (Err Memory) piece = ⊥
 
--- the count never falls, and a fault raises it
+-- the count never falls, a fault raises it, and nothing else does
 pub record SinkCause (before now : ℕ) (result : Result ℕ SinkError) (piece : List ℕ) : Type 0 where
   pub later : before ≤ now
-  pub failed : RaisesOnFault result piece before now
+  pub failed : IsFault result piece → Rose before now
+  pub unfailed : (IsFault result piece → ⊥) → now ≡ before

@@ -15,6 +15,10 @@ pub record IsFrontFrom (keep : ℕ) (old new : List ℕ) : Type 0 where
   pub longer : keep ≤ length new
   pub front : take (length new) old ≡ new
 
+-- a crash may leave this of a journal that holds so much: a front of it with all synced bytes
+abbrev pub MayLeave : List ℕ → ℕ → List ℕ → Type 0
+MayLeave content synced left = IsFrontFrom synced content left
+
 -- the count never falls, a failure raises it, and nothing else does
 pub record JournalCause {T : Type 0} (before now : ℕ) (result : Result T JournalError) : Type 0 where
   pub later : before ≤ now

@@ -1,3 +1,4 @@
 pub mod Crash
 pub mod EntryReading
+pub mod Lengths
 pub mod Records

@@ -19,9 +19,9 @@ AnswersOnly (Err (Bad at)) entries len = ⊥
 
 -- the entry whose body this is, or where it goes wrong
 abbrev pub ReadsBody : Result Entry RecordError → List ℕ → Type 0
-ReadsBody (Ok entry) body = IsEntry 1 entry × (body ≡ body_bytes entry)
+ReadsBody (Ok entry) body = IsEntry 1 entry × (body ≡ body_bytes 1 entry)
 ReadsBody (Err Memory) body = Unit {0}
-ReadsBody (Err (Bad place)) body = IsBadBody body place × (place < 4 + length body)
+ReadsBody (Err (Bad place)) body = IsBadBody 1 body place × (place < 4 + length body)
 
 -- the body of the whole record that stands at the front, where there is one
 abbrev pub FrontRecord : Option (List ℕ) → List ℕ → Type 0

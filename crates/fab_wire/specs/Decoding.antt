@@ -1,5 +1,5 @@
 -- What decode answers.
-use Rattle.std.specs.Prelude.{◌≡◌, ℕ, List, Result, Ok, Err}
+use Rattle.std.specs.Prelude.{◌≡◌, ℕ, List, Option, Some, None, Result, Ok, Err}
 use Rattle.fab_base.specs.declared.message.Message.{Message}
 use Rattle.fab_base.specs.MessageSpelling.{IsReadAs, IsBadPlace}
 use Rattle.fab_wire.specs.declared.error.DecodeError.{DecodeError}
@@ -20,3 +20,9 @@ abbrev pub RefusesRightly : List ℕ → Result Message DecodeError → Type 0
 RefusesRightly bytes (Ok m) = Unit {0}
 RefusesRightly bytes (Err errors.Memory) = Unit {0}
 RefusesRightly bytes (Err (errors.Bad at)) = IsBadPlace bytes at
+
+-- the message that was read, or none, unless memory ran out
+abbrev pub AnswersMessage : Result Message DecodeError → Option Message → Type 0
+AnswersMessage (Ok m) read = read ≡ Some m
+AnswersMessage (Err errors.Memory) read = Unit {0}
+AnswersMessage (Err (errors.Bad at)) read = read ≡ None

@@ -1,6 +1,6 @@
 -- Reading from left to right. A reader answers what it read and the bytes after it, or the number of bytes that
 -- are left where the first wrong byte stands, none where the bytes end too early.
-use Rattle.std.specs.Prelude.{◌≡◌, ℕ, zero, suc, ◌+◌, ◌*◌, List, [], ◌∷◌, length, drop, Result, Ok, Err, nat_lt, nat_le, ◌&&◌, ◌==◌, if◌then◌else◌}
+use Rattle.std.specs.Prelude.{◌≡◌, ℕ, zero, suc, ◌+◌, ◌*◌, Bool, true, List, [], ◌∷◌, length, drop, Option, None, Result, Ok, Err, result_ok, nat_lt, nat_le, ◌&&◌, ◌==◌, if◌then◌else◌}
 use Rattle.std.specs.Int.{w32, cast_signed}
 use Rattle.byteorder.specs.Endian.{big_number}
 use Rattle.fab_base.specs.declared.object.Tid.{Tid}
@@ -15,6 +15,7 @@ use Rattle.fab_base.specs.declared.message.Answer.{Answer}
 use Rattle.fab_base.specs.declared.message.Answer.TheVariants as answers
 use Rattle.fab_base.specs.declared.message.Message.{Message}
 use Rattle.fab_base.specs.declared.message.Message.TheVariants as messages
+use Rattle.fab_base.specs.MessageSpelling.{byte_limit}
 use Rattle.fab_wire.specs.declared.stop.Stop.{Stop}
 use Rattle.fab_wire.specs.declared.stop.Stop.TheVariants as stops
 
@@ -146,3 +147,12 @@ unfoldable pub all_of : List ℕ → Result Message ℕ
 all_of bytes = do
   m ← message_at bytes
   if length m.1 == 0 then Ok m.0 else Err (length m.1)
+
+-- each of these numbers is a byte
+abbrev pub are_bytes : List ℕ → Bool
+are_bytes [] = true
+are_bytes (b ∷ bytes) = nat_lt b 256 && are_bytes bytes
+
+-- the message that a list is read as, none where it is longer than the limit or spells none
+unfoldable pub read_message : List ℕ → Option Message
+read_message bytes = if nat_le (length bytes) byte_limit && are_bytes bytes then result_ok (all_of bytes) else None
