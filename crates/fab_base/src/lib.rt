@@ -9,6 +9,7 @@ mod label;
 mod limit;
 mod message;
 mod object;
+mod order;
 mod outside;
 mod seq;
 mod text;
@@ -21,6 +22,7 @@ pub use label::{Label, Policy};
 pub use limit::What;
 pub use message::{Answer, Items, Message, Why};
 pub use object::{Object, Oid, Stop, Tid, Value};
+pub use order::above_is_the_derived_order;
 pub use outside::{
     Failed, FailingCalls, MemSink, MemSource, Sink, SinkError, Source, StdSink, StdSource,
     SureSink, SureSource, sure_objects_never_fail,

@@ -102,12 +102,12 @@ impl Source for MemSource {
         ensures bound { ReadsAtMost result buf.new }
         ensures bytes { ReadConsumes (Some self.old.content) (Some self.new.content) result buf.new }
         ensures cause { HasCause self.old.calls.faults self.new.calls.faults result }
+        ensures success { OnOk result (self.new.calls.faults ≡ self.old.calls.faults) }
 
         // It fails exactly where it is listed.
         ensures listed { IsErr result ↔ Contains self.old.calls.fails (next_call self.old.calls) }
         ensures counted { self.new.calls.made ≡ next_call self.old.calls }
         ensures list { self.new.calls.fails ≡ self.old.calls.fails }
-        ensures unfailed { OnOk result (self.new.calls.faults ≡ self.old.calls.faults) }
     {
         if self.calls.count() {
             return Err(Failed);

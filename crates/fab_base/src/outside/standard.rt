@@ -1,6 +1,9 @@
 //! The trusted edge: any reader and writer of std. They tell of their content what these tell,
 //! which is nothing for the standard streams.
-ghost use Rattle.std.specs.Prelude.{◌≡◌};
+ghost use Rattle.std.specs.Prelude.{◌≡◌, OnErr, IsErrOf};
+ghost use Rattle.std.specs.Io.{WritesAtMost};
+ghost use Rattle.std.specs.Io.KnownBytes.{Keeps};
+ghost use Rattle.fab_base.specs.Sinks.{SinkTakes, SinkCause};
 
 use crate::outside::traits::{Failed, Sink, SinkError, Source};
 use std::io::{Read, Write};
@@ -58,7 +61,15 @@ impl<W: Write> Sink for StdSink<W> {
 
     ghost faults = { λ s. s.faults };
 
-    fn write(&mut self, piece: &[u8]) -> Result<usize, SinkError> {
+    fn write(&mut self, piece: &[u8]) -> Result<usize, SinkError>
+        ensures bound { WritesAtMost result piece.now }
+        ensures bytes { SinkTakes (W.contents self.old.inner) (W.contents self.new.inner) result piece.now }
+        ensures cause { SinkCause self.old.faults self.new.faults result piece.now }
+
+        // It wants no memory, and a writer that fails took nothing.
+        ensures never { IsErrOf result SinkError.Memory → ⊥ }
+        ensures nothing { OnErr result (Keeps (W.contents self.old.inner) (W.contents self.new.inner)) }
+    {
         match self.inner.write(piece) {
             Ok(0) => {
                 if !piece.is_empty() {

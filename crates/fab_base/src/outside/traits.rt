@@ -1,4 +1,4 @@
-ghost use Rattle.std.specs.Prelude.{◌≡◌, ℕ, List, Option};
+ghost use Rattle.std.specs.Prelude.{◌≡◌, ℕ, List, Option, OnOk};
 ghost use Rattle.std.specs.Io.{ReadsAtMost, WritesAtMost};
 ghost use Rattle.std.specs.Io.KnownBytes.{ReadConsumes};
 ghost use Rattle.fab_base.specs.Faults.{HasCause};
@@ -39,7 +39,7 @@ pub trait Source {
     /// What is left, where it tells that.
     ghost left: { Self → Option (List ℕ) };
 
-    /// How often it has failed. The count stays at its last value, 2^64 - 1.
+    /// How often it has failed. The count stays at its last value, 2^64 - 1, and a success leaves it.
     ghost faults: { Self → ℕ };
 
     /// Reads the next bytes into the front of the buffer, and answers how many. 0 for a buffer
@@ -47,7 +47,8 @@ pub trait Source {
     fn read(&mut self, buf: &mut [u8]) -> Result<usize, Failed>
         ensures bound { ReadsAtMost result buf.new }
         ensures bytes { ReadConsumes (left self.old) (left self.new) result buf.new }
-        ensures cause { HasCause (faults self.old) (faults self.new) result };
+        ensures cause { HasCause (faults self.old) (faults self.new) result }
+        ensures success { OnOk result (faults self.new ≡ faults self.old) };
 }
 
 /// Where bytes go.
@@ -55,7 +56,7 @@ pub trait Sink {
     /// What was written, where it tells that.
     ghost written: { Self → Option (List ℕ) };
 
-    /// How often it has failed. The count stays at its last value, 2^64 - 1.
+    /// How often it has failed. The count stays at its last value, 2^64 - 1, and at all but a fault.
     ghost faults: { Self → ℕ };
 
     /// Takes a front of the piece, and answers how many bytes. 0 for a piece that isn't empty is
