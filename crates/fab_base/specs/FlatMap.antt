@@ -1,5 +1,6 @@
 -- The flat map: objects by name, in the order of names.
 use Rattle.std.specs.Prelude.{ℕ, Bool, true, false, ◌||◌, ◌&&◌, ◌==◌, nat_lt, List, [], ◌∷◌, Option, Some, None, if◌then◌else◌}
+use Rattle.std.specs.List.{list_any}
 use Rattle.std.specs.Str.{bytes_eq}
 use Rattle.fab_base.specs.declared.object.Oid.{Oid}
 use Rattle.fab_base.specs.declared.object.Object.{Object}
@@ -20,6 +21,10 @@ is_before o p = precedes (parts_of o) (parts_of p)
 
 abbrev pub is_same : Oid → Oid → Bool
 is_same o p = bytes_eq (parts_of o) (parts_of p)
+
+-- a name is among these
+abbrev pub is_among : Oid → List Oid → Bool
+is_among o = list_any (λ p. is_same p o)
 
 abbrev pub FlatMap : Type 0
 FlatMap = List (Oid × Object)

@@ -4,6 +4,7 @@ use Rattle.std.specs.List.{list_any}
 use Rattle.fab_base.specs.declared.object.Oid.{Oid}
 use Rattle.fab_base.specs.declared.object.Object.{Object}
 use Rattle.fab_base.specs.FlatMap.{FlatMap, get, put, is_same}
+pub use Rattle.fab_base.specs.FlatMap.{is_among}
 
 -- All objects by name, the names that were written of objects that were there before, and the names that were made
 -- in this attempt, both in the order in which they came. A failed `atomic` puts the whole of it back.
@@ -13,10 +14,6 @@ pub record Heap : Type 0 where
   pub made : List Oid
 
 -- ---- lists of names, and touches
-
--- a name is among these
-abbrev pub is_among : Oid → List Oid → Bool
-is_among o = list_any (λ p. is_same p o)
 
 abbrev pub without : Oid → List Oid → List Oid
 without o [] = []

@@ -134,7 +134,7 @@ fit_fields r rights held (f ∷ fs) (v ∷ vs) =
     (λ h. (here.0 h.0, rest.0 h.1), λ h. (here.1 h.0, rest.1 h.1))
 
 module _ (r : Resolved) (rights : Rights) (numbers : HasNumbers r)
-    (is_workers : (n : ℕ) → IsBitSet rights.workers n ↔ ((n < 64) × IsWorker r n)) (all : AllZip (IsClassRights r) r.classes rights.classes) where
+    (is_workers : (n : ℕ) → IsBitSet rights.workers n ↔ ((n < 64) × IsWorker r n)) (is_stores : (n : ℕ) → IsBitSet rights.stores n ↔ ((n < 64) × IsStore r n)) (all : AllZip (IsClassRights r) r.classes rights.classes) where
   fetched : (n c : ℕ) → IsSomeAnd (slice_get rights.classes c) (λ x. IsBitSet x.fetchers n) ↔ (IsWorker r n × IsSomeAnd (slice_get r.classes c) (λ k. FetchesClass r (delegations_of r) n k))
   fetched n c = both_iff
       (at_number (IsClassRights r) (λ x. IsBitSet x.fetchers n) (λ k. IsWorker r n × FetchesClass r (delegations_of r) n k) (λ k x is. is.fetchers n) r.classes rights.classes all c)
@@ -160,6 +160,7 @@ module _ (r : Resolved) (rights : Rights) (numbers : HasNumbers r)
       let long : length rights.classes ≡ length r.classes = AllZip-long (IsClassRights r) r.classes rights.classes all in
       record {
         workers = λ n. (λ bit. ((is_workers n).0 bit).1, λ worker. (is_workers n).1 (numbered r n numbers (there r n (λ x. is_worker x ≡ true) worker), worker));
+        stores = λ n. (λ bit. ((is_stores n).0 bit).1, λ store. (is_stores n).1 (numbered r n numbers (there r n (λ x. is_store x ≡ true) store), store));
         classes = λ c. (λ known. omega (arith, long, known), λ known. omega (arith, long, known));
         kinds = all_kinds r r.classes rights.classes all;
         fetched = fetched;

@@ -11,9 +11,9 @@ use Rattle.fab_tree.specs.declared.resolved.Field.{Field}
 use Rattle.fab_tree.specs.declared.resolved.Resolved.{Resolved}
 use Rattle.fab_language.specs.Flows.{delegations_of}
 use Rattle.fab_labelling.specs.Readers.{IsVisible, Excludes, label_at}
-use Rattle.fab_labelling.specs.Placement.{IsWorker, MayFetchNumber, MayWriteNumber, MayHoldNumber}
+use Rattle.fab_labelling.specs.Placement.{IsWorker, IsStore, MayFetchNumber, MayWriteNumber, MayHoldNumber}
 use Rattle.fab_rights.specs.declared.rights.Rights.{Rights}
-use Rattle.fab_rights.specs.Rights.{Knows, IsWorkerIn, MayFetch, MayWrite, MayHold, IsWellFormed}
+use Rattle.fab_rights.specs.Rights.{Knows, IsWorkerIn, IsStoreIn, MayFetch, MayWrite, MayHold, IsWellFormed}
 
 -- workers and stores have numbers that a mask of 64 bits holds
 abbrev pub HasNumbers : Resolved → Type 0
@@ -47,6 +47,7 @@ IsPlaced r x = IsSomeAnd (slice_get r.classes x.class) (λ c. AllZip (λ f v. Ma
 -- the rights are those of the bundle, for each node, class and object
 pub record AreRights (r : Resolved) (rights : Rights) : Type 0 where
   pub workers : (n : ℕ) → IsWorkerIn rights n ↔ IsWorker r n
+  pub stores : (n : ℕ) → IsStoreIn rights n ↔ IsStore r n
   pub classes : (c : ℕ) → Knows rights c ↔ (c < length r.classes)
   pub kinds : map (λ x. x.fields) rights.classes ≡ map (λ c. map kind_of c.fields) r.classes
   pub fetched : (n c : ℕ) → MayFetch rights n c ↔ MayFetchNumber r (delegations_of r) n c

@@ -67,5 +67,5 @@ pub fn rights(alloc: Global, start: &Resolved, acts: &Acts) -> Result<Rights, No
     for class in start.classes.as_slice() {
         classes.push(class_rights(alloc, start, acts, class)?)?;
     }
-    Ok(Rights::make(workers(start), classes))
+    Ok(Rights::make(workers(start), stores(start), classes))
 }

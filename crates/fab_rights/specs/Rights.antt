@@ -14,6 +14,10 @@ Knows r class = class < length r.classes
 abbrev pub IsWorkerIn : Rights → ℕ → Type 0
 IsWorkerIn r node = IsBitSet r.workers node
 
+-- the node of this number is a store
+abbrev pub IsStoreIn : Rights → ℕ → Type 0
+IsStoreIn r node = IsBitSet r.stores node
+
 -- ---- what a node may do with the objects of a class, where there is one of the number
 
 abbrev pub MayFetch : Rights → ℕ → ℕ → Type 0

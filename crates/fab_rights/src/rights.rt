@@ -2,7 +2,8 @@
 
 ghost use Rattle.std.specs.Prelude.{◌≡◌, ◌↔◌, IsTrue, option_copied, slice_get};
 ghost use Rattle.std.specs.List.{AllZip};
-ghost use Rattle.fab_rights.specs.Rights.{Knows, IsWorkerIn, MayFetch, MayWrite, MayHold, FitsField, IsWellFormed};
+ghost use Rattle.fab_rights.specs.Rights.{Knows, IsWorkerIn, IsStoreIn, MayFetch, MayWrite, MayHold, FitsField, IsWellFormed};
+ghost use Rattle.fab_rights.specs.Computed as computed;
 
 use crate::masks::is_in;
 use fab_base::{Object, Seq, Value};
@@ -17,19 +18,25 @@ pub struct ClassRights {
     pub fields: Seq<Option<u16>>,
 }
 
-/// Which nodes are workers, as a mask, and the rights over each class, in the order of their numbers.
+/// Which nodes are workers and which stores, as masks, and the rights over each class, in the order
+/// of their numbers.
 #[derive(Debug, Drop)]
 pub struct Rights {
     pub workers: u64,
+    pub stores: u64,
     pub classes: Seq<ClassRights>,
 }
 
 impl Rights {
-    /// The rights of these workers over these classes.
-    pub fn make(workers: u64, classes: Seq<ClassRights>) -> Rights
-        ensures { result ≡ record { workers = workers; classes = classes } }
+    /// The rights of these workers and stores over these classes.
+    pub fn make(workers: u64, stores: u64, classes: Seq<ClassRights>) -> Rights
+        ensures { result ≡ record { workers = workers; stores = stores; classes = classes } }
     {
-        Rights { workers, classes }
+        Rights {
+            workers,
+            stores,
+            classes,
+        }
     }
 
     /// The class of this number.
@@ -42,6 +49,7 @@ impl Rights {
     /// Whether there is a class of this number.
     pub fn knows(&self, class: u16) -> bool
         ensures exact { IsTrue result ↔ Knows self.now class }
+        ensures computed { result ≡ computed.knows self.now class }
     {
         usize::from(class) < self.classes.len()
     }
@@ -49,13 +57,23 @@ impl Rights {
     /// Whether the node of this number is a worker.
     pub fn is_worker(&self, node: u16) -> bool
         ensures exact { IsTrue result ↔ IsWorkerIn self.now node }
+        ensures computed { result ≡ computed.is_worker self.now node }
     {
         is_in(self.workers, node)
+    }
+
+    /// Whether the node of this number is a store.
+    pub fn is_store(&self, node: u16) -> bool
+        ensures exact { IsTrue result ↔ IsStoreIn self.now node }
+        ensures computed { result ≡ computed.is_store self.now node }
+    {
+        is_in(self.stores, node)
     }
 
     /// Whether the worker may fetch objects of the class.
     pub fn may_fetch(&self, worker: u16, class: u16) -> bool
         ensures exact { IsTrue result ↔ MayFetch self.now worker class }
+        ensures computed { result ≡ computed.may_fetch self.now worker class }
     {
         match self.class(class) {
             Some(rights) => is_in(rights.fetchers, worker),
@@ -66,6 +84,7 @@ impl Rights {
     /// Whether the worker may write and make objects of the class.
     pub fn may_write(&self, worker: u16, class: u16) -> bool
         ensures exact { IsTrue result ↔ MayWrite self.now worker class }
+        ensures computed { result ≡ computed.may_write self.now worker class }
     {
         match self.class(class) {
             Some(rights) => is_in(rights.writers, worker),
@@ -76,6 +95,7 @@ impl Rights {
     /// Whether the store may hold objects of the class.
     pub fn may_hold(&self, store: u16, class: u16) -> bool
         ensures exact { IsTrue result ↔ MayHold self.now store class }
+        ensures computed { result ≡ computed.may_hold self.now store class }
     {
         match self.class(class) {
             Some(rights) => is_in(rights.holders, store),
@@ -85,7 +105,8 @@ impl Rights {
 
     /// Whether a field of this kind may hold the value.
     fn fits(&self, kind: Option<u16>, value: Value) -> bool
-        ensures { IsTrue result ↔ FitsField self.now kind value }
+        ensures exact { IsTrue result ↔ FitsField self.now kind value }
+        ensures computed { result ≡ computed.fits_field self.now kind value }
     {
         match (kind, value) {
             (None, Value::Int(_)) => true,
@@ -99,7 +120,8 @@ impl Rights {
 
     /// Whether there are as many values as fields, each of its field's kind.
     fn all_fit(&self, kinds: &[Option<u16>], values: &[Value]) -> bool
-        ensures { IsTrue result ↔ AllZip (FitsField self.now) kinds.now values.now }
+        ensures exact { IsTrue result ↔ AllZip (FitsField self.now) kinds.now values.now }
+        ensures computed { result ≡ computed.fit_fields self.now kinds.now values.now }
     {
         let (mut wanted, mut given) = (kinds, values);
         while let Some((kind, other_kinds)) = wanted.split_first() {
@@ -119,6 +141,7 @@ impl Rights {
     /// store that may hold what it leads to.
     pub fn well_formed(&self, object: &Object) -> bool
         ensures exact { IsTrue result ↔ IsWellFormed self.now object.now }
+        ensures computed { result ≡ computed.is_well_formed self.now object.now }
     {
         match self.class(object.class) {
             Some(rights) => self.all_fit(rights.fields.as_slice(), object.fields.as_slice()),

@@ -22,5 +22,5 @@ returns c =
     let same : c.as_slice-class-items.result.now ≡ r.classes = c.as_slice-class-items.ensures in
     let past : length r.classes ≤ c.loop-class.class-index = omega (arith, ap length same) in
     let all : AllZip (IsClassRights r) r.classes c.loop-class.classes = subst (λ (cs : List Class). AllZip (IsClassRights r) cs c.loop-class.classes) (take_all c.loop-class.class-index r.classes past) c.loop-class.invariant in
-    let are : AreRights r (record { workers = c.workers.result; classes = c.loop-class.classes }) = rights_are r (record { workers = c.workers.result; classes = c.loop-class.classes }) c.requires.numbers c.workers.ensures all in
+    let are : AreRights r (record { workers = c.workers.result; stores = c.stores.result; classes = c.loop-class.classes }) = rights_are r (record { workers = c.workers.result; stores = c.stores.result; classes = c.loop-class.classes }) c.requires.numbers c.workers.ensures c.stores.ensures all in
     record { exact = subst (λ (rights : Rights). AreRights r rights) (sym c.make.ensures) are }

@@ -1,0 +1,2 @@
+mod StoreExamples
+pub mod Toy

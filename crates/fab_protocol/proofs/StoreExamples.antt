@@ -1,0 +1,218 @@
+-- A store alone: each reason to refuse, in order; what is dropped; what a new boot frees.
+use Rattle.std.proofs.Common.{◌≡◌, ◌≤◌, ℕ, length, List, [], ◌∷◌, ◌++◌, map, pos, None, refl, lit≤, true, false, true≢false}
+use Rattle.fab_base.specs.declared.object.Oid.{Oid}
+use Rattle.fab_base.specs.declared.object.Object.{Object as Thing}
+use Rattle.fab_base.specs.declared.object.Tid.{Tid}
+use Rattle.fab_base.specs.declared.message.Items.{Items}
+use Rattle.fab_base.specs.declared.message.Message.TheVariants.{Fetch, Object, Deny, Prepare, Commit, Boot, Inquire}
+use Rattle.fab_base.specs.declared.message.Answer.{Answer}
+use Rattle.fab_base.specs.declared.message.Answer.TheVariants as answer
+use Rattle.fab_base.specs.declared.message.Why.TheVariants as why
+use Rattle.fab_base.specs.declared.entry.Entry.TheVariants as e
+use Rattle.std.specs.List.{AllByRecursion}
+use Rattle.std.proofs.lemmas.List.Elements.{All-from_recursion}
+use Rattle.fab_base.specs.FieldSpelling.{KeepsItems}
+use Rattle.fab_base.specs.Tids.{is_above}
+use Rattle.fab_protocol.specs.Stores.{Shelf, shelf_at_start, keeps, vote, says, asks, silent, replies, votes, start_of, last_of}
+use Rattle.fab_protocol.specs.Shelves.{IsShelf}
+use Rattle.fab_protocol.proofs.Toy.{account, box, holding, accounts, attempt, made, rights}
+
+abbrev t : Tid
+t = attempt 0 1 1
+
+abbrev other : Tid
+other = attempt 3 1 1
+
+abbrev S : Shelf
+S = shelf_at_start (accounts (pos 100) (pos 0)) 1
+
+abbrev items : List (Oid × ℕ) → List (Oid × ℕ × Thing) → List (Oid × Thing) → Items
+items reads writes creates = record { reads = reads; writes = writes; creates = creates }
+
+abbrev one : Thing
+one = holding (pos 1)
+
+-- what store 1 votes on these items of worker 0's first attempt
+abbrev voted : Shelf → List (Oid × ℕ) → List (Oid × ℕ × Thing) → List (Oid × Thing) → Answer
+voted shelf reads writes creates = vote rights 1 0 t (items reads writes creates) shelf
+
+-- ---- reasons
+
+current_is_fine : voted S ((account 0, 1) ∷ []) ((account 1, 1, one) ∷ []) ((made t, one) ∷ []) ≡ answer.Yes
+current_is_fine = refl
+
+other_store : voted S ((box, 1) ∷ []) [] [] ≡ answer.IllFormed box
+other_store = refl
+
+unknown_class : voted S ((record (account 0) { class = 7 }, 1) ∷ []) [] [] ≡ answer.IllFormed (record (account 0) { class = 7 })
+unknown_class = refl
+
+out_of_order : voted S ((account 1, 1) ∷ (account 0, 1) ∷ []) [] [] ≡ answer.IllFormed (account 0)
+out_of_order = refl
+
+twice : voted S [] ((account 0, 1, one) ∷ (account 0, 1, one) ∷ []) [] ≡ answer.IllFormed (account 0)
+twice = refl
+
+in_earlier_list : voted S ((account 0, 1) ∷ []) ((account 0, 1, one) ∷ []) [] ≡ answer.IllFormed (account 0)
+in_earlier_list = refl
+
+other_class : voted S [] ((account 0, 1, record one { class = 1 }) ∷ []) [] ≡ answer.IllFormed (account 0)
+other_class = refl
+
+field_too_few : voted S [] ((account 0, 1, record one { fields = [] }) ∷ []) [] ≡ answer.IllFormed (account 0)
+field_too_few = refl
+
+not_of_the_attempt : voted S [] [] ((made (attempt 0 1 2), one) ∷ []) ≡ answer.IllFormed (made (attempt 0 1 2))
+not_of_the_attempt = refl
+
+rights_before_versions : vote rights 1 2 (attempt 2 1 1) (items ((account 0, 9) ∷ []) [] []) S ≡ answer.Rights (account 0)
+rights_before_versions = refl
+
+stale_read : voted S ((account 0, 2) ∷ []) [] [] ≡ answer.Stale (account 0) 1
+stale_read = refl
+
+not_there : voted S ((account 9, 0) ∷ []) [] [] ≡ answer.Stale (account 9) 0
+not_there = refl
+
+reads_first : voted S ((account 1, 9) ∷ []) ((account 0, 9, one) ∷ []) [] ≡ answer.Stale (account 1) 1
+reads_first = refl
+
+writes_before_creates : voted S [] ((account 0, 9, one) ∷ []) ((account 9, one) ∷ []) ≡ answer.Stale (account 0) 1
+writes_before_creates = refl
+
+there_already : voted (record S { rows = S.rows ++ (made t, 1, one) ∷ [] }) [] [] ((made t, one) ∷ []) ≡ answer.Exists (made t)
+there_already = refl
+
+-- ---- locks
+
+abbrev holds : Items → Shelf
+holds these = keeps (e.Prepared other these) S
+
+reader_bars_writer : voted (holds (items ((account 0, 1) ∷ []) [] [])) [] ((account 0, 1, one) ∷ []) [] ≡ answer.Locked other
+reader_bars_writer = refl
+
+writer_bars_reader : voted (holds (items [] ((account 0, 1, one) ∷ []) [])) ((account 0, 1) ∷ []) [] [] ≡ answer.Locked other
+writer_bars_reader = refl
+
+readers_share : voted (holds (items ((account 0, 1) ∷ []) [] [])) ((account 0, 1) ∷ []) [] [] ≡ answer.Yes
+readers_share = refl
+
+prepared_is_no_row : (holds (items [] ((account 0, 1, one) ∷ []) [])).rows ≡ S.rows
+prepared_is_no_row = refl
+
+-- ---- fetches
+
+missing_elsewhere : says rights 1 0 (Fetch t box) S ≡ replies 0 (Deny t box why.Missing)
+missing_elsewhere = refl
+
+rights_before_missing : says rights 1 2 (Fetch (attempt 2 1 1) (account 9)) S ≡ replies 2 (Deny (attempt 2 1 1) (account 9) why.Rights)
+rights_before_missing = refl
+
+missing_here : says rights 1 0 (Fetch t (account 9)) S ≡ replies 0 (Deny t (account 9) why.Missing)
+missing_here = refl
+
+fetched : says rights 1 0 (Fetch t (account 0)) S ≡ replies 0 (Object t (account 0) 1 (holding (pos 100)))
+fetched = refl
+
+-- ---- what is dropped
+
+abbrev P : Shelf
+P = keeps (e.Prepared t (items [] ((account 0, 1, one) ∷ []) ((made t, one) ∷ []))) (holds (items ((account 1, 1) ∷ []) [] []))
+
+tid_of_another : says rights 1 3 (Commit t) P ≡ silent
+tid_of_another = refl
+
+from_a_store : says rights 1 4 (Boot 9) P ≡ silent
+from_a_store = refl
+
+not_prepared : says rights 1 0 (Commit (attempt 0 1 2)) P ≡ silent
+not_prepared = refl
+
+kind_of_a_store : says rights 1 0 (Inquire t) P ≡ silent
+kind_of_a_store = refl
+
+same_boot_again : says rights 1 0 (Boot 2) (keeps (e.BootSeen 0 2) P) ≡ silent
+same_boot_again = refl
+
+old_tid : says rights 1 0 (Prepare t (items [] [] [])) P ≡ votes 0 t (answer.OldTid t) None
+old_tid = refl
+
+-- a later boot is above each number of an earlier one
+later_boot : is_above (attempt 0 2 1) (attempt 0 1 5) ≡ true
+later_boot = refl
+
+earlier_boot : is_above (attempt 0 1 5) (attempt 0 2 1) ≡ false
+earlier_boot = refl
+
+-- ---- records
+
+applied : (keeps (e.Applied t) P).rows ≡ (made t, 1, one) ∷ (account 0, 2, one) ∷ (account 1, 1, holding (pos 0)) ∷ []
+applied = refl
+
+applied_is_gone : map (λ p. p.0) (keeps (e.Applied t) P).prepared ≡ other ∷ []
+applied_is_gone = refl
+
+released : (keeps (e.Released t) P).rows ≡ P.rows
+released = refl
+
+boot_frees_its_own : map (λ p. p.0) (keeps (e.BootSeen 0 2) P).prepared ≡ other ∷ []
+boot_frees_its_own = refl
+
+boot_sets_last : last_of (keeps (e.BootSeen 0 2) P) 0 ≡ start_of 0 2
+boot_sets_last = refl
+
+asks_in_order : (asks P).sends ≡ (3, Inquire other) ∷ (0, Inquire t) ∷ []
+asks_in_order = refl
+
+-- ---- what holds of shelves
+
+start_is_shelf : IsShelf rights 1 S
+start_is_shelf = record {
+  ascending = refl;
+  rows_here = (refl, (refl, tt));
+  versions = (lit≤ tt, (lit≤ tt, tt));
+  senders = tt;
+  tids = tt;
+  items_here = tt;
+  current = tt;
+  apart = tt;
+  fields = (lit≤ tt, (lit≤ tt, tt));
+  counts = tt;
+  remembered = refl;
+}
+
+-- items whose counts are few, and whose objects have few fields
+few : (these : Items) → length these.reads ≤ 1024 → length these.writes ≤ 256 → AllByRecursion (λ (w : Oid × ℕ × Thing). length w.2.fields ≤ 16) these.writes
+    → length these.creates ≤ 256 → AllByRecursion (λ (c : Oid × Thing). length c.1.fields ≤ 16) these.creates → KeepsItems these
+few these reads writes written creates created = record {
+  reads = reads;
+  writes = writes;
+  written = All-from_recursion (λ (w : Oid × ℕ × Thing). length w.2.fields ≤ 16) these.writes written;
+  creates = creates;
+  created = All-from_recursion (λ (c : Oid × Thing). length c.1.fields ≤ 16) these.creates created;
+}
+
+prepared_is_shelf : IsShelf rights 1 P
+prepared_is_shelf = record {
+  ascending = refl;
+  rows_here = (refl, (refl, tt));
+  versions = (lit≤ tt, (lit≤ tt, tt));
+  senders = (refl, (refl, tt));
+  tids = (refl, (refl, tt));
+  items_here = ((refl, tt), ((refl, (refl, tt)), tt));
+  current = ((refl, tt), ((refl, (refl, tt)), tt));
+  apart = (((refl, (refl, tt)), tt), (tt, tt));
+  fields = (lit≤ tt, (lit≤ tt, tt));
+  counts = (
+    few (items ((account 1, 1) ∷ []) [] []) (lit≤ tt) (lit≤ tt) tt (lit≤ tt) tt,
+    (few (items [] ((account 0, 1, one) ∷ []) ((made t, one) ∷ [])) (lit≤ tt) (lit≤ tt) (lit≤ tt, tt) (lit≤ tt) (lit≤ tt, tt), tt),
+  );
+  remembered = refl;
+}
+
+-- two that write one object don't make one
+abbrev writes_one : Items
+writes_one = items [] ((account 0, 1, one) ∷ []) []
+
+two_writers : IsShelf rights 1 (keeps (e.Prepared t writes_one) (holds writes_one)) → ⊥
+two_writers h = true≢false (h.apart.0.0.1.0)

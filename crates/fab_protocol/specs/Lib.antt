@@ -1,0 +1,4 @@
+pub mod Tables
+pub mod Versions
+pub mod Stores
+pub mod Shelves

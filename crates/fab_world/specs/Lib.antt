@@ -1,0 +1,4 @@
+pub mod Attempts
+pub mod Workers
+pub mod Machine
+pub mod Serial

@@ -1,0 +1,323 @@
+-- A worker: what lasts of it, its attempt, and what it does at each event.
+use Rattle.std.specs.Prelude.{◌≡◌, ℕ, suc, ◌≤◌, IsTrue, ◌-◌, Bool, true, false, not, ◌&&◌, ◌||◌, ◌==◌, nat_lt}
+use Rattle.std.specs.Prelude.{if◌then◌else◌, List, [], ◌∷◌, ◌++◌, map, length, drop, Option, Some, None, fold, slice_get, unwrap_or}
+use Rattle.std.specs.List.{filter, flat_map, list_any, range_with_len, AllByRecursion}
+use Rattle.fab_base.specs.declared.object.Oid.{Oid}
+use Rattle.fab_base.specs.declared.object.Object.{Object}
+use Rattle.fab_base.specs.declared.object.Tid.{Tid}
+use Rattle.fab_base.specs.declared.object.Value.{Value}
+use Rattle.fab_base.specs.declared.object.Stop.TheVariants as stop
+use Rattle.fab_base.specs.declared.message.Why.{Why}
+use Rattle.fab_base.specs.declared.message.Why.TheVariants as why
+use Rattle.fab_base.specs.declared.message.Answer.{Answer}
+use Rattle.fab_base.specs.declared.message.Answer.TheVariants.{Yes}
+use Rattle.fab_base.specs.declared.message.Message.{Message}
+use Rattle.fab_base.specs.declared.message.Message.TheVariants as m
+use Rattle.fab_base.specs.declared.entry.Entry.{Entry}
+use Rattle.fab_base.specs.declared.entry.Entry.TheVariants as e
+use Rattle.fab_base.specs.FlatMap.{is_same}
+use Rattle.fab_base.specs.Tids.{is_above}
+use Rattle.fab_language.specs.declared.ending.Ending.{Ending}
+use Rattle.fab_language.specs.declared.ending.Ending.TheVariants as endings
+use Rattle.fab_language.specs.Meaning.{Meant}
+use Rattle.fab_net.specs.declared.outcome.Denial.TheVariants.{Rights as NoRights, IllFormed}
+use Rattle.fab_net.specs.declared.outcome.ReqOutcome.{ReqOutcome}
+use Rattle.fab_net.specs.declared.outcome.ReqOutcome.TheVariants.{Committed, Failed, Conflict, Silent, Denied, Stopped, Unfinished}
+use Rattle.fab_net.specs.declared.note.Note.{Note}
+use Rattle.fab_net.specs.declared.note.Note.TheVariants as note
+use Rattle.fab_rights.specs.declared.rights.Rights.{Rights}
+use Rattle.fab_rights.specs.Computed.{is_store, stores_in, suits}
+use Rattle.fab_protocol.specs.Tables.{row_of}
+use Rattle.fab_protocol.specs.Versions.{Row, Rows, name_of, version_of, is_tid, maker_of}
+use Rattle.fab_world.specs.Attempts.{parts_of, Parts, stores_of, items_at, puts_of, last_distinct}
+
+-- a number is among these
+abbrev pub is_in : ℕ → List ℕ → Bool
+is_in n ns = list_any (λ m. m == n) ns
+
+-- ---- what lasts: the fold of the records
+
+pub record Decision : Type 0 where
+  pub tid : Tid
+  pub request : ℕ
+  pub stores : List ℕ
+  pub value : Option Value
+
+-- the boot, which is 1 and one more per Boot record, whatever its number; the decisions; the outcomes of requests 1, 2, ..
+pub record Kept : Type 0 where
+  pub boot : ℕ
+  pub decided : List Decision
+  pub outcomes : List ReqOutcome
+
+-- the request that is next, or at work
+abbrev pub request_of : Kept → ℕ
+request_of kept = suc (length kept.outcomes)
+
+-- the outcomes that a Closed record numbers from 1, at the node that it names
+abbrev pub closings : ℕ → List ReqOutcome
+closings n =
+    Failed ∷ Conflict ∷ Silent n ∷ Denied n NoRights ∷ Denied n IllFormed
+    ∷ Stopped stop.Fuel ∷ Stopped stop.Depth ∷ Stopped stop.Reads ∷ Stopped stop.Writes ∷ []
+
+abbrev pub keeps_w : Entry → Kept → Kept
+keeps_w (e.Decided t request value stores) kept = record kept {
+  decided = kept.decided ++ record { tid = t; request = request; stores = stores; value = value } ∷ [];
+  outcomes = kept.outcomes ++ Committed t value ∷ [];
+}
+keeps_w (e.Closed request code node) kept = record kept { outcomes = kept.outcomes ++ unwrap_or (slice_get (closings node) (code - 1)) Unfinished ∷ [] }
+keeps_w (e.Boot b) kept = record kept { boot = suc kept.boot }
+keeps_w _ kept = kept
+
+unfoldable pub kept_of : List Entry → Kept
+kept_of entries = fold (λ kept entry. keeps_w entry kept) (record { boot = 1; decided = []; outcomes = [] }) entries
+
+-- the Closed record of an outcome, which names no node but a silent or denying one
+abbrev pub closed : ℕ → ReqOutcome → Entry
+closed request Failed = e.Closed request 1 65535
+closed request Conflict = e.Closed request 2 65535
+closed request (Silent n) = e.Closed request 3 n
+closed request (Denied n NoRights) = e.Closed request 4 n
+closed request (Denied n IllFormed) = e.Closed request 5 n
+closed request (Stopped stop.Fuel) = e.Closed request 6 65535
+closed request (Stopped stop.Depth) = e.Closed request 7 65535
+closed request (Stopped stop.Reads) = e.Closed request 8 65535
+closed request (Stopped stop.Writes) = e.Closed request 9 65535
+-- the others have no such record
+closed request _ = e.Closed request 0 65535
+
+-- the record is one that the rules give to a worker whose session has so many requests
+abbrev pub CanKeep_w : Rights → ℕ → Entry → Kept → Type 0
+CanKeep_w rights requests (e.Decided t request value stores) kept =
+    (request ≡ request_of kept) × (request ≤ requests) × AllByRecursion (λ s. IsTrue (is_store rights s)) stores
+CanKeep_w rights requests (e.Closed request code node) kept = (request ≡ request_of kept) × (request ≤ requests)
+CanKeep_w rights requests (e.Boot b) kept = Unit {0}
+CanKeep_w rights requests _ kept = ⊥
+
+-- ---- the attempt: what a crash drops
+
+-- preparing names the participants that haven't voted
+pub data Phase : Type 0 where
+  Idle : Phase
+  Evaluating : Phase
+  Fetching : Oid → Phase
+  Preparing : List ℕ → Phase
+
+-- its number in this boot; the tries of this request that ended; the answers; the caches, by store; how many touches and downgrades were noted
+pub record Attempt : Type 0 where
+  pub number : ℕ
+  pub tries : ℕ
+  pub phase : Phase
+  pub answers : Rows
+  pub caches : List Rows
+  pub told : ℕ × ℕ
+
+abbrev pub fresh : Attempt
+fresh = record { number = 0; tries = 0; phase = Idle; answers = []; caches = map (λ s. []) (range_with_len 0 64); told = (0, 0) }
+
+-- what a worker does: its record, its next attempt, what it sends to whom, in order, the notes
+pub record Act : Type 0 where
+  pub entry : Option Entry
+  pub attempt : Attempt
+  pub sends : List (ℕ × Message)
+  pub notes : List Note
+
+abbrev pub stays : Attempt → Act
+stays a = record { entry = None; attempt = a; sends = []; notes = [] }
+
+abbrev pub noting : List Note → Act → Act
+noting notes act = record act { notes = notes ++ act.notes }
+
+abbrev pub sending : List (ℕ × Message) → Act → Act
+sending sends act = record act { sends = sends ++ act.sends }
+
+abbrev pub to_all : List ℕ → Message → List (ℕ × Message)
+to_all ss message = map (λ s. (s, message)) ss
+
+-- the objects of each store among these puts into its cache, which keeps the last k distinct
+abbrev pub cached : ℕ → Rows → ℕ → List Rows → List Rows
+cached k puts s [] = []
+cached k puts s (cache ∷ caches) = last_distinct k (cache ++ filter (λ row. row.0.store == s) puts) ∷ cached k puts (suc s) caches
+
+abbrev pub look_up : Attempt → Oid → Option Row
+look_up a o = row_of name_of (unwrap_or (slice_get a.caches o.store) []) o
+
+abbrev pub tid_of : ℕ → Kept → Attempt → Tid
+tid_of n kept a = record { worker = n; boot = kept.boot; number = a.number }
+
+-- ---- events, at worker n, whose caches keep k objects each
+module _ (rights : Rights) (k n : ℕ) (kept : Kept) where
+  abbrev pub request : ℕ
+  request = request_of kept
+
+  abbrev pub tid : Attempt → Tid
+  tid a = tid_of n kept a
+
+  abbrev pub parts : Attempt → Meant → Parts
+  parts a meant = parts_of a.answers meant
+
+  -- what an evaluation touched and downgraded since the last one
+  abbrev pub new_touches : Attempt → Meant → List (ℕ × Oid × ℕ)
+  new_touches a meant = map (λ t. (t.0, t.1, version_of a.answers t.1)) (drop a.told.0 meant.touches)
+
+  abbrev pub new_downs : Attempt → Meant → List (ℕ × Value)
+  new_downs a meant = drop a.told.1 meant.downs
+
+  abbrev pub telling : Attempt → Meant → Attempt
+  telling a meant = record a { told = (length meant.touches, length meant.downs) }
+
+  -- ---- ends of an attempt
+
+  abbrev pub over : List Rows → Attempt → Attempt
+  over caches a = record a { phase = Idle; answers = []; caches = caches; told = (0, 0) }
+
+  -- without a commit: the caches are emptied
+  abbrev pub dropped : Attempt → Attempt
+  dropped a = over (map (λ cache. []) a.caches) a
+
+  abbrev pub decides : Attempt → Meant → Act
+  decides a meant = record {
+    entry = Some (e.Decided (tid a) request (parts a meant).value (stores_of (parts a meant)));
+    attempt = record (over (cached k (puts_of a.answers (parts a meant)) 0 a.caches) a) { tries = 0 };
+    sends = to_all (stores_of (parts a meant)) (m.Commit (tid a));
+    notes = note.Decided (tid a) request true a.answers ∷ note.Closed request (Committed (tid a) (parts a meant).value) ∷ [];
+  }
+
+  abbrev pub closes : ReqOutcome → Attempt → Act
+  closes outcome a = record {
+    entry = Some (closed request outcome);
+    attempt = record (dropped a) { tries = 0 };
+    sends = [];
+    notes = note.Closed request outcome ∷ [];
+  }
+
+  abbrev pub undecided : Attempt → List Note
+  undecided a = note.Decided (tid a) request false a.answers ∷ []
+
+  -- the store's answer, or its silence, ends the request
+  abbrev pub gives : ReqOutcome → Attempt → Act
+  gives outcome a = noting (undecided a) (closes outcome a)
+
+  -- the eighth try that ends so ends the request
+  abbrev pub try_ends : Attempt → Act
+  try_ends a =
+      noting (undecided a) (if suc a.tries == 8 then closes Conflict a else stays (record (dropped a) { tries = suc a.tries }))
+
+  -- ---- Begin
+
+  abbrev pub next : Attempt → Attempt
+  next a = record a { number = suc a.number; phase = Evaluating; answers = []; told = (0, 0) }
+
+  abbrev pub begins : Attempt → Act
+  begins a = noting (note.Begun (tid (next a)) request ∷ []) (stays (next a))
+
+  -- ---- Resume
+
+  abbrev pub needs : ℕ → Oid → Option Row → Attempt → Meant → Act
+  needs site o (Some row) a meant =
+      noting (note.Need (tid a) site o true (new_touches a meant) (new_downs a meant) ∷ [])
+      (stays (record (telling a meant) { answers = a.answers ++ row ∷ [] }))
+  needs site o None a meant =
+      noting (note.Need (tid a) site o false (new_touches a meant) (new_downs a meant) ∷ [])
+      (sending ((o.store, m.Fetch (tid a) o) ∷ []) (stays (record (telling a meant) { phase = Fetching o })))
+
+  -- without a participant it is decided
+  abbrev pub asks_all : List ℕ → Attempt → Meant → Act
+  asks_all [] a meant = decides a meant
+  asks_all (s ∷ ss) a meant =
+      sending (map (λ s. (s, m.Prepare (tid a) (items_at a.answers (parts a meant) s))) (s ∷ ss))
+      (stays (record (telling a meant) { phase = Preparing (s ∷ ss) }))
+
+  abbrev pub resumes_at : Ending → Attempt → Meant → Act
+  resumes_at (endings.Missing site o) a meant = needs site o (look_up a o) a meant
+  resumes_at (endings.Ended value) a meant =
+      noting (note.Ended (tid a) value (new_touches a meant) (new_downs a meant) (parts a meant).writes (parts a meant).creates ∷ [])
+      (asks_all (stores_of (parts a meant)) a meant)
+  resumes_at endings.Failed a meant = noting (note.Failed (tid a) (new_touches a meant) (new_downs a meant) ∷ []) (closes Failed a)
+  resumes_at (endings.Stopped limit) a meant = noting (note.Stopped (tid a) limit (new_touches a meant) (new_downs a meant) ∷ []) (closes (Stopped limit) a)
+
+  abbrev pub resumes : Attempt → Meant → Act
+  resumes a meant = resumes_at meant.ending a meant
+
+  -- ---- a message from store s
+
+  -- the Fetch of this tid and name is the current one, and s was asked
+  abbrev pub awaits_object : ℕ → Tid → Oid → Attempt → Phase → Bool
+  awaits_object s t o a (Fetching p) = is_tid t (tid a) && is_same o p && (o.store == s)
+  awaits_object s t o a _ = false
+
+  -- the tid is being prepared, and s takes part
+  abbrev pub awaits_vote : ℕ → Tid → Attempt → Meant → Phase → Bool
+  awaits_vote s t a meant (Preparing ls) = is_tid t (tid a) && is_in s (stores_of (parts a meant))
+  awaits_vote s t a meant _ = false
+
+  -- not of this worker at or above this attempt
+  abbrev pub is_made_before : Oid → Attempt → Bool
+  is_made_before o a = not (o.worker == n) || is_above (tid a) (maker_of o)
+
+  abbrev pub got : ℕ → Oid → ℕ → Object → Attempt → Act
+  got s o version x a =
+      if suits rights o x && nat_lt 0 version && is_made_before o a
+      then stays (record a { phase = Evaluating; answers = a.answers ++ (o, version, x) ∷ [] })
+      else gives (Denied s IllFormed) a
+
+  abbrev pub denied : ℕ → Why → Attempt → Act
+  denied s why.Missing a = try_ends a
+  denied s why.Rights a = gives (Denied s NoRights) a
+
+  abbrev pub waits_for : List ℕ → Attempt → Meant → Act
+  waits_for [] a meant = decides a meant
+  waits_for (l ∷ ls) a meant = stays (record a { phase = Preparing (l ∷ ls) })
+
+  abbrev pub not_voted : Phase → List ℕ
+  not_voted (Preparing ls) = ls
+  not_voted _ = []
+
+  abbrev pub yes_from : ℕ → Attempt → Meant → Act
+  yes_from s a meant = waits_for (filter (λ l. not (l == s)) (not_voted a.phase)) a meant
+
+  abbrev pub aborts : Attempt → Meant → List (ℕ × Message)
+  aborts a meant = to_all (stores_of (parts a meant)) (m.Abort (tid a))
+
+  abbrev pub voted_by : ℕ → Answer → Attempt → Meant → Act
+  voted_by s Yes a meant = yes_from s a meant
+  voted_by s _ a meant = sending (aborts a meant) (try_ends a)
+
+  abbrev pub has_decided : Tid → ℕ → Bool
+  has_decided t s = list_any (λ d. is_tid d.tid t && is_in s d.stores) kept.decided
+
+  abbrev pub inquired : ℕ → Tid → Attempt → Meant → Act
+  inquired s t a meant =
+      if has_decided t s then sending ((s, m.Commit t) ∷ []) (stays a)
+      else (if awaits_vote s t a meant a.phase then yes_from s a meant
+      else sending ((s, m.Abort t) ∷ []) (stays a))
+
+  -- a message that fits nothing is dropped
+  abbrev pub takes_any : ℕ → Message → Attempt → Meant → Act
+  takes_any s (m.Object t o version x) a meant = if awaits_object s t o a a.phase then got s o version x a else stays a
+  takes_any s (m.Deny t o reason) a meant = if awaits_object s t o a a.phase then denied s reason a else stays a
+  takes_any s (m.Vote t answer) a meant = if awaits_vote s t a meant a.phase then voted_by s answer a meant else stays a
+  takes_any s (m.Inquire t) a meant = if t.worker == n then inquired s t a meant else stays a
+  takes_any s _ a meant = stays a
+
+  abbrev pub takes : ℕ → Message → Attempt → Meant → Act
+  takes s message a meant = if is_store rights s then takes_any s message a meant else stays a
+
+  -- ---- Idle: store s was silent
+
+  abbrev pub aborts_in : Phase → Attempt → Meant → List (ℕ × Message)
+  aborts_in (Preparing ls) a meant = aborts a meant
+  aborts_in _ a meant = []
+
+  abbrev pub gives_up : ℕ → Attempt → Meant → Act
+  gives_up s a meant = sending (aborts_in a.phase a meant) (gives (Silent s) a)
+
+  -- ---- Recover
+
+  -- each Commit again, in order of decision, and then the new boot to every store
+  abbrev pub wakes : Act
+  wakes = record {
+    entry = Some (e.Boot (suc kept.boot));
+    attempt = fresh;
+    sends = flat_map (λ d. to_all d.stores (m.Commit d.tid)) kept.decided ++ to_all (stores_in rights) (m.Boot (suc kept.boot));
+    notes = [];
+  }

@@ -1,0 +1,3 @@
+//! Workers, the machine of all nodes, its runs, and what integrity says of them, by definitions. They
+//! stand in `specs`; no code is here.
+#![tactic(auto)]
