@@ -88,7 +88,7 @@ tag_within (Ref o) = (omega arith, omega arith)
 pub value_reads : (version : ℕ) → Reads value_at value_bytes (IsValue version)
 unfolding value_at
 value_reads version =
-    respelled value_bytes (IsValue version) (chosen_reads value_by value_tag value_body (IsValue version) (byte_reads 0 2 (omega arith)) (value_by_reads version))
+    respelled value_bytes (IsValue version) (chosen_reads value_by value_tag value_body (IsValue version) (byte_reads 0 2 (omega arith) (omega arith)) (value_by_reads version))
     (λ v fv. value_parts v) (λ v h. h.1) (λ v h. (tag_within v, h))
 
 -- ---- objects and items
@@ -97,7 +97,7 @@ pub object_reads : (version : ℕ) → Reads object_at object_bytes (IsObject ve
 unfolding object_at
 object_reads version =
     made_reads (λ p. record { class = p.0; fields = p.1 }) object_bytes (IsObject version)
-    (both_reads two_reads (counted_reads (byte_reads 0 16 (omega arith)) (value_reads version)))
+    (both_reads two_reads (counted_reads (byte_reads 0 16 (omega arith) (omega arith)) (value_reads version)))
     (λ p fp. (refl, record { class = fp.0; count = fp.1.0.1; fields = fp.1.1 }))
     (λ o fo. ((o.class, o.fields), (fo.class, ((omega arith, fo.count), fo.fields)), refl))
 

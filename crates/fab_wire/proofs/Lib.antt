@@ -1,4 +1,5 @@
 pub mod FieldLaws
+pub mod Lengths
 pub mod Loop
 pub mod MessageLaws
 pub mod NumberLaws

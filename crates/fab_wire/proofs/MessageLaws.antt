@@ -36,7 +36,7 @@ why_back why.Rights h = (2, (omega arith, omega arith), refl)
 
 why_reads : Reads why_at why_bytes (λ _. Unit {0})
 unfolding why_at
-why_reads = made_reads why_of why_bytes (λ _. Unit {0}) (byte_reads 1 2 (omega arith)) why_to why_back
+why_reads = made_reads why_of why_bytes (λ _. Unit {0}) (byte_reads 1 2 (omega arith) (omega arith)) why_to why_back
 
 -- ---- answers
 
@@ -165,7 +165,7 @@ answer_within (answers.Exists oid) = (omega arith, omega arith)
 answer_reads : Reads answer_at answer_bytes IsAnswer
 unfolding answer_at
 answer_reads =
-    respelled answer_bytes IsAnswer (chosen_reads answer_by answer_tag answer_body IsAnswer (byte_reads 0 6 (omega arith)) answer_by_reads)
+    respelled answer_bytes IsAnswer (chosen_reads answer_by answer_tag answer_body IsAnswer (byte_reads 0 6 (omega arith) (omega arith)) answer_by_reads)
     (λ a fa. answer_parts a) (λ a h. h.1) (λ a h. (answer_within a, h))
 
 -- ---- bodies
@@ -346,7 +346,7 @@ kind_within (messages.Inquire tid) = (omega arith, omega arith)
 
 kind_reads : (version : ℕ) → Reads (λ bytes. chosen (byte_at 1 9) body_by bytes) kind_and_body (IsBody version)
 kind_reads version =
-    respelled kind_and_body (IsBody version) (chosen_reads body_by kind_of body_bytes (IsBody version) (byte_reads 1 9 (omega arith)) (body_by_reads version))
+    respelled kind_and_body (IsBody version) (chosen_reads body_by kind_of body_bytes (IsBody version) (byte_reads 1 9 (omega arith) (omega arith)) (body_by_reads version))
     (λ m fm. body_parts m) (λ m h. h.1) (λ m h. (kind_within m, h))
 
 -- the version is 1
@@ -354,7 +354,7 @@ pub message_reads : Reads message_at (message_bytes 1) (IsMessage 1)
 unfolding message_at
 message_reads =
     respelled (message_bytes 1) (IsMessage 1)
-    (chosen_reads (λ version. chosen (byte_at 1 9) body_by) (λ m. 1) kind_and_body (IsBody 1) (byte_reads 1 1 (omega arith))
+    (chosen_reads (λ version. chosen (byte_at 1 9) body_by) (λ m. 1) kind_and_body (IsBody 1) (byte_reads 1 1 (omega arith) (omega arith))
     (λ a fa. respelled kind_and_body (λ m. IsBody 1 m × (1 ≡ a)) (kind_reads 1) (λ m fm. refl) (λ m h. (h, omega (arith, fa.0, fa.1))) (λ m h. h.0)))
     (λ m fm. refl) (λ m h. record { known = refl; body = h.1 }) (λ m h. ((omega arith, omega arith), h.body))
 

@@ -9,7 +9,7 @@ use Rattle.byteorder.specs.Endian.{big_number}
 use Rattle.byteorder.specs.Numbers.{big_from-take, big_from-lt, big_number-reads_back}
 use Rattle.fab_base.specs.FieldSpelling.{two_bytes, four_bytes}
 use Rattle.fab_wire.specs.Reading.{number_at, byte_at, count_at}
-use Rattle.fab_wire.proofs.ReaderLaws.{IsBytes, Reads, Stops, ok_is}
+use Rattle.fab_wire.proofs.ReaderLaws.{IsBytes, IsBytes-nil, IsBytes-cons, IsBytes-append, Reads, Stops, ok_is}
 
 IsBytes-take : (n : ℕ) (bytes : List ℕ) → IsBytes bytes → IsBytes (take n bytes)
 IsBytes-take n bytes h i =
@@ -17,11 +17,6 @@ IsBytes-take n bytes h i =
       | inl lt ↦ rw (get_or-take n bytes i 0 lt) (h i)
       | inr le ↦ rw (get_or_past (take n bytes) i 0 (omega (arith, length-take n bytes))) (omega arith)
     ]
-
-IsBytes-append : (a b : List ℕ) → IsBytes a → IsBytes b → IsBytes (a ++ b)
-IsBytes-append [] b ha hb i = hb i
-IsBytes-append (x ∷ a) b ha hb zero = ha zero
-IsBytes-append (x ∷ a) b ha hb (suc i) = IsBytes-append a b (λ j. ha (suc j)) hb i
 
 IsBytes-zeros : (n : ℕ) → IsBytes (replicate n 0)
 IsBytes-zeros zero i = omega arith
@@ -32,14 +27,28 @@ IsBytes-zeros (suc n) (suc i) = IsBytes-zeros n i
 
 record IsWide (n : ℕ) (text : ℕ → List ℕ) (limit : ℕ) : Type 0 where
   pub len : (x : ℕ) → length (text x) ≡ n
+  pub bytes : (x : ℕ) → IsBytes (text x)
   pub back : (bytes : List ℕ) → n ≤ length bytes → IsBytes bytes → text (big_number n bytes) ≡ take n bytes
   pub again : (x : ℕ) (rest : List ℕ) → x < limit → big_number n (text x ++ rest) ≡ x
   pub below : (bytes : List ℕ) → IsBytes bytes → big_number n bytes < limit
   pub positive : 0 < limit
 
+pub two_are_bytes : (x : ℕ) → IsBytes (two_bytes x)
+two_are_bytes x zero = omega arith
+two_are_bytes x (suc zero) = omega arith
+two_are_bytes x (suc (suc i)) = omega arith
+
+four_are_bytes : (x : ℕ) → IsBytes (four_bytes x)
+four_are_bytes x zero = omega arith
+four_are_bytes x (suc zero) = omega arith
+four_are_bytes x (suc (suc zero)) = omega arith
+four_are_bytes x (suc (suc (suc zero))) = omega arith
+four_are_bytes x (suc (suc (suc (suc i)))) = omega arith
+
 wide2 : IsWide 2 two_bytes (2 ^ 16)
 wide2 = record {
   len = λ x. refl;
+  bytes = two_are_bytes;
   back = λ bytes le h. be_bytes_2 (take 2 bytes) (big_number 2 bytes) (length-take-le 2 bytes le) (IsBytes-take 2 bytes h) (sym (big_from-take 0 2 2 bytes (omega arith)) ∙ omega arith);
   again = λ x rest lt. big_number-reads_back 2 x rest lt;
   below = λ bytes h. big_from-lt 0 2 bytes h;
@@ -49,6 +58,7 @@ wide2 = record {
 wide4 : IsWide 4 four_bytes (2 ^ 32)
 wide4 = record {
   len = λ x. refl;
+  bytes = four_are_bytes;
   back = λ bytes le h. be_bytes_4 (take 4 bytes) (big_number 4 bytes) (length-take-le 4 bytes le) (IsBytes-take 4 bytes h) (sym (big_from-take 0 4 4 bytes (omega arith)) ∙ omega arith);
   again = λ x rest lt. big_number-reads_back 4 x rest lt;
   below = λ bytes h. big_from-lt 0 4 bytes h;
@@ -66,6 +76,7 @@ guard_err false d left x e = absurd cc
 number_reads : (n : ℕ) (text : ℕ → List ℕ) (limit : ℕ) → IsWide n text limit → Reads (number_at n) text (λ x. x < limit)
 number_reads n text limit wide = record {
   some = (0, wide.positive);
+  bytes = λ x lt. wide.bytes x;
   again = λ x rest lt.
       let len = wide.len x in
       let long : ltb (length (text x ++ rest)) n ≡ false = le-ltb _ _ (omega (arith, length-append (text x) rest)) in
@@ -152,9 +163,10 @@ byte_stops low high le (b ∷ bytes) left e =
           }
     ]
 
-pub byte_reads : (low high : ℕ) → low ≤ high → Reads (byte_at low high) (λ b. b ∷ []) (λ b. (low ≤ b) × (b ≤ high))
-byte_reads low high le = record {
+pub byte_reads : (low high : ℕ) → low ≤ high → high < 256 → Reads (byte_at low high) (λ b. b ∷ []) (λ b. (low ≤ b) × (b ≤ high))
+byte_reads low high le small = record {
   some = (low, (omega arith, le));
+  bytes = λ b fb. IsBytes-cons b [] (omega (arith, fb.1)) IsBytes-nil;
   again = λ b rest fb. elim (both_hold low b b high) [ inl h ↦ rw h.0 refl | inr h ↦ absurd (h.1 fb.0 fb.1) ];
   found = λ bytes x rest isb e. byte_found low high bytes x rest e;
   stops = λ bytes left isb e. byte_stops low high le bytes left e;
@@ -303,6 +315,7 @@ count_stops most m (high ∷ low ∷ bytes) left isb e =
 pub count_reads : (most : ℕ) → most < 256 → Reads (count_at most) two_bytes (λ n. n ≤ most * 256)
 count_reads most m = record {
   some = (0, omega arith);
+  bytes = λ x le. two_are_bytes x;
   again = λ x rest le. count_again most m x rest le;
   found = λ bytes x rest isb e. count_found most m bytes x rest isb e;
   stops = λ bytes left isb e. count_stops most m bytes left isb e;

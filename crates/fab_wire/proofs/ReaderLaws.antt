@@ -1,4 +1,4 @@
--- What a reader keeps to: it reads each spelling again, whatever follows; what it reads is spelled so; and where
+-- What a reader keeps to: what is spelled is bytes; it reads each spelling again, whatever follows; what it reads is spelled so; and where
 -- it stops, the bytes before go along with a spelling and the next one doesn't.
 use Rattle.std.proofs.Common.{◌≡◌, ℕ, zero, suc, ◌<◌, List, [], ◌∷◌, ◌++◌, length, get_or, Result, Ok, Err, refl, sym, ap, subst, ◌∙◌, append_assoc, arith, inl, inr, ◌⊎◌}
 use Rattle.std.proofs.lemmas.List.{nil_from_length}
@@ -13,6 +13,18 @@ pub IsBytes-rest : (front rest : List ℕ) → IsBytes (front ++ rest) → IsByt
 IsBytes-rest [] rest h = h
 IsBytes-rest (b ∷ front) rest h = IsBytes-rest front rest (λ i. h (suc i))
 
+pub IsBytes-nil : IsBytes []
+IsBytes-nil i = omega arith
+
+pub IsBytes-cons : (b : ℕ) (bytes : List ℕ) → b < 256 → IsBytes bytes → IsBytes (b ∷ bytes)
+IsBytes-cons b bytes small h zero = small
+IsBytes-cons b bytes small h (suc i) = h i
+
+pub IsBytes-append : (a b : List ℕ) → IsBytes a → IsBytes b → IsBytes (a ++ b)
+IsBytes-append [] b ha hb i = hb i
+IsBytes-append (x ∷ a) b ha hb zero = ha zero
+IsBytes-append (x ∷ a) b ha hb (suc i) = IsBytes-append a b (λ j. ha (suc j)) hb i
+
 pub record Stops {A : Type 0} (text : A → List ℕ) (fits : A → Type 0) (bytes : List ℕ) (left : ℕ) : Type 0 where
   pub front : List ℕ
   pub back : List ℕ
@@ -26,6 +38,7 @@ pub record Stops {A : Type 0} (text : A → List ℕ) (fits : A → Type 0) (byt
 
 pub record Reads {A : Type 0} (read : List ℕ → Result (A × List ℕ) ℕ) (text : A → List ℕ) (fits : A → Type 0) : Type 0 where
   pub some : (x : A) × fits x
+  pub bytes : (x : A) → fits x → IsBytes (text x)
   pub again : (x : A) (rest : List ℕ) → fits x → read (text x ++ rest) ≡ Ok (x, rest)
   pub found : (bytes : List ℕ) (x : A) (rest : List ℕ) → IsBytes bytes → read bytes ≡ Ok (x, rest) → (bytes ≡ text x ++ rest) × fits x
   pub stops : (bytes : List ℕ) (left : ℕ) → IsBytes bytes → read bytes ≡ Err left → Stops text fits bytes left
@@ -62,6 +75,7 @@ pub made_reads : {A C : Type 0} {read : List ℕ → Result (A × List ℕ) ℕ}
     → Reads (made f read) text' fits'
 made_reads {A = A} {C = C} {read = read} {text = text} {fits = fits} f text' fits' r to from = record {
   some = (f r.some.0, (to r.some.0 r.some.1).1);
+  bytes = λ c fc. let back = from c fc in subst IsBytes (sym (to back.0 back.1).0 ∙ ap text' back.2) (r.bytes back.0 back.1);
   again = λ c rest fc.
       let back = from c fc in
       let a = back.0 in
@@ -109,6 +123,7 @@ chosen_reads {A = A} {C = C} {first = first} {text1 = text1} {fits1 = fits1} sec
       let a = r.some in
       let c = (s a.0 a.1).some in
       (c.0, (subst fits1 (sym c.1.1) a.1, c.1.0));
+  bytes = λ c fc. IsBytes-append (text1 (tag c)) (text2 c) (r.bytes (tag c) fc.0) ((s (tag c) fc.0).bytes c (fc.1, refl));
   again = λ c rest fc.
       let regrouped : (text1 (tag c) ++ text2 c) ++ rest ≡ text1 (tag c) ++ (text2 c ++ rest) = append_assoc (text1 (tag c)) (text2 c) rest in
       let one : first ((text1 (tag c) ++ text2 c) ++ rest) ≡ Ok (tag c, text2 c ++ rest) = ap first regrouped ∙ r.again (tag c) (text2 c ++ rest) fc.0 in
@@ -177,6 +192,7 @@ pub respelled : {A : Type 0} {read : List ℕ → Result (A × List ℕ) ℕ} {t
     → Reads read text fits → ((x : A) → fits' x → text' x ≡ text x) → ((x : A) → fits x → fits' x) → ((x : A) → fits' x → fits x) → Reads read text' fits'
 respelled {read = read} text' fits' r same to from = record {
   some = (r.some.0, to r.some.0 r.some.1);
+  bytes = λ x fx. subst IsBytes (sym (same x fx)) (r.bytes x (from x fx));
   again = λ x rest fx. ap (λ (t : List ℕ). read (t ++ rest)) (same x fx) ∙ r.again x rest (from x fx);
   found = λ bytes x rest isb e. let g = r.found bytes x rest isb e in (g.0 ∙ ap (λ (t : List ℕ). t ++ rest) (sym (same x (to x g.1))), to x g.1);
   stops = λ bytes left isb e.
@@ -199,6 +215,7 @@ respelled {read = read} text' fits' r same to from = record {
 pub nothing_reads : {A : Type 0} (x : A) → Reads (λ bytes. done (x, bytes)) (λ _. []) (λ y. y ≡ x)
 nothing_reads {A = A} x = record {
   some = (x, refl);
+  bytes = λ y fy. IsBytes-nil;
   again = λ y rest fy. ap (λ (z : A). done (z, rest)) (sym fy);
   found = λ bytes y rest isb e.
       let p : (x, bytes) ≡ (y, rest) = ok_is (x, bytes) (y, rest) e in

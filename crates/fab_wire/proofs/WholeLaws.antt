@@ -1,12 +1,13 @@
 -- All of the bytes as one message, and where they stop being one.
-use Rattle.std.proofs.Common.{◌≡◌, ℕ, suc, ◌+◌, ◌-◌, ◌<◌, ◌≤◌, Bool, true, false, cond, eqb, List, [], ◌∷◌, ◌++◌, length, take, Ok, Err, refl, sym, ap, subst, ◌∙◌, append_assoc, length-append, arith, inl, inr}
-use Rattle.std.proofs.lemmas.Bool.{cases_lt, eqb-true}
+use Rattle.std.proofs.Common.{◌≡◌, ℕ, suc, ◌+◌, ◌-◌, ◌<◌, ◌≤◌, Bool, true, false, cond, eqb, leb, ◌&&◌, Option, Some, None, List, [], ◌∷◌, ◌++◌, length, take, Result, Ok, Err, refl, sym, ap, subst, ◌∙◌, append_assoc, length-append, arith, inl, inr}
+use Rattle.std.proofs.lemmas.Bool.{cases_lt, eqb-true, lt-ltb, le-ltb, le-leb, leb-true}
 use Rattle.std.proofs.lemmas.List.{append-nil, nil_from_length}
 use Rattle.std.proofs.Math.Seq.{take-append-add, take-append_seam}
 use Rattle.fab_base.specs.declared.message.Message.{Message}
-use Rattle.fab_base.specs.MessageSpelling.{message_bytes, IsMessage, Spells, BeginsSpelling, IsLongestFront, byte_limit, IsBadPlace}
-use Rattle.fab_wire.specs.Reading.{message_at, all_of}
-use Rattle.fab_wire.proofs.ReaderLaws.{IsBytes, Stops, bind_ok, bind_err, one_reading}
+use Rattle.std.specs.Result.{result_ok}
+use Rattle.fab_base.specs.MessageSpelling.{message_bytes, spelled, IsMessage, Spells, BeginsSpelling, IsLongestFront, byte_limit, IsReadAs, IsBadPlace}
+use Rattle.fab_wire.specs.Reading.{message_at, all_of, are_bytes, read_message}
+use Rattle.fab_wire.proofs.ReaderLaws.{IsBytes, IsBytes-nil, IsBytes-cons, Stops, bind_ok, bind_err, one_reading}
 use Rattle.fab_wire.proofs.MessageLaws.{message_reads}
 
 -- there is one version
@@ -118,3 +119,58 @@ bad_place bytes left isb e le = record {
   long = λ gt. absurd (omega arith);
   short = λ _. (whole_place bytes left isb e).1;
 }
+
+-- ---- the function
+
+all_are : (bytes : List ℕ) → IsBytes bytes → are_bytes bytes ≡ true
+all_are [] h = refl
+all_are (b ∷ bytes) h =
+    elim (cases_lt b 256) [
+      | inl lt ↦ rw (lt-ltb b 256 lt) (all_are bytes (λ i. h (suc i)))
+      | inr ge ↦ let first : b < 256 = h 0 in absurd (omega (arith, ge, first))
+    ]
+
+are_all : (bytes : List ℕ) → are_bytes bytes ≡ true → IsBytes bytes
+are_all [] e = IsBytes-nil
+are_all (b ∷ bytes) e =
+    elim (cases_lt b 256) [
+      | inl lt ↦ let f = rw (lt-ltb b 256 lt) at e in IsBytes-cons b bytes lt (are_all bytes f)
+      | inr ge ↦ let f = rw (le-ltb b 256 ge) at e in absurd cc
+    ]
+
+guarded : (a b : Bool) (r : Result Message ℕ) (m : Message) → cond (a && b) (result_ok r) None ≡ Some m → (a ≡ true) × (b ≡ true) × (r ≡ Ok m)
+guarded true true (Ok n) m e = (refl, refl, cc)
+guarded true true (Err k) m e = absurd cc
+guarded true false r m e = absurd cc
+guarded false b r m e = absurd cc
+
+pub read_found : (bytes : List ℕ) (m : Message) → read_message bytes ≡ Some m → (length bytes ≤ byte_limit) × IsMessage 1 m × (bytes ≡ spelled m)
+unfolding read_message
+read_found bytes m e =
+    let g = guarded (leb (length bytes) byte_limit) (are_bytes bytes) (all_of bytes) m e in
+    let s = at_one bytes m (whole_found bytes m (are_all bytes g.1) g.2) in
+    (leb-true (length bytes) byte_limit g.0, s.0, s.1)
+
+pub read_again : (bytes : List ℕ) (m : Message) → (length bytes ≤ byte_limit) × IsMessage 1 m × (bytes ≡ spelled m) → read_message bytes ≡ Some m
+unfolding read_message
+read_again bytes m h =
+    let short : leb (length bytes) byte_limit ≡ true = le-leb (length bytes) byte_limit h.0 in
+    let every : are_bytes bytes ≡ true = all_are bytes (subst IsBytes (sym h.2) (message_reads.bytes m h.1)) in
+    let whole : all_of bytes ≡ Ok m = whole_again bytes m (1, h.1, h.2) in
+    rw (short, every, whole) refl
+
+-- what is read, and what isn't
+pub is_read : (bytes : List ℕ) (m : Message) → IsReadAs bytes m → read_message bytes ≡ Some m
+is_read bytes m read =
+    let s = at_one bytes m read.spelled in
+    read_again bytes m (read.short, s.0, s.1)
+
+none_of : (o : Option Message) → ((m : Message) → o ≡ Some m → ⊥) → o ≡ None
+none_of None h = refl
+none_of (Some m) h = absurd (h m refl)
+
+pub is_unread : (bytes : List ℕ) → ((m : Message) → IsReadAs bytes m → ⊥) → read_message bytes ≡ None
+is_unread bytes h =
+    none_of (read_message bytes) (λ m e.
+    let g = read_found bytes m e in
+    h m (record { short = g.0; spelled = (1, g.1, g.2) }))

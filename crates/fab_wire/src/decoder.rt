@@ -2,7 +2,8 @@
 
 ghost use Rattle.std.specs.Prelude.{IfOk};
 ghost use Rattle.fab_base.specs.MessageSpelling.{IsReadAs};
-ghost use Rattle.fab_wire.specs.Decoding.{AnswersReading, RefusesRightly};
+ghost use Rattle.fab_wire.specs.Decoding.{AnswersMessage, AnswersReading, RefusesRightly};
+ghost use Rattle.fab_wire.specs.Reading.{read_message};
 
 use crate::error::DecodeError;
 use crate::messages::whole_of;
@@ -22,6 +23,8 @@ pub fn decode(alloc: Global, bytes: &[u8]) -> Result<Message, DecodeError>
     // `Bad` comes only where they are read as nothing, and its place is the length of their longest
     // front that begins some spelling.
     ensures bad { RefusesRightly bytes.now result }
+    // The same as a function.
+    ensures read { AnswersMessage result (read_message bytes.now) }
 {
     if bytes.len() > BYTE_LIMIT {
         return Err(DecodeError::Bad { at: 131_072 });

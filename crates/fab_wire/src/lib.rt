@@ -19,8 +19,8 @@ pub use error::DecodeError;
 pub use fab_base::Message;
 pub use fields::{oid_of, tid_of, value_of};
 pub use laws::{
-    no_spelling_begins_another, one_message_a_spelling, spelled_messages_can_be_encoded,
-    spelling_is_read_as_its_message,
+    honest_prepares_are_short, no_spelling_begins_another, one_message_a_spelling,
+    spelled_messages_can_be_encoded, spelling_is_read_as_its_message, what_is_read_is_spelled,
 };
 pub use list_writing::{put_items, put_object};
 pub use lists::{items_of, object_of};
