@@ -5,6 +5,8 @@ use Rattle.fab_base.specs.declared.object.Oid.{Oid}
 use Rattle.fab_base.specs.declared.object.Object.{Object}
 use Rattle.fab_base.specs.declared.object.Tid.{Tid}
 use Rattle.fab_base.specs.declared.object.Value.{Value}
+use Rattle.fab_base.specs.declared.message.Message.{Message}
+use Rattle.fab_base.specs.MessageSpelling.{IsReadAs}
 use Rattle.fab_base.specs.FieldSpelling.{IsTid, IsOid, IsObject}
 use Rattle.fab_base.specs.FlatMap.{FlatMap, get, put_all, map_of, is_among}
 use Rattle.fab_base.specs.FlatMap as flat
@@ -80,7 +82,7 @@ abbrev pub AreFit : Setting → FlatMap → Type 0
 AreFit S rows = AllByRecursion (IsFit S) rows
 
 -- What a bundle gives: at most 64 nodes, each a worker or a store; classes that workers write and stores hold;
--- counts that messages can spell; roots that no attempt made.
+-- counts that messages can spell; roots that no attempt made; and bytes are read as the one message that they spell.
 pub record IsSetting (S : Setting) : Type 0 where
   pub workers : S.rights.workers < 2 ^ 64
   pub stores : S.rights.stores < 2 ^ 64
@@ -91,6 +93,7 @@ pub record IsSetting (S : Setting) : Type 0 where
   pub roots_ascend : IsTrue (flat.ascends S.roots)
   pub roots_fit : AreFit S S.roots
   pub roots_old : AllByRecursion (λ row. row.0.boot ≡ 0) S.roots
+  pub read : (bytes : List ℕ) (message : Message) → (S.read bytes ≡ Some message) ↔ IsReadAs bytes message
 
 abbrev pub NoneMadeIn : Tid → FlatMap → Type 0
 NoneMadeIn t rows = AllByRecursion (λ row. IsFalse (is_made_in t row.0)) rows

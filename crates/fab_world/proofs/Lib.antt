@@ -1,0 +1,5 @@
+mod CommitExamples
+mod LawExamples
+mod RefusalExamples
+pub mod Toy
+mod WorkerExamples
