@@ -1,8 +1,11 @@
 //! What nodes write to their journals.
 
+ghost use Rattle.std.specs.Prelude.{◌≡◌, IfOk};
+
 use crate::message::Items;
 use crate::object::{Tid, Value};
-use crate::seq::Seq;
+use crate::seq::{NoMemory, Seq};
+use std::alloc::Global;
 
 /// A journal entry. Decided, Closed and Boot are a worker's, the others a store's.
 #[derive(Debug, Drop)]
@@ -42,4 +45,46 @@ pub enum Entry {
         worker: u16,
         boot: u32,
     },
+}
+
+impl Entry {
+    /// An equal entry.
+    pub fn copy(&self, alloc: Global) -> Result<Entry, NoMemory>
+        ensures { IfOk result (λ entry. entry ≡ self.now) }
+    {
+        Ok(match self {
+            Entry::Decided {
+                tid,
+                request,
+                result,
+                stores,
+            } => Entry::Decided {
+                tid: *tid,
+                request: *request,
+                result: *result,
+                stores: Seq::from_slice(alloc, stores.as_slice())?,
+            },
+            Entry::Closed {
+                request,
+                outcome,
+                node,
+            } => Entry::Closed {
+                request: *request,
+                outcome: *outcome,
+                node: *node,
+            },
+            Entry::Boot { boot } => Entry::Boot { boot: *boot },
+            Entry::Prepared { tid, items } => Entry::Prepared {
+                tid: *tid,
+                items: items.copy(alloc)?,
+            },
+            Entry::Refused { tid } => Entry::Refused { tid: *tid },
+            Entry::Applied { tid } => Entry::Applied { tid: *tid },
+            Entry::Released { tid } => Entry::Released { tid: *tid },
+            Entry::BootSeen { worker, boot } => Entry::BootSeen {
+                worker: *worker,
+                boot: *boot,
+            },
+        })
+    }
 }

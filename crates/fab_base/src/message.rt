@@ -1,7 +1,10 @@
 //! What workers and stores send each other.
 
+ghost use Rattle.std.specs.Prelude.{◌≡◌, IfOk};
+
 use crate::object::{Object, Oid, Tid};
-use crate::seq::Seq;
+use crate::seq::{NoMemory, Seq};
+use std::alloc::Global;
 
 /// What a transaction asks one store to prepare: the objects it read and their versions, those it
 /// wrote with the version it read, and those it made.
@@ -10,6 +13,42 @@ pub struct Items {
     pub reads: Seq<(Oid, u32)>,
     pub writes: Seq<(Oid, u32, Object)>,
     pub creates: Seq<(Oid, Object)>,
+}
+
+impl Items {
+    /// Equal items.
+    pub fn copy(&self, alloc: Global) -> Result<Items, NoMemory>
+        ensures { IfOk result (λ items. items ≡ self.now) }
+    {
+        Ok(Items {
+            reads: Seq::from_slice(alloc, self.reads.as_slice())?,
+            writes: writes_copy(alloc, self.writes.as_slice())?,
+            creates: creates_copy(alloc, self.creates.as_slice())?,
+        })
+    }
+}
+
+fn writes_copy(
+    alloc: Global,
+    writes: &[(Oid, u32, Object)],
+) -> Result<Seq<(Oid, u32, Object)>, NoMemory>
+    ensures { IfOk result (λ copies. copies ≡ writes.now) }
+{
+    let mut copies = Seq::new(alloc);
+    for write in writes {
+        copies.push((write.0, write.1, write.2.copy(alloc)?))?;
+    }
+    Ok(copies)
+}
+
+fn creates_copy(alloc: Global, creates: &[(Oid, Object)]) -> Result<Seq<(Oid, Object)>, NoMemory>
+    ensures { IfOk result (λ copies. copies ≡ creates.now) }
+{
+    let mut copies = Seq::new(alloc);
+    for create in creates {
+        copies.push((create.0, create.1.copy(alloc)?))?;
+    }
+    Ok(copies)
 }
 
 /// A message. Workers send Fetch, Prepare, Commit, Abort and Boot; stores send the others.

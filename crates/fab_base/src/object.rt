@@ -1,6 +1,9 @@
 //! Names of objects and of transactions, values and objects, after Fabric.
 
-use crate::seq::Seq;
+ghost use Rattle.std.specs.Prelude.{◌≡◌, IfOk};
+
+use crate::seq::{NoMemory, Seq};
+use std::alloc::Global;
 
 /// The name of an object: its store, its class, and what made it. `worker`, `boot` and `number`
 /// name the transaction, `site` the place in the program, and `index` counts the objects of that
@@ -39,6 +42,18 @@ pub enum Value {
 pub struct Object {
     pub class: u16,
     pub fields: Seq<Value>,
+}
+
+impl Object {
+    /// An equal object.
+    pub fn copy(&self, alloc: Global) -> Result<Object, NoMemory>
+        ensures { IfOk result (λ object. object ≡ self.now) }
+    {
+        Ok(Object {
+            class: self.class,
+            fields: Seq::from_slice(alloc, self.fields.as_slice())?,
+        })
+    }
 }
 
 /// At which limit an evaluation was stopped: 1,000,000 of fuel, 64 calls deep, 1,024 objects

@@ -3,7 +3,7 @@
 -- A shelf is the fold of the store's records over the roots, so what a crash leaves of the journal says what the
 -- store is after recovery. Votes follow the two-phase commit of Fabric, with versions in place of locks on reads.
 use Rattle.std.specs.Prelude.{ℕ, Bool, true, false, not, ◌&&◌, ◌||◌, ◌==◌, nat_lt, if◌then◌else◌}
-use Rattle.std.specs.Prelude.{List, [], ◌∷◌, ◌++◌, map, Option, Some, None, fold, slice_get, slice_set, unwrap_or}
+use Rattle.std.specs.Prelude.{List, [], ◌∷◌, ◌++◌, map, Option, Some, None, fold, slice_get, slice_set, unwrap_or, option_map}
 use Rattle.std.specs.List.{filter, flat_map, list_any, range_with_len}
 use Rattle.fab_base.specs.declared.object.Oid.{Oid}
 use Rattle.fab_base.specs.declared.object.Object.{Object}
@@ -17,11 +17,15 @@ use Rattle.fab_base.specs.declared.message.Message.TheVariants as m
 use Rattle.fab_base.specs.declared.entry.Entry.{Entry}
 use Rattle.fab_base.specs.declared.entry.Entry.TheVariants as e
 use Rattle.fab_base.specs.FlatMap.{FlatMap, is_before, is_among}
+use Rattle.fab_base.specs.JournalSpelling.{record_bytes}
+use Rattle.fab_base.specs.MessageSpelling.{spelled}
 use Rattle.fab_base.specs.Tids.{is_above}
 use Rattle.fab_net.specs.declared.note.Note.{Note}
+use Rattle.fab_net.specs.declared.note.Step.{Step}
 use Rattle.fab_net.specs.declared.note.Note.TheVariants as note
 use Rattle.fab_rights.specs.declared.rights.Rights.{Rights}
 use Rattle.fab_rights.specs.Computed.{is_worker, knows, may_fetch, may_write, suits}
+pub use Rattle.fab_protocol.specs.declared.said.Said.{Said}
 use Rattle.fab_protocol.specs.declared.sender.Sender.{Sender}
 use Rattle.fab_protocol.specs.Tables.{row_of, placed_all}
 use Rattle.fab_protocol.specs.Versions.{Row, Rows, name_of, version_of, begun, is_tid, is_made_in, left_by}
@@ -35,12 +39,6 @@ pub record Shelf : Type 0 where
   pub rows : Rows
   pub prepared : List Prepared
   pub senders : List Sender
-
--- what a store does: its record, what it sends to whom, the notes
-pub record Said : Type 0 where
-  pub entry : Option Entry
-  pub sends : List (ℕ × Message)
-  pub notes : List Note
 
 -- ---- senders: a number of which nothing is remembered has no boot and no attempt
 
@@ -270,6 +268,14 @@ module _ (rights : Rights) (s n : ℕ) where
 -- recovery asks what became of each prepared transaction, in order
 abbrev pub asks : Shelf → Said
 asks shelf = record silent { sends = map (λ p. (p.0.worker, m.Inquire p.0)) shelf.prepared }
+
+-- the bytes of a record behind others of this version, and of messages
+abbrev pub step_of : ℕ → Said → Step
+step_of version said = record {
+  entry = option_map (record_bytes version) said.entry;
+  sends = map (λ x. (x.0, spelled x.1)) said.sends;
+  notes = said.notes;
+}
 
 -- what a store's record makes of its shelf, if there is one
 abbrev pub keeps_said : Option Entry → Shelf → Shelf

@@ -2,6 +2,8 @@
 //! The definitions stand in `specs`; the types that they speak of stand here.
 #![tactic(auto)]
 
+mod said;
 mod sender;
 
+pub use said::Said;
 pub use sender::Sender;

@@ -1,0 +1,71 @@
+-- A store as contracts see it, what it plans, and the room that a record needs.
+use Rattle.std.specs.Prelude.{◌≡◌, ℕ, ◌+◌, ◌≤◌, ◌<◌, ◌^◌, Option, Some, None, List, [], ◌∷◌, length}
+use Rattle.std.specs.List.{flat_map, AllByRecursion}
+use Rattle.fab_base.specs.declared.entry.Entry.{Entry}
+use Rattle.fab_base.specs.declared.entry.Entry.TheVariants as e
+use Rattle.fab_base.specs.JournalSpelling.{KeepsEntry}
+use Rattle.fab_base.specs.MessageSpelling.{KeepsCounts}
+use Rattle.fab_base.specs.FlatMap.{FlatMap}
+use Rattle.fab_net.specs.declared.note.Step.{Step}
+use Rattle.fab_rights.specs.declared.rights.Rights.{Rights}
+use Rattle.fab_protocol.specs.Versions.{left_by}
+use Rattle.fab_protocol.specs.Stores.{Shelf, Said, prepared_as, step_of, shelf_of, shelf_at_start, keeps}
+use Rattle.fab_protocol.specs.Shelves.{CanKeep}
+
+-- The store's number, what it knows of nodes and classes, its shelf, for how many objects more there is room, and
+-- for how many prepared transactions.
+pub record Stock : Type 0 where
+  pub node : ℕ
+  pub rights : Rights
+  pub shelf : Shelf
+  pub spare_rows : ℕ
+  pub spare_locks : ℕ
+
+-- a plan: the record that is to be kept, and the step
+pub record Plan : Type 0 where
+  pub entry : Option Entry
+  pub step : Step
+
+abbrev pub plan_of : Said → Plan
+plan_of said = record { entry = said.entry; step = step_of 1 said }
+
+-- ---- what a record needs
+
+-- the record, if there is one, is one that the rules give
+abbrev pub CanKeepSaid : Rights → ℕ → Option Entry → Shelf → Type 0
+CanKeepSaid rights s None shelf = Unit {0}
+CanKeepSaid rights s (Some entry) shelf = CanKeep rights s entry shelf
+
+-- there is room for what a record adds
+abbrev pub HasRoomFor : Entry → Stock → Type 0
+HasRoomFor (e.Prepared t items) x = 1 ≤ x.spare_locks
+HasRoomFor (e.Applied t) x = length (flat_map (λ p. left_by p.1) (prepared_as t x.shelf.prepared)) ≤ x.spare_rows
+HasRoomFor _ x = Unit {0}
+
+abbrev pub HasRoom : Option Entry → Stock → Type 0
+HasRoom None x = Unit {0}
+HasRoom (Some entry) x = HasRoomFor entry x
+
+-- the node, the rights and the shelf are as before, and there is no less room
+pub record OnlyGainsRoom (old new : Stock) : Type 0 where
+  pub node : new.node ≡ old.node
+  pub rights : new.rights ≡ old.rights
+  pub shelf : new.shelf ≡ old.shelf
+  pub rows : old.spare_rows ≤ new.spare_rows
+  pub locks : old.spare_locks ≤ new.spare_locks
+
+-- what is said has a spelling
+abbrev pub KeepsEntrySaid : Option Entry → Type 0
+KeepsEntrySaid None = Unit {0}
+KeepsEntrySaid (Some entry) = KeepsEntry entry
+
+pub record CanSpell (said : Said) : Type 0 where
+  pub entry : KeepsEntrySaid said.entry
+  pub sends : AllByRecursion (λ x. KeepsCounts x.1) said.sends
+
+-- ---- journals
+
+-- each record is one that the rules give over the shelf behind those before it
+abbrev pub AreKept : Rights → ℕ → List Entry → Shelf → Type 0
+AreKept rights s [] shelf = Unit {0}
+AreKept rights s (entry ∷ entries) shelf = CanKeep rights s entry shelf × AreKept rights s entries (keeps entry shelf)

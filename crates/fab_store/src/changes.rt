@@ -1,0 +1,68 @@
+//! What a record changes: objects, prepared transactions and what is remembered of senders.
+
+ghost use Rattle.std.specs.Prelude.{◌≡◌, ◌≤◌, ◌+◌, length, map};
+ghost use Rattle.std.specs.List.{flat_map};
+ghost use Rattle.fab_protocol.specs.Tables.{placed_all};
+ghost use Rattle.fab_protocol.specs.Versions.{begun, left_by, name_of, raised, risen};
+ghost use Rattle.fab_protocol.specs.Stores.{behind, prepared_as, without};
+
+use fab_base::{Items, Object, Oid, Seq, Tid};
+use fab_locks::Locks;
+use fab_versions::Table;
+
+/// The version behind a write.
+fn risen(version: u32) -> u32
+    ensures { result ≡ risen version }
+{
+    version.saturating_add(1)
+}
+
+/// Writes take the place of their objects, each at the version behind the one that was read.
+fn put_writes(table: &mut Table, writes: Seq<(Oid, u32, Object)>)
+    requires room { length writes ≤ table.old.spare }
+    ensures rows { table.new.rows ≡ placed_all name_of (map raised writes) table.old.rows }
+    ensures spare { table.old.spare ≤ table.new.spare + length writes }
+{
+    let mut rest = writes.into_vec();
+    rest.reverse();
+    while let Some((oid, version, object)) = rest.pop() {
+        let _ = table.put(oid, risen(version), object);
+    }
+}
+
+/// Objects that were made are put at version 1.
+fn put_creates(table: &mut Table, creates: Seq<(Oid, Object)>)
+    requires room { length creates ≤ table.old.spare }
+    ensures rows { table.new.rows ≡ placed_all name_of (map begun creates) table.old.rows }
+{
+    let mut rest = creates.into_vec();
+    rest.reverse();
+    while let Some((oid, object)) = rest.pop() {
+        let _ = table.put(oid, 1, object);
+    }
+}
+
+/// What these items leave behind is put into the table.
+fn put_left(table: &mut Table, items: Items)
+    requires room { length (left_by items) ≤ table.old.spare }
+    ensures rows { table.new.rows ≡ placed_all name_of (left_by items) table.old.rows }
+{
+    let Items {
+        writes,
+        creates,
+        ..
+    } = items;
+    put_writes(table, writes);
+    put_creates(table, creates);
+}
+
+/// A prepared transaction is applied, and its items are free.
+pub fn apply(table: &mut Table, locks: &mut Locks, tid: Tid)
+    requires room { length (flat_map (λ p. left_by p.1) (prepared_as tid locks.old.held)) ≤ table.old.spare }
+    ensures rows { table.new.rows ≡ behind (prepared_as tid locks.old.held) table.old.rows }
+    ensures held { locks.new.held ≡ without tid locks.old.held }
+{
+    if let Some(items) = locks.free(tid) {
+        put_left(table, items);
+    }
+}

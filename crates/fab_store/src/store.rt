@@ -1,0 +1,180 @@
+//! A store's node: what it holds, and what it does at a message.
+
+ghost use Rattle.std.specs.Prelude.{◌≡◌, ◌≤◌, Option, None, Some, IfOk, OnOk, OnErr, IsTrue, length};
+ghost use Rattle.std.specs.List.{AllByRecursion};
+ghost use Rattle.fab_base.specs.FlatMap.{ascends as roots_ascend};
+ghost use Rattle.fab_wire.specs.Reading.{read_message};
+ghost use Rattle.fab_protocol.specs.Stores.{hears, keeps, keeps_said, shelf_at_start, step_of};
+ghost use Rattle.fab_store.specs.Stock.{CanKeepSaid, HasRoom, HasRoomFor, OnlyGainsRoom, plan_of};
+ghost use Rattle.fab_protocol.specs.Shelves.{CanKeep};
+
+use crate::changes::apply;
+use crate::plan::StorePlan;
+use crate::senders::{none_heard, set_boot, set_last};
+use crate::steps::plan_of;
+use fab_base::{Entry, Items, NoMemory, Object, Oid, Tid};
+use fab_locks::Locks;
+use fab_net::Step;
+use fab_protocol::Sender;
+use fab_rights::Rights;
+use fab_versions::Table;
+use std::alloc::Global;
+use std::marker::Model;
+
+/// A store: its objects, the transactions that it has prepared, and what it remembers of each sender.
+#[derive(Debug, Drop)]
+pub struct Store {
+    pub(crate) alloc: Global,
+    pub(crate) node: u16,
+    pub(crate) rights: Rights,
+    pub(crate) table: Table,
+    pub(crate) locks: Locks,
+    pub(crate) senders: Vec<Sender>,
+}
+
+impl Model for Store {
+    ghost use Rattle.fab_store.specs.Stock.{Stock};
+    ghost use Rattle.fab_protocol.specs.Shelves.{IsShelf};
+
+    ghost Value = { Stock };
+
+    ghost view = { λ s. record {
+      node = s.node;
+      rights = s.rights;
+      shelf = record { rows = s.table.rows; prepared = s.locks.held; senders = s.senders.items };
+      spare_rows = s.table.spare;
+      spare_locks = s.locks.spare;
+    } };
+
+    ghost invariant = { λ s. IsShelf s.rights s.node (record { rows = s.table.rows; prepared = s.locks.held; senders = s.senders.items }) };
+}
+
+impl Store {
+    /// A store of these objects, each at version 1, of which nobody has asked anything.
+    pub fn make(
+        alloc: Global,
+        node: u16,
+        rights: &Rights,
+        roots: &[(Oid, Object)],
+    ) -> Result<Store, NoMemory>
+        requires ascending { IsTrue (roots_ascend roots.now) }
+        requires fields { AllByRecursion (λ root. length root.1.fields ≤ 16) roots.now }
+        ensures node { IfOk result (λ store. store.node ≡ node) }
+        ensures rights { IfOk result (λ store. store.rights ≡ rights.now) }
+        ensures shelf { IfOk result (λ store. store.shelf ≡ shelf_at_start roots.now node) }
+    {
+        let mut table = Table::new(alloc);
+        for root in roots {
+            if root.0.store == node {
+                table.put(root.0, 1, root.1.copy(alloc)?)?;
+            }
+        }
+        Ok(Store {
+            alloc,
+            node,
+            rights: rights.copy(alloc)?,
+            table,
+            locks: Locks::new(alloc),
+            senders: none_heard(alloc)?,
+        })
+    }
+
+    /// The objects, in the order of names, each with its version.
+    pub fn rows(&self) -> &[(Oid, u32, Object)]
+        ensures { result.now ≡ self.now.shelf.rows }
+    {
+        self.table.rows()
+    }
+
+    /// The transactions that are prepared, in the order of preparing.
+    pub fn prepared(&self) -> &[(Tid, Items)]
+        ensures { result.now ≡ self.now.shelf.prepared }
+    {
+        self.locks.held()
+    }
+
+    /// Makes the room that a record needs, and changes nothing else.
+    pub(crate) fn make_room_for(&mut self, entry: &Entry) -> Result<(), NoMemory>
+        ensures room { OnOk result (HasRoomFor entry.now self.new) }
+        ensures kept { OnlyGainsRoom self.old self.new }
+    {
+        match entry {
+            Entry::Prepared { .. } => self.locks.reserve(),
+            Entry::Applied { tid } => {
+                let more = self.locks.left_by(*tid);
+                self.table.reserve(more)
+            }
+            _ => Ok(()),
+        }
+    }
+
+    /// What the store will do at these bytes of a sender, whoever that is, with the room that it
+    /// needs. Nothing but room changes.
+    pub fn plan(&mut self, sender: u16, bytes: &[u8]) -> Result<StorePlan, NoMemory>
+        ensures plan { IfOk result (λ plan. plan ≡ plan_of (hears self.old.rights self.old.node sender (read_message bytes.now) self.old.shelf)) }
+        ensures room { IfOk result (λ plan. HasRoom plan.entry self.new) }
+        ensures can { IfOk result (λ plan. CanKeepSaid self.new.rights self.new.node plan.entry self.new.shelf) }
+        ensures kept { OnlyGainsRoom self.old self.new }
+    {
+        let said = self.hears(sender, bytes)?;
+        if let Some(entry) = &said.entry {
+            self.make_room_for(entry)?;
+        }
+        plan_of(self.alloc, said)
+    }
+
+    /// Keeps what a record says. It takes no memory.
+    pub(crate) fn keep(&mut self, entry: Entry)
+        requires can { CanKeep self.old.rights self.old.node entry self.old.shelf }
+        requires room { HasRoomFor entry self.old }
+        ensures node { self.new.node ≡ self.old.node }
+        ensures rights { self.new.rights ≡ self.old.rights }
+        ensures shelf { self.new.shelf ≡ keeps entry self.old.shelf }
+    {
+        match entry {
+            Entry::Prepared { tid, items } => {
+                let _ = self.locks.hold(tid, items);
+                set_last(self.senders.as_mut_slice(), tid);
+            }
+            Entry::Refused { tid } => set_last(self.senders.as_mut_slice(), tid),
+            Entry::Applied { tid } => apply(&mut self.table, &mut self.locks, tid),
+            Entry::Released { tid } => {
+                let _ = self.locks.free(tid);
+            }
+            Entry::BootSeen { worker, boot } => {
+                self.locks.free_all(worker);
+                set_boot(self.senders.as_mut_slice(), worker, boot);
+            }
+            _ => {}
+        }
+    }
+
+    /// Does what was planned of the store as it is, and answers its step. It takes no memory.
+    pub fn accept(&mut self, plan: StorePlan) -> Step
+        requires can { CanKeepSaid self.old.rights self.old.node plan.entry self.old.shelf }
+        requires room { HasRoom plan.entry self.old }
+        ensures step { result ≡ plan.step }
+        ensures node { self.new.node ≡ self.old.node }
+        ensures rights { self.new.rights ≡ self.old.rights }
+        ensures shelf { self.new.shelf ≡ keeps_said plan.entry self.old.shelf }
+    {
+        let StorePlan { entry, step } = plan;
+        if let Some(entry) = entry {
+            self.keep(entry);
+        }
+        step
+    }
+
+    /// What the store does at these bytes of a sender: its record and what it sends. Without memory
+    /// it stays as it was.
+    pub fn handle(&mut self, sender: u16, bytes: &[u8]) -> Result<Step, NoMemory>
+        ensures step { IfOk result (λ step. step ≡ step_of 1 (hears self.old.rights self.old.node sender (read_message bytes.now) self.old.shelf)) }
+        ensures node { self.new.node ≡ self.old.node }
+        ensures rights { self.new.rights ≡ self.old.rights }
+        ensures ok { OnOk result (self.new.shelf ≡ keeps_said (hears self.old.rights self.old.node sender (read_message bytes.now) self.old.shelf).entry self.old.shelf) }
+        ensures err { OnErr result (self.new.shelf ≡ self.old.shelf) }
+    {
+        let plan = self.plan(sender, bytes)?;
+        Ok(self.accept(plan))
+    }
+}
