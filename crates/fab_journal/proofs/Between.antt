@@ -2,7 +2,7 @@
 use Rattle.std.proofs.Common.{◌≡◌, ℕ, ◌+◌, ◌-◌, ◌*◌, ◌/◌, ◌%◌, ◌<◌, ◌≤◌, List, [], ◌∷◌, ◌++◌, Ok, Err, refl, sym, ap, subst, ◌∙◌, arith, inl, inr}
 use Rattle.fab_base.specs.FieldSpelling.{two_bytes}
 use Rattle.fab_wire.proofs.ReaderLaws.{IsBytes, Reads, Stops, ok_is}
-use Rattle.fab_wire.proofs.NumberLaws.{both_hold, two_bytes_again, two_bytes_of, first_is, both_are}
+use Rattle.fab_wire.proofs.NumberLaws.{two_are_bytes, both_hold, two_bytes_again, two_bytes_of, first_is, both_are}
 use Rattle.fab_journal.specs.EntryReading.{between_at}
 
 abbrev IsWithin : ℕ → ℕ → ℕ → Type 0
@@ -131,6 +131,7 @@ module _ (low high : ℕ) (ordered : low ≤ high) (small : high < 65536) where
   pub between_reads : Reads (between_at low high) two_bytes (λ n. (low ≤ n) × (n ≤ high))
   between_reads = record {
     some = (low, (omega arith, ordered));
+    bytes = λ n fits. two_are_bytes n;
     again = again;
     found = found;
     stops = stops;

@@ -12,7 +12,7 @@ use Rattle.fab_base.specs.declared.entry.Entry.TheVariants as entries
 use Rattle.fab_base.specs.FieldSpelling.{two_bytes, four_bytes, tid_bytes, IsTid, value_bytes, IsValue, items_bytes, AreItems}
 use Rattle.fab_base.specs.JournalSpelling.{result_bytes, IsResult, stores_bytes, AscendFrom, AreStores, NamesNode, IsOutcome, body_bytes, IsEntryBody, IsEntry}
 use Rattle.fab_wire.specs.Reading.{◌>>=◌, made, value_at}
-use Rattle.fab_wire.proofs.ReaderLaws.{IsBytes, Reads, Stops, bind_ok, bind_err, ok_is, made_reads, chosen_reads, both_reads, respelled, nothing_reads}
+use Rattle.fab_wire.proofs.ReaderLaws.{IsBytes, IsBytes-nil, IsBytes-cons, Reads, Stops, bind_ok, bind_err, ok_is, made_reads, chosen_reads, both_reads, respelled, nothing_reads}
 use Rattle.fab_wire.proofs.NumberLaws.{two_reads, four_reads, byte_reads}
 use Rattle.fab_wire.proofs.FieldLaws.{tid_reads, value_reads, items_reads}
 use Rattle.fab_journal.specs.EntryReading.{between_at, ascending_at, stores_at, result_at, least_node, outcome_at, entry_by, entry_at}
@@ -160,9 +160,14 @@ result_stops version (tag ∷ bytes) left isb e =
           ]
     ]
 
+result_is_bytes : (version : ℕ) (r : Option Value) → IsResult version r → IsBytes (result_bytes r)
+result_is_bytes version None fits = IsBytes-cons 3 [] (omega arith) IsBytes-nil
+result_is_bytes version (Some v) fits = (value_reads version).bytes v fits
+
 pub result_reads : (version : ℕ) → Reads result_at result_bytes (IsResult version)
 result_reads version = record {
   some = (None, tt);
+  bytes = result_is_bytes version;
   again = result_again version;
   found = result_found version;
   stops = result_stops version;
@@ -201,7 +206,7 @@ unfolding outcome_at
 outcome_reads =
     respelled outcome_bytes (λ p. IsOutcome p.0 p.1)
     (chosen_reads (λ o. made (λ (node : ℕ). (o, node)) (between_at (least_node o) 65535)) (λ (p : ℕ × ℕ). p.0) (λ (p : ℕ × ℕ). two_bytes p.1) (λ (p : ℕ × ℕ). (least_node p.0 ≤ p.1) × (p.1 ≤ 65535))
-    (byte_reads 1 9 (omega arith))
+    (byte_reads 1 9 (omega arith) (omega arith))
     (λ o fo. made_reads (λ (node : ℕ). (o, node)) (λ (p : ℕ × ℕ). two_bytes p.1) (λ (p : ℕ × ℕ). ((least_node p.0 ≤ p.1) × (p.1 ≤ 65535)) × (p.0 ≡ o))
     (between_reads (least_node o) 65535 (least_fits o) (omega arith))
     (λ n fn. (refl, (fn, refl)))
@@ -295,7 +300,7 @@ entry_by_reads (suc (suc (suc (suc (suc (suc (suc (suc zero)))))))) h =
     made_reads (λ p. entries.BootSeen p.0 p.1) said (OfKind 8) (both_reads two_reads four_reads) (λ p fp. (refl, ((fp.0, fp.1), refl))) boot_seen_back
 entry_by_reads (suc (suc (suc (suc (suc (suc (suc (suc (suc kind))))))))) h = absurd (omega (arith, h.1))
 
-entry_parts : (e : Entry) → body_bytes e ≡ (kind_of e ∷ []) ++ said e
+entry_parts : (e : Entry) → body_bytes 1 e ≡ (kind_of e ∷ []) ++ said e
 unfolding kind_of said
 entry_parts (entries.Decided tid request result stores) = refl
 entry_parts (entries.Closed request outcome node) = refl
@@ -317,8 +322,8 @@ kind_within (entries.Applied tid) = (omega arith, omega arith)
 kind_within (entries.Released tid) = (omega arith, omega arith)
 kind_within (entries.BootSeen worker boot) = (omega arith, omega arith)
 
-pub entry_reads : Reads entry_at body_bytes (IsEntry 1)
+pub entry_reads : Reads entry_at (body_bytes 1) (IsEntry 1)
 unfolding entry_at
 entry_reads =
-    respelled body_bytes (IsEntry 1) (chosen_reads entry_by kind_of said (IsEntryBody 1) (byte_reads 1 8 (omega arith)) entry_by_reads)
+    respelled (body_bytes 1) (IsEntry 1) (chosen_reads entry_by kind_of said (IsEntryBody 1) (byte_reads 1 8 (omega arith) (omega arith)) entry_by_reads)
     (λ e fe. entry_parts e) (λ e h. record { known = refl; body = h.1 }) (λ e h. (kind_within e, h.body))

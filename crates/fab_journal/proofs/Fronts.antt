@@ -6,7 +6,7 @@ use Rattle.std.proofs.lemmas.List.{append-nil, take-append-le, length-take, take
 use Rattle.std.specs.Int.{w32, from_be_bytes}
 use Rattle.std.proofs.Math.Seq.{take-nil, take-append-add, drop-append-add}
 use Rattle.fab_base.specs.declared.entry.Entry.{Entry}
-use Rattle.fab_base.specs.JournalSpelling.{header_bytes, body_bytes, IsEntry, record_bytes, records_bytes, journal_bytes, AreEntries, IsTornHeader, IsTorn, IsReadAs}
+use Rattle.fab_base.specs.JournalSpelling.{header_bytes, body_bytes, IsEntry, record_bytes, records_from, journal_bytes, AreEntries, IsTornHeader, IsTorn, IsReadAs}
 use Rattle.fab_base.proofs.Torn.{number_in, number_in-framed, length-framed, short_is_torn, cut_is_torn}
 use Rattle.fab_journal.specs.Crash.{length_to, ReadsWholeRecords}
 use Rattle.fab_journal.proofs.Journals.{length-journal}
@@ -14,74 +14,71 @@ use Rattle.fab_journal.proofs.Lengths.{body_small}
 
 -- how long the first so many records are
 abbrev records_to : List Entry → ℕ → ℕ
-records_to entries count = length (records_bytes (take count entries))
+records_to entries count = length (records_from 1 (take count entries))
 
 -- of the first n bytes of some records these are the whole ones
 record Fronts (entries : List Entry) (n : ℕ) : Type 0 where
   pub count : ℕ
   pub within : count ≤ length entries
-  pub fits : records_to entries count ≤ length (take n (records_bytes entries))
-  pub spelled : take (records_to entries count) (take n (records_bytes entries)) ≡ records_bytes (take count entries)
-  pub torn : IsTorn (drop (records_to entries count) (take n (records_bytes entries)))
+  pub fits : records_to entries count ≤ length (take n (records_from 1 entries))
+  pub spelled : take (records_to entries count) (take n (records_from 1 entries)) ≡ records_from 1 (take count entries)
+  pub torn : IsTorn (drop (records_to entries count) (take n (records_from 1 entries)))
   pub whole : (index : ℕ) → index < length entries → (records_to entries (index + 1) ≤ n) ↔ (index < count)
 
-length-record : (e : Entry) → length (record_bytes e) ≡ 4 + length (body_bytes e)
-length-record e = length-framed (body_bytes e)
-
 -- the records behind a first one that is whole
-whole_further : (e : Entry) (es : List Entry) (n : ℕ) → length (record_bytes e) ≤ n → (f : Fronts es (n - length (record_bytes e))) (index : ℕ) → index < length (e ∷ es) → (records_to (e ∷ es) (index + 1) ≤ n) ↔ (index < suc f.count)
-whole_further e es n le f zero below = ((λ h. omega arith), (λ h. omega (arith, le, ap length (append-nil (record_bytes e)))))
+whole_further : (e : Entry) (es : List Entry) (n : ℕ) → length (record_bytes 1 e) ≤ n → (f : Fronts es (n - length (record_bytes 1 e))) (index : ℕ) → index < length (e ∷ es) → (records_to (e ∷ es) (index + 1) ≤ n) ↔ (index < suc f.count)
+whole_further e es n le f zero below = ((λ h. omega arith), (λ h. omega (arith, le, ap length (append-nil (record_bytes 1 e)))))
 whole_further e es n le f (suc index) below =
     let w = f.whole index (omega (arith, below)) in
-    let to : records_to (e ∷ es) (suc index + 1) ≡ length (record_bytes e) + records_to es (index + 1) =
+    let to : records_to (e ∷ es) (suc index + 1) ≡ length (record_bytes 1 e) + records_to es (index + 1) =
     let next : suc index + 1 ≡ suc (index + 1) = omega arith in
-    ap (λ (k : ℕ). records_to (e ∷ es) k) next ∙ length-append (record_bytes e) (records_bytes (take (index + 1) es)) in
+    ap (λ (k : ℕ). records_to (e ∷ es) k) next ∙ length-append (record_bytes 1 e) (records_from 1 (take (index + 1) es)) in
     ((λ h. omega (arith, w.0 (omega (arith, h, to)))), (λ h. omega (arith, to, le, w.1 (omega (arith, h)))))
 
 -- a record that doesn't fit is torn
-torn_inside : (e : Entry) (more : List ℕ) (n : ℕ) → IsEntry 1 e → n < length (record_bytes e) → IsTorn (take n (record_bytes e ++ more))
+pub torn_inside : (e : Entry) (more : List ℕ) (n : ℕ) → IsEntry 1 e → n < length (record_bytes 1 e) → IsTorn (take n (record_bytes 1 e ++ more))
 torn_inside e more n fits lt =
-    let long : length (record_bytes e ++ more) ≡ length (record_bytes e) + length more = length-append (record_bytes e) more in
-    let len : length (take n (record_bytes e ++ more)) ≡ n = length-take n (record_bytes e ++ more) ∙ omega (arith, lt, long) in
+    let long : length (record_bytes 1 e ++ more) ≡ length (record_bytes 1 e) + length more = length-append (record_bytes 1 e) more in
+    let len : length (take n (record_bytes 1 e ++ more)) ≡ n = length-take n (record_bytes 1 e ++ more) ∙ omega (arith, lt, long) in
     elim (cases_lt n 4) [
-      | inl short ↦ short_is_torn (take n (record_bytes e ++ more)) (omega (arith, len, short))
+      | inl short ↦ short_is_torn (take n (record_bytes 1 e ++ more)) (omega (arith, len, short))
       | inr le ↦
-          let same : take 4 (take n (record_bytes e ++ more)) ≡ take 4 (record_bytes e ++ more) = take-take 4 n (record_bytes e ++ more) le in
-          let number : number_in (take n (record_bytes e ++ more)) ≡ length (body_bytes e) = ap (from_be_bytes w32) same ∙ number_in-framed (body_bytes e) more (body_small e fits) in
-          cut_is_torn (take n (record_bytes e ++ more)) (omega (arith, len, number, lt, length-record e))
+          let same : take 4 (take n (record_bytes 1 e ++ more)) ≡ take 4 (record_bytes 1 e ++ more) = take-take 4 n (record_bytes 1 e ++ more) le in
+          let number : number_in (take n (record_bytes 1 e ++ more)) ≡ length (body_bytes 1 e) = ap (from_be_bytes w32) same ∙ number_in-framed (body_bytes 1 e) more (body_small e fits) in
+          cut_is_torn (take n (record_bytes 1 e ++ more)) (omega (arith, len, number, lt, length-framed (body_bytes 1 e)))
     ]
 
 -- the first record is whole
-first_whole : (e : Entry) (es : List Entry) (n : ℕ) → length (record_bytes e) ≤ n → Fronts es (n - length (record_bytes e)) → Fronts (e ∷ es) n
+first_whole : (e : Entry) (es : List Entry) (n : ℕ) → length (record_bytes 1 e) ≤ n → Fronts es (n - length (record_bytes 1 e)) → Fronts (e ∷ es) n
 first_whole e es n le f =
-    let m = length (record_bytes e) in
-    let rest = take (n - m) (records_bytes es) in
-    let cut : take n (record_bytes e ++ records_bytes es) ≡ record_bytes e ++ rest =
-    ap (λ (k : ℕ). take k (record_bytes e ++ records_bytes es)) (omega (arith, le)) ∙ take-append-add (record_bytes e) (records_bytes es) (n - m) in
-    let to : (count : ℕ) → records_to (e ∷ es) (suc count) ≡ m + records_to es count = λ count. length-append (record_bytes e) (records_bytes (take count es)) in
+    let m = length (record_bytes 1 e) in
+    let rest = take (n - m) (records_from 1 es) in
+    let cut : take n (record_bytes 1 e ++ records_from 1 es) ≡ record_bytes 1 e ++ rest =
+    ap (λ (k : ℕ). take k (record_bytes 1 e ++ records_from 1 es)) (omega (arith, le)) ∙ take-append-add (record_bytes 1 e) (records_from 1 es) (n - m) in
+    let to : (count : ℕ) → records_to (e ∷ es) (suc count) ≡ m + records_to es count = λ count. length-append (record_bytes 1 e) (records_from 1 (take count es)) in
     record {
       count = suc f.count;
       within = omega (arith, f.within);
-      fits = omega (arith, to f.count, ap length cut, length-append (record_bytes e) rest, f.fits);
-      spelled = ap (λ (t : List ℕ). take (records_to (e ∷ es) (suc f.count)) t) cut ∙ ap (λ (k : ℕ). take k (record_bytes e ++ rest)) (to f.count) ∙ take-append-add (record_bytes e) rest (records_to es f.count)
-          ∙ ap (λ (t : List ℕ). record_bytes e ++ t) f.spelled;
+      fits = omega (arith, to f.count, ap length cut, length-append (record_bytes 1 e) rest, f.fits);
+      spelled = ap (λ (t : List ℕ). take (records_to (e ∷ es) (suc f.count)) t) cut ∙ ap (λ (k : ℕ). take k (record_bytes 1 e ++ rest)) (to f.count) ∙ take-append-add (record_bytes 1 e) rest (records_to es f.count)
+          ∙ ap (λ (t : List ℕ). record_bytes 1 e ++ t) f.spelled;
       torn =
-          let same : drop (records_to (e ∷ es) (suc f.count)) (take n (record_bytes e ++ records_bytes es)) ≡ drop (records_to es f.count) rest =
-          ap (λ (t : List ℕ). drop (records_to (e ∷ es) (suc f.count)) t) cut ∙ ap (λ (k : ℕ). drop k (record_bytes e ++ rest)) (to f.count) ∙ drop-append-add (record_bytes e) rest (records_to es f.count) in
+          let same : drop (records_to (e ∷ es) (suc f.count)) (take n (record_bytes 1 e ++ records_from 1 es)) ≡ drop (records_to es f.count) rest =
+          ap (λ (t : List ℕ). drop (records_to (e ∷ es) (suc f.count)) t) cut ∙ ap (λ (k : ℕ). drop k (record_bytes 1 e ++ rest)) (to f.count) ∙ drop-append-add (record_bytes 1 e) rest (records_to es f.count) in
           subst IsTorn (sym same) f.torn;
       whole = whole_further e es n le f;
     }
 
 -- it isn't
-first_cut : (e : Entry) (es : List Entry) (n : ℕ) → IsEntry 1 e → n < length (record_bytes e) → Fronts (e ∷ es) n
+first_cut : (e : Entry) (es : List Entry) (n : ℕ) → IsEntry 1 e → n < length (record_bytes 1 e) → Fronts (e ∷ es) n
 first_cut e es n fits lt = record {
   count = 0;
   within = omega arith;
   fits = omega arith;
   spelled = refl;
-  torn = torn_inside e (records_bytes es) n fits lt;
+  torn = torn_inside e (records_from 1 es) n fits lt;
   whole = λ index below.
-      ((λ le. absurd (omega (arith, le, lt, ap (λ (k : ℕ). length (records_bytes (take k (e ∷ es)))) (add-one index), length-append (record_bytes e) (records_bytes (take index es))))), (λ lt0. absurd (omega (arith, lt0))));
+      ((λ le. absurd (omega (arith, le, lt, ap (λ (k : ℕ). length (records_from 1 (take k (e ∷ es)))) (add-one index), length-append (record_bytes 1 e) (records_from 1 (take index es))))), (λ lt0. absurd (omega (arith, lt0))));
 }
 
 fronts : (entries : List Entry) (n : ℕ) → AreEntries 1 entries → Fronts entries n
@@ -94,9 +91,9 @@ fronts [] n fits = record {
   whole = λ index below. absurd (omega (arith, below));
 }
 fronts (e ∷ es) n fits =
-    elim (cases_lt n (length (record_bytes e))) [
+    elim (cases_lt n (length (record_bytes 1 e))) [
       | inl lt ↦ first_cut e es n fits.0 lt
-      | inr le ↦ first_whole e es n le (fronts es (n - length (record_bytes e)) fits.1)
+      | inr le ↦ first_whole e es n le (fronts es (n - length (record_bytes 1 e)) fits.1)
     ]
 
 AreEntries-take : (count : ℕ) (entries : List Entry) → AreEntries 1 entries → AreEntries 1 (take count entries)
@@ -109,7 +106,7 @@ behind_header : (node : ℕ) (entries : List Entry) (left : ℕ) → node < 2 ^ 
 behind_header node entries left small fits le =
     let n = left - 8 in
     let f = fronts entries n fits in
-    let records = records_bytes entries in
+    let records = records_from 1 entries in
     let cut : take left (journal_bytes 1 node entries) ≡ header_bytes 1 node ++ take n records =
     ap (λ (k : ℕ). take k (journal_bytes 1 node entries)) (omega (arith, le)) ∙ take-append-add (header_bytes 1 node) records n in
     let len = 8 + records_to entries f.count in
@@ -138,7 +135,7 @@ behind_header node entries left small fits le =
 -- inside the header
 inside_header : (node : ℕ) (entries : List Entry) (left : ℕ) → node < 2 ^ 16 → left < 8 → ReadsWholeRecords node entries left
 inside_header node entries left small lt =
-    let cut : take left (journal_bytes 1 node entries) ≡ take left (header_bytes 1 node) = take-append-le left (header_bytes 1 node) (records_bytes entries) (omega (arith, lt)) in
+    let cut : take left (journal_bytes 1 node entries) ≡ take left (header_bytes 1 node) = take-append-le left (header_bytes 1 node) (records_from 1 entries) (omega (arith, lt)) in
     let len : length (take left (header_bytes 1 node)) ≡ left = length-take left (header_bytes 1 node) ∙ omega (arith, lt) in
     let torn : IsTornHeader (take left (header_bytes 1 node)) =
     record { node = node; in_range = small; shorter = omega (arith, len, lt); begins = ap (λ (k : ℕ). take k (header_bytes 1 node)) (sym len) } in

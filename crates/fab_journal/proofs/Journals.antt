@@ -1,10 +1,10 @@
 -- Journals record by record.
-use Rattle.std.proofs.Common.{◌≡◌, ℕ, ◌+◌, ◌-◌, ◌*◌, ◌^◌, ◌<◌, ◌≤◌, List, [], ◌∷◌, ◌++◌, length, take, drop, refl, sym, ap, ◌∙◌, append_assoc, length-append, arith}
+use Rattle.std.proofs.Common.{◌≡◌, ℕ, ◌+◌, ◌-◌, ◌*◌, ◌^◌, ◌<◌, ◌≤◌, List, [], ◌∷◌, ◌++◌, length, take, drop, refl, sym, ap, subst, ◌∙◌, append_assoc, length-append, arith}
 use Rattle.std.proofs.lemmas.List.{append-nil, take-append-drop, take_all, length-take-le, length-drop}
 use Rattle.std.proofs.Math.Seq.{take-append_seam, drop-append_seam}
 use Rattle.fab_base.specs.declared.entry.Entry.{Entry}
 use Rattle.fab_base.specs.FieldSpelling.{two_bytes, four_bytes}
-use Rattle.fab_base.specs.JournalSpelling.{opening, header_bytes, body_bytes, IsEntry, framed, record_bytes, records_bytes, journal_bytes, AreEntries, IsTornHeader, IsSpelledTo}
+use Rattle.fab_base.specs.JournalSpelling.{opening, header_bytes, body_bytes, IsEntry, framed, record_bytes, records_from, version_behind, journal_bytes, AreEntries, IsTornHeader, IsSpelledTo}
 use Rattle.fab_base.proofs.Torn.{number_in, number_in-framed, length-framed}
 use Rattle.fab_wire.proofs.ReaderLaws.{IsBytes}
 use Rattle.fab_wire.proofs.NumberLaws.{two_bytes_of}
@@ -29,8 +29,8 @@ same_front a b x y la lb e =
 pub header_rest : (node other : ℕ) (x y : List ℕ) → header_bytes 1 node ++ x ≡ header_bytes 1 other ++ y → x ≡ y
 header_rest node other x y e = (same_parts (header_bytes 1 node) (header_bytes 1 other) x y refl e).1
 
-pub length-journal : (node : ℕ) (entries : List Entry) → length (journal_bytes 1 node entries) ≡ 8 + length (records_bytes entries)
-length-journal node entries = length-append (header_bytes 1 node) (records_bytes entries)
+pub length-journal : (node : ℕ) (entries : List Entry) → length (journal_bytes 1 node entries) ≡ 8 + length (records_from 1 entries)
+length-journal node entries = length-append (header_bytes 1 node) (records_from 1 entries)
 
 -- the bytes behind a whole opening are a header's node
 pub header_from : (bytes : List ℕ) → IsBytes bytes → 8 ≤ length bytes → take 6 bytes ≡ opening → (node : ℕ) × (node < 2 ^ 16) × (take 8 bytes ≡ header_bytes 1 node)
@@ -66,13 +66,23 @@ torn_header (a ∷ b ∷ c ∷ d ∷ e ∷ f ∷ g ∷ h ∷ bytes) isb lt same 
 
 -- ---- one record more
 
-records-push : (entries : List Entry) (e : Entry) → records_bytes (entries ++ e ∷ []) ≡ records_bytes entries ++ record_bytes e
-records-push [] e = append-nil (record_bytes e)
-records-push (x ∷ entries) e = ap (λ (t : List ℕ). record_bytes x ++ t) (records-push entries e) ∙ sym (append_assoc (record_bytes x) (records_bytes entries) (record_bytes e))
+-- no entry changes the version
+pub version_stays : (version : ℕ) (entries : List Entry) → version_behind version entries ≡ version
+version_stays version [] = refl
+version_stays version (x ∷ entries) = version_stays version entries
 
-AreEntries-push : (entries : List Entry) (e : Entry) → AreEntries 1 entries → IsEntry 1 e → AreEntries 1 (entries ++ e ∷ [])
-AreEntries-push [] e all one = (one, tt)
-AreEntries-push (x ∷ entries) e all one = (all.0, AreEntries-push entries e all.1 one)
+pub records-push : (version : ℕ) (entries : List Entry) (e : Entry) → records_from version (entries ++ e ∷ []) ≡ records_from version entries ++ record_bytes (version_behind version entries) e
+records-push version [] e = append-nil (record_bytes version e)
+records-push version (x ∷ entries) e =
+    ap (λ (t : List ℕ). record_bytes version x ++ t) (records-push version entries e)
+    ∙ sym (append_assoc (record_bytes version x) (records_from version entries) (record_bytes (version_behind version entries) e))
+
+pub AreEntries-push : (version : ℕ) (entries : List Entry) (e : Entry) → AreEntries version entries → IsEntry (version_behind version entries) e → AreEntries version (entries ++ e ∷ [])
+AreEntries-push version [] e all one = (one, tt)
+AreEntries-push version (x ∷ entries) e all one = (all.0, AreEntries-push version entries e all.1 one)
+
+one_more : (entries : List Entry) (e : Entry) → records_from 1 (entries ++ e ∷ []) ≡ records_from 1 entries ++ record_bytes 1 e
+one_more entries e = records-push 1 entries e ∙ ap (λ (v : ℕ). records_from 1 entries ++ record_bytes v e) (version_stays 1 entries)
 
 -- only a header
 pub spelled_header : (bytes : List ℕ) → IsBytes bytes → 8 ≤ length bytes → take 6 bytes ≡ opening → IsSpelledTo bytes [] 8
@@ -82,7 +92,7 @@ spelled_header bytes isb le same =
 
 -- a record more is spelled
 pub spelled_further : (bytes : List ℕ) (entries : List Entry) (at : ℕ) (body : List ℕ) (e : Entry) → IsSpelledTo bytes entries at
-    → drop at bytes ≡ framed body ++ drop (4 + length body) (drop at bytes) → IsEntry 1 e → body ≡ body_bytes e → IsSpelledTo bytes (entries ++ e ∷ []) (at + (4 + length body))
+    → drop at bytes ≡ framed body ++ drop (4 + length body) (drop at bytes) → IsEntry 1 e → body ≡ body_bytes 1 e → IsSpelledTo bytes (entries ++ e ∷ []) (at + (4 + length body))
 spelled_further bytes entries at body e s follows one same =
     let len : length (framed body) ≡ 4 + length body = length-framed body in
     let whole : bytes ≡ take at bytes ++ (framed body ++ drop (4 + length body) (drop at bytes)) = sym (take-append-drop at bytes) ∙ ap (λ (t : List ℕ). take at bytes ++ t) follows in
@@ -95,10 +105,10 @@ spelled_further bytes entries at body e s follows one same =
     record {
       node = s.node;
       in_range = s.in_range;
-      entries_fit = AreEntries-push entries e s.entries_fit one;
+      entries_fit = AreEntries-push 1 entries e s.entries_fit (subst (λ (v : ℕ). IsEntry v e) (sym (version_stays 1 entries)) one);
       within = omega (arith, total);
-      spelled = taken ∙ ap (λ (t : List ℕ). t ++ framed body) s.spelled ∙ append_assoc (header_bytes 1 s.node) (records_bytes entries) (framed body)
-          ∙ ap (λ (t : List ℕ). header_bytes 1 s.node ++ (records_bytes entries ++ framed t)) same ∙ ap (λ (t : List ℕ). header_bytes 1 s.node ++ t) (sym (records-push entries e));
+      spelled = taken ∙ ap (λ (t : List ℕ). t ++ framed body) s.spelled ∙ append_assoc (header_bytes 1 s.node) (records_from 1 entries) (framed body)
+          ∙ ap (λ (t : List ℕ). header_bytes 1 s.node ++ (records_from 1 entries ++ framed t)) same ∙ ap (λ (t : List ℕ). header_bytes 1 s.node ++ t) (sym (one_more entries e));
     }
 
 -- what a slice from a place on holds

@@ -1,3 +1,4 @@
+pub mod Appending
 pub mod Ascending
 pub mod Between
 pub mod Bodies

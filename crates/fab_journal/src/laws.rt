@@ -1,9 +1,11 @@
 //! Laws of the spelling of journals. The functions do nothing: their contracts are the laws.
 
-ghost use Rattle.std.specs.Prelude.{◌≡◌, ◌+◌, ◌<◌, ◌≤◌, ◌^◌, ℕ, List, length, take};
+ghost use Rattle.std.specs.Prelude.{◌≡◌, ◌↔◌, ◌+◌, ◌<◌, ◌≤◌, ◌^◌, ℕ, List, [], ◌∷◌, ◌++◌, length, take};
 ghost use Rattle.fab_base.specs.declared.entry.Entry.{Entry};
-ghost use Rattle.fab_base.specs.JournalSpelling.{journal_bytes, AreEntries, IsReadAs};
+ghost use Rattle.fab_base.specs.JournalSpelling.{journal_bytes, record_bytes, version_behind, AreEntries, IsEntry, IsReadAs};
+ghost use Rattle.fab_device.specs.Devices.{MayLeave};
 ghost use Rattle.fab_journal.specs.Crash.{ReadsWholeRecords, length_to};
+ghost use Rattle.fab_journal.specs.Lengths.{record_length};
 
 /// Bytes are read as at most one list of entries.
 pub fn one_reading()
@@ -23,4 +25,36 @@ pub fn cut_keeps_synced_records()
     ensures { (node : ℕ) (entries : List Entry) (synced cut index : ℕ)
         → node < 2 ^ 16 → AreEntries 1 entries → synced ≤ cut → index < length entries → length_to node entries (index + 1) ≤ synced
         → (count len : ℕ) × (index < count) × IsReadAs (take cut (journal_bytes 1 node entries)) (take count entries) len }
+{}
+
+/// Where all but what was appended last is synced, a crash leaves that, and behind it any front of
+/// what was appended.
+pub fn crash_leaves_a_front()
+    ensures { (old bytes left : List ℕ)
+        → MayLeave (old ++ bytes) (length old) left ↔ ((n : ℕ) × (n ≤ length bytes) × (left ≡ old ++ take n bytes)) }
+{}
+
+/// A record behind a journal makes it the journal with that entry more, in the version that stands
+/// behind the entries, which is the first one's.
+pub fn one_record_more()
+    ensures spelled { (node : ℕ) (entries : List Entry) (entry : Entry)
+        → journal_bytes 1 node (entries ++ entry ∷ []) ≡ journal_bytes 1 node entries ++ record_bytes (version_behind 1 entries) entry }
+    ensures fits { (entries : List Entry) (entry : Entry)
+        → AreEntries 1 entries → IsEntry (version_behind 1 entries) entry → AreEntries 1 (entries ++ entry ∷ []) }
+    ensures version { (version : ℕ) (entries : List Entry) → version_behind version entries ≡ version }
+{}
+
+/// A journal is read as all of its entries in its whole length, and with a front of a record behind
+/// it that isn't the whole record as the same.
+pub fn torn_record_is_dropped()
+    ensures whole { (node : ℕ) (entries : List Entry)
+        → node < 2 ^ 16 → AreEntries 1 entries → IsReadAs (journal_bytes 1 node entries) entries (length (journal_bytes 1 node entries)) }
+    ensures torn { (node : ℕ) (entries : List Entry) (entry : Entry) (n : ℕ)
+        → node < 2 ^ 16 → AreEntries 1 entries → IsEntry (version_behind 1 entries) entry → n < length (record_bytes (version_behind 1 entries) entry)
+        → IsReadAs (journal_bytes 1 node entries ++ take n (record_bytes (version_behind 1 entries) entry)) entries (length (journal_bytes 1 node entries)) }
+{}
+
+/// How long a record is.
+pub fn records_have_their_length()
+    ensures { (version : ℕ) (entry : Entry) → length (record_bytes version entry) ≡ record_length entry }
 {}

@@ -26,7 +26,7 @@ pub fn header_bytes(alloc: Global, node: u16) -> Result<Seq<u8>, NoMemory>
 /// An entry's record: the length of its body, four bytes, and the body.
 pub fn record_bytes(alloc: Global, entry: &Entry) -> Result<Seq<u8>, NoMemory>
     requires { KeepsEntry entry.now }
-    ensures bytes { IfOk result (λ bytes. bytes ≡ record_of entry.now) }
+    ensures bytes { IfOk result (λ bytes. bytes ≡ record_of 1 entry.now) }
     // The entry has a spelling.
     ensures fits { OnOk result (IsEntry 1 entry.now) }
 {
@@ -40,7 +40,7 @@ pub fn record_bytes(alloc: Global, entry: &Entry) -> Result<Seq<u8>, NoMemory>
 
 fn put_body(out: &mut Seq<u8>, entry: &Entry) -> Result<(), NoMemory>
     requires { KeepsEntry entry.now }
-    ensures bytes { OnOk result (out.new ≡ out.old ++ body_bytes entry.now) }
+    ensures bytes { OnOk result (out.new ≡ out.old ++ body_bytes 1 entry.now) }
     ensures fits { OnOk result (IsEntryBody 1 entry.now) }
 {
     match entry {
@@ -83,7 +83,7 @@ fn put_decided(
     stores: &[u16],
 ) -> Result<(), NoMemory>
     requires { AreStores stores.now }
-    ensures bytes { OnOk result (out.new ≡ out.old ++ body_bytes (Decided tid request value stores.now)) }
+    ensures bytes { OnOk result (out.new ≡ out.old ++ body_bytes 1 (Decided tid request value stores.now)) }
     ensures fits { OnOk result (IsEntryBody 1 (Decided tid request value stores.now)) }
 {
     put_kind_and_tid(out, 1, tid)?;
@@ -93,7 +93,7 @@ fn put_decided(
 }
 
 fn put_closed(out: &mut Seq<u8>, request: u32, outcome: u8, node: u16) -> Result<(), NoMemory>
-    ensures { OnOk result (out.new ≡ out.old ++ body_bytes (Closed request outcome node)) }
+    ensures { OnOk result (out.new ≡ out.old ++ body_bytes 1 (Closed request outcome node)) }
 {
     put_u8(out, 2)?;
     put_u32(out, request)?;

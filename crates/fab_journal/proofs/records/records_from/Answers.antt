@@ -1,7 +1,8 @@
-use Rattle.std.proofs.Common.{◌+◌, ℕ, List, length, drop, arith, refl, inr, subst, Some}
+use Rattle.std.proofs.Common.{◌+◌, ℕ, List, length, drop, arith, refl, inr, sym, subst, Some}
+use Rattle.fab_base.specs.JournalSpelling.{IsBadBody}
 use Rattle.fab_journal.specs.Records.{FrontRecord}
 use Rattle.fab_wire.proofs.ReaderLaws.{IsBytes}
-use Rattle.fab_journal.proofs.Journals.{spelled_header, spelled_further, from_place}
+use Rattle.fab_journal.proofs.Journals.{version_stays, spelled_header, spelled_further, from_place}
 use Rattle.fab_journal.proofs.OneReading.{is_bad}
 use Rattle.fab_journal.proofs.records.records_from.Goals as goal
 
@@ -24,7 +25,7 @@ returns-in-Err-Bad c =
       length_fits = front.0;
       follows = front.1;
       place = c.in-Err-Bad.place;
-      bad = bad.0;
+      bad = subst (λ (v : ℕ). IsBadBody v c.in-Some.body.now c.in-Err-Bad.place) (sym (version_stays 1 c.loop-body.entries)) bad.0;
       at_place = refl;
     })))
 

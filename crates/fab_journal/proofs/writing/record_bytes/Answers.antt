@@ -6,6 +6,6 @@ use Rattle.fab_journal.proofs.writing.record_bytes.Goals as goal
 pub overflow_cast-len : goal.overflow_cast-len
 overflow_cast-len c =
     let fits : IsEntry 1 c.args.entry.now = record { known = refl; body = c.in_ok-put_body.ensures.fits } in
-    let small : length (body_bytes c.args.entry.now) < 2 ^ 32 = body_small c.args.entry.now fits in
-    let written : c.put_body.new.out ≡ body_bytes c.args.entry.now = search rules in
+    let small : length (body_bytes 1 c.args.entry.now) < 2 ^ 32 = body_small c.args.entry.now fits in
+    let written : c.put_body.new.out ≡ body_bytes 1 c.args.entry.now = search rules in
     record { fits = omega (arith, small, ap length written, c.len.ensures) }
