@@ -1,2 +1,3 @@
+pub mod Kept
 mod StoreExamples
 pub mod Toy

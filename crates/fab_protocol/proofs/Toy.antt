@@ -1,5 +1,5 @@
 -- A small setting, made by hand: workers, stores, and accounts.
-use Rattle.std.proofs.Common.{ℕ, List, [], ◌∷◌, ℤ, pos, Option, Some, None}
+use Rattle.std.proofs.Common.{ℕ, [], ◌∷◌, ℤ, None}
 use Rattle.fab_base.specs.declared.object.Oid.{Oid}
 use Rattle.fab_base.specs.declared.object.Object.{Object as Thing}
 use Rattle.fab_base.specs.declared.object.Tid.{Tid}
