@@ -1,3 +1,4 @@
 pub mod Kept
 mod StoreExamples
+pub mod TableLaws
 pub mod Toy
