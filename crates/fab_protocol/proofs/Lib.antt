@@ -1,4 +1,6 @@
 pub mod Kept
+pub mod Lists
+pub mod Senders
 mod StoreExamples
 pub mod TableLaws
 pub mod Toy
