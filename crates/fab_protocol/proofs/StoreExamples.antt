@@ -176,6 +176,7 @@ start_is_shelf = record {
   items_here = tt;
   current = tt;
   apart = tt;
+  once = tt;
   fields = (lit≤ tt, (lit≤ tt, tt));
   counts = tt;
   remembered = refl;
@@ -202,6 +203,7 @@ prepared_is_shelf = record {
   items_here = ((refl, tt), ((refl, (refl, tt)), tt));
   current = ((refl, tt), ((refl, (refl, tt)), tt));
   apart = (((refl, (refl, tt)), tt), (tt, tt));
+  once = ((refl, tt), ((refl, (refl, tt)), tt));
   fields = (lit≤ tt, (lit≤ tt, tt));
   counts = (
     few (items ((account 1, 1) ∷ []) [] []) (lit≤ tt) (lit≤ tt) tt (lit≤ tt) tt,
@@ -216,3 +218,7 @@ writes_one = items [] ((account 0, 1, one) ∷ []) []
 
 two_writers : IsShelf rights 1 (keeps (e.Prepared t writes_one) (holds writes_one)) → ⊥
 two_writers h = true≢false (h.apart.0.0.1.0)
+
+-- nor does one that writes an object twice
+twice_is_no_shelf : IsShelf rights 1 (record S { prepared = (t, items [] ((account 0, 1, one) ∷ (account 0, 1, one) ∷ []) []) ∷ [] }) → ⊥
+twice_is_no_shelf h = true≢false h.once.0.0
