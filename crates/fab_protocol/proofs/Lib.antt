@@ -1,5 +1,7 @@
 pub mod Kept
 pub mod Lists
+pub mod NameLists
+pub mod Reasons
 pub mod Senders
 mod StoreExamples
 pub mod TableLaws

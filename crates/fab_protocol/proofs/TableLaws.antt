@@ -4,7 +4,7 @@ use Rattle.std.proofs.Common.{List, [], ◌∷◌, ◌++◌, map, length, get_or
 use Rattle.std.specs.Cmp.Lexicographic.{bytes_decides}
 use Rattle.std.specs.List.{filter, AllByRecursion}
 use Rattle.std.specs.Str.{bytes_eq}
-use Rattle.std.proofs.lemmas.Bool.{and_parts, and_from, or_parts, true≢false}
+use Rattle.std.proofs.lemmas.Bool.{and_parts, and_from, or_parts, or_from, true≢false}
 use Rattle.std.proofs.lemmas.Bool.Decides.{nat_tests}
 use Rattle.fab_base.specs.declared.object.Oid.{Oid}
 use Rattle.fab_base.specs.FlatMap.{parts_of, precedes, is_before, is_same, is_among}
@@ -208,6 +208,19 @@ module _ {R : Type 0} (name : R → Oid) where
               | false ↦ λ f. headed r xs (subst (λ o. IsTrue (leads name o xs)) (same_name (name x) (name r) f e) g.0) g.1
             ] refl
       ] refl
+
+  -- no name stands twice in ascending rows
+  pub ascends_once : (rows : List R) → IsTrue (ascends name rows) → OnlyOnce (map name rows)
+  ascends_once [] h = tt
+  ascends_once (x ∷ xs) h =
+      let g = parted x xs h in
+      (another xs (leads_all (name x) xs g.0 g.1), ascends_once xs g.1)
+    where
+      another : (ys : List R) → AllByRecursion (λ y. IsTrue (is_before (name x) (name y))) ys → IsFalse (is_among (name x) (map name ys))
+      another [] k = refl
+      another (y ∷ ys) k =
+          or_from (is_same (name y) (name x)) (is_among (name x) (map name ys)) (same_flips (name y) (name x) ∙ before_apart (name x) (name y) k.0)
+          (another ys k.1)
 
   -- what passes a test ascends still
   pub ascends_filter : (test : R → Bool) (rows : List R) → IsTrue (ascends name rows) → IsTrue (ascends name (filter test rows))
