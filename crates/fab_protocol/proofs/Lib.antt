@@ -1,5 +1,6 @@
 pub mod Kept
 pub mod Lists
+pub mod Locks
 pub mod NameLists
 pub mod Reasons
 pub mod Senders
