@@ -1,2 +1,9 @@
+pub mod Kept
+pub mod Lists
+pub mod Locks
+pub mod NameLists
+pub mod Reasons
+pub mod Senders
 mod StoreExamples
+pub mod TableLaws
 pub mod Toy

@@ -1,10 +1,13 @@
 -- A store alone: each reason to refuse, in order; what is dropped; what a new boot frees.
-use Rattle.std.proofs.Common.{◌≡◌, ◌≤◌, ℕ, length, List, [], ◌∷◌, ◌++◌, map, pos, None, refl, lit≤, true, false, true≢false}
+use Rattle.std.proofs.Common.{◌≡◌, ◌≤◌, ℕ, length, List, [], ◌∷◌, ◌++◌, map, pos, Some, None, refl, lit≤, true, false, true≢false}
 use Rattle.fab_base.specs.declared.object.Oid.{Oid}
 use Rattle.fab_base.specs.declared.object.Object.{Object as Thing}
 use Rattle.fab_base.specs.declared.object.Tid.{Tid}
 use Rattle.fab_base.specs.declared.message.Items.{Items}
-use Rattle.fab_base.specs.declared.message.Message.TheVariants.{Fetch, Object, Deny, Prepare, Commit, Boot, Inquire}
+use Rattle.fab_base.specs.declared.message.Message.TheVariants.{Fetch, Object, Deny, Prepare, Vote, Commit, Abort, Boot, Inquire}
+use Rattle.fab_base.specs.declared.object.Value.{Value}
+use Rattle.fab_base.specs.declared.object.Value.TheVariants.{Int, Null, Ref}
+use Rattle.fab_net.specs.declared.note.Note.TheVariants as note
 use Rattle.fab_base.specs.declared.message.Answer.{Answer}
 use Rattle.fab_base.specs.declared.message.Answer.TheVariants as answer
 use Rattle.fab_base.specs.declared.message.Why.TheVariants as why
@@ -13,6 +16,7 @@ use Rattle.std.specs.List.{AllByRecursion}
 use Rattle.std.proofs.lemmas.List.Elements.{All-from_recursion}
 use Rattle.fab_base.specs.FieldSpelling.{KeepsItems}
 use Rattle.fab_base.specs.Tids.{is_above}
+use Rattle.fab_protocol.specs.Versions.{risen}
 use Rattle.fab_protocol.specs.Stores.{Shelf, shelf_at_start, keeps, vote, says, asks, silent, replies, votes, start_of, last_of}
 use Rattle.fab_protocol.specs.Shelves.{IsShelf}
 use Rattle.fab_protocol.proofs.Toy.{account, box, holding, accounts, attempt, made, rights}
@@ -28,6 +32,10 @@ S = shelf_at_start (accounts (pos 100) (pos 0)) 1
 
 abbrev items : List (Oid × ℕ) → List (Oid × ℕ × Thing) → List (Oid × Thing) → Items
 items reads writes creates = record { reads = reads; writes = writes; creates = creates }
+
+-- a box that this attempt makes
+abbrev boxed : Tid → Oid
+boxed t = record (made t) { store = 4; class = 1 }
 
 abbrev one : Thing
 one = holding (pos 1)
@@ -68,6 +76,39 @@ not_of_the_attempt = refl
 rights_before_versions : vote rights 1 2 (attempt 2 1 1) (items ((account 0, 9) ∷ []) [] []) S ≡ answer.Rights (account 0)
 rights_before_versions = refl
 
+-- who may read isn't therefore one who may write or make
+write_of_a_reader : vote rights 4 3 (attempt 3 1 1) (items [] ((box, 1, record one { class = 1 }) ∷ []) []) S ≡ answer.Rights box
+write_of_a_reader = refl
+
+create_of_a_reader : vote rights 4 3 (attempt 3 1 1) (items [] [] ((boxed (attempt 3 1 1), record one { class = 1 }) ∷ [])) S
+    ≡ answer.Rights (boxed (attempt 3 1 1))
+create_of_a_reader = refl
+
+object_of_another_class : voted S [] [] ((made t, record one { class = 1 }) ∷ []) ≡ answer.IllFormed (made t)
+object_of_another_class = refl
+
+create_in_earlier_list : voted S [] ((account 0, 1, one) ∷ []) ((account 0, one) ∷ []) ≡ answer.IllFormed (account 0)
+create_in_earlier_list = refl
+
+-- a note refers to an account where accounts may be, or to nothing
+abbrev noted : Value → Answer
+noted v = voted S [] [] ((record (made t) { class = 2 }, record { class = 2; fields = v ∷ [] }) ∷ [])
+
+reference : noted (Ref (account 0)) ≡ answer.Yes
+reference = refl
+
+no_reference : noted Null ≡ answer.Yes
+no_reference = refl
+
+reference_to_another_class : noted (Ref box) ≡ answer.IllFormed (record (made t) { class = 2 })
+reference_to_another_class = refl
+
+reference_to_a_wrong_store : noted (Ref (record (account 0) { store = 4 })) ≡ answer.IllFormed (record (made t) { class = 2 })
+reference_to_a_wrong_store = refl
+
+number_for_a_reference : noted (Int (pos 1)) ≡ answer.IllFormed (record (made t) { class = 2 })
+number_for_a_reference = refl
+
 stale_read : voted S ((account 0, 2) ∷ []) [] [] ≡ answer.Stale (account 0) 1
 stale_read = refl
 
@@ -100,7 +141,18 @@ readers_share = refl
 prepared_is_no_row : (holds (items [] ((account 0, 1, one) ∷ []) [])).rows ≡ S.rows
 prepared_is_no_row = refl
 
+-- of two that bar it, the first
+abbrev third : Tid
+third = attempt 2 1 1
+
+first_of_two : voted (keeps (e.Prepared third (items ((account 0, 1) ∷ []) [] [])) (holds (items ((account 0, 1) ∷ []) [] []))) [] ((account 0, 1, one) ∷ []) []
+    ≡ answer.Locked other
+first_of_two = refl
+
 -- ---- fetches
+
+unknown_class_is_missing : says rights 1 0 (Fetch t (record (account 0) { class = 7 })) S ≡ replies 0 (Deny t (record (account 0) { class = 7 }) why.Missing)
+unknown_class_is_missing = refl
 
 missing_elsewhere : says rights 1 0 (Fetch t box) S ≡ replies 0 (Deny t box why.Missing)
 missing_elsewhere = refl
@@ -121,6 +173,15 @@ P = keeps (e.Prepared t (items [] ((account 0, 1, one) ∷ []) ((made t, one) �
 
 tid_of_another : says rights 1 3 (Commit t) P ≡ silent
 tid_of_another = refl
+
+prepare_of_another : says rights 1 3 (Prepare t (items [] [] [])) S ≡ silent
+prepare_of_another = refl
+
+abort_of_another : says rights 1 3 (Abort t) P ≡ silent
+abort_of_another = refl
+
+fetch_of_another : says rights 1 3 (Fetch t (account 0)) S ≡ silent
+fetch_of_another = refl
 
 from_a_store : says rights 1 4 (Boot 9) P ≡ silent
 from_a_store = refl
@@ -144,7 +205,50 @@ later_boot = refl
 earlier_boot : is_above (attempt 0 1 5) (attempt 0 2 1) ≡ false
 earlier_boot = refl
 
+-- ---- what is done
+
+-- the vote, its record and its note
+says_yes : says rights 1 0 (Prepare t (items ((account 0, 1) ∷ []) [] [])) S ≡ record {
+  entry = Some (e.Prepared t (items ((account 0, 1) ∷ []) [] []));
+  sends = (0, Vote t answer.Yes) ∷ [];
+  notes = note.Voted t 0 answer.Yes ∷ [];
+}
+says_yes = refl
+
+says_no : says rights 1 0 (Prepare t (items ((account 0, 2) ∷ []) [] [])) S ≡ record {
+  entry = Some (e.Refused t);
+  sends = (0, Vote t (answer.Stale (account 0) 1)) ∷ [];
+  notes = note.Voted t 0 (answer.Stale (account 0) 1) ∷ [];
+}
+says_no = refl
+
+says_old : says rights 1 0 (Prepare t (items [] [] [])) P
+    ≡ record { entry = None; sends = (0, Vote t (answer.OldTid t)) ∷ []; notes = note.Voted t 0 (answer.OldTid t) ∷ [] }
+says_old = refl
+
+says_applied : says rights 1 0 (Commit t) P ≡ record { entry = Some (e.Applied t); sends = []; notes = note.Applied t ∷ [] }
+says_applied = refl
+
+says_released : says rights 1 0 (Abort t) P ≡ record { entry = Some (e.Released t); sends = []; notes = [] }
+says_released = refl
+
+says_boot : says rights 1 0 (Boot 2) P ≡ record { entry = Some (e.BootSeen 0 2); sends = []; notes = [] }
+says_boot = refl
+
+-- a boot is measured against the last boot, and not against that of the last tid
+after_a_later_tid : says rights 1 0 (Boot 3) (keeps (e.Refused (attempt 0 5 1)) S) ≡ record { entry = Some (e.BootSeen 0 3); sends = []; notes = [] }
+after_a_later_tid = refl
+
 -- ---- records
+
+refused_sets_last : last_of (keeps (e.Refused t) S) 0 ≡ t
+refused_sets_last = refl
+
+greatest_stays : risen 4294967295 ≡ 4294967295
+greatest_stays = refl
+
+released_is_gone : map (λ p. p.0) (keeps (e.Released t) P).prepared ≡ other ∷ []
+released_is_gone = refl
 
 applied : (keeps (e.Applied t) P).rows ≡ (made t, 1, one) ∷ (account 0, 2, one) ∷ (account 1, 1, holding (pos 0)) ∷ []
 applied = refl
@@ -176,6 +280,7 @@ start_is_shelf = record {
   items_here = tt;
   current = tt;
   apart = tt;
+  once = tt;
   fields = (lit≤ tt, (lit≤ tt, tt));
   counts = tt;
   remembered = refl;
@@ -202,6 +307,7 @@ prepared_is_shelf = record {
   items_here = ((refl, tt), ((refl, (refl, tt)), tt));
   current = ((refl, tt), ((refl, (refl, tt)), tt));
   apart = (((refl, (refl, tt)), tt), (tt, tt));
+  once = ((refl, tt), ((refl, (refl, tt)), tt));
   fields = (lit≤ tt, (lit≤ tt, tt));
   counts = (
     few (items ((account 1, 1) ∷ []) [] []) (lit≤ tt) (lit≤ tt) tt (lit≤ tt) tt,
@@ -216,3 +322,7 @@ writes_one = items [] ((account 0, 1, one) ∷ []) []
 
 two_writers : IsShelf rights 1 (keeps (e.Prepared t writes_one) (holds writes_one)) → ⊥
 two_writers h = true≢false (h.apart.0.0.1.0)
+
+-- nor does one that writes an object twice
+twice_is_no_shelf : IsShelf rights 1 (record S { prepared = (t, items [] ((account 0, 1, one) ∷ (account 0, 1, one) ∷ []) []) ∷ [] }) → ⊥
+twice_is_no_shelf h = true≢false h.once.0.0

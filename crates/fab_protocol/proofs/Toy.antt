@@ -1,5 +1,5 @@
 -- A small setting, made by hand: workers, stores, and accounts.
-use Rattle.std.proofs.Common.{ℕ, List, [], ◌∷◌, ℤ, pos, Option, Some, None}
+use Rattle.std.proofs.Common.{ℕ, [], ◌∷◌, ℤ, Some, None}
 use Rattle.fab_base.specs.declared.object.Oid.{Oid}
 use Rattle.fab_base.specs.declared.object.Object.{Object as Thing}
 use Rattle.fab_base.specs.declared.object.Tid.{Tid}
@@ -26,14 +26,16 @@ abbrev pub box : Oid
 box = record { store = 4; class = 1; worker = 65535; boot = 0; number = 0; site = 65535; index = 0 }
 
 -- Node 0 is a worker, 1 a store, 2 a hostile worker, 3 another worker, 4 a hostile store.
--- Workers 0 and 3 may fetch and write accounts, which store 1 may hold; 0 may fetch and write boxes, which 4 may hold.
+-- Workers 0 and 3 may fetch and write accounts, which store 1 may hold; 0 and 3 may fetch boxes, which 4 may hold, and 0
+-- may write them. A note, at store 1, refers to an account.
 abbrev pub rights : Rights
 rights = record {
   workers = 13;
   stores = 18;
   classes =
       record { fetchers = 9; writers = 9; holders = 2; fields = None ∷ [] }
-      ∷ record { fetchers = 1; writers = 1; holders = 16; fields = None ∷ [] } ∷ [];
+      ∷ record { fetchers = 9; writers = 1; holders = 16; fields = None ∷ [] }
+      ∷ record { fetchers = 9; writers = 9; holders = 2; fields = Some 0 ∷ [] } ∷ [];
 }
 
 -- the first account that this attempt makes, at site 7

@@ -8,9 +8,9 @@ use Rattle.fab_base.specs.FieldSpelling.{KeepsItems}
 use Rattle.fab_base.specs.Tids.{is_above}
 use Rattle.fab_rights.specs.declared.rights.Rights.{Rights}
 use Rattle.fab_rights.specs.Computed.{is_worker}
-use Rattle.fab_protocol.specs.Tables.{ascends}
+use Rattle.fab_protocol.specs.Tables.{ascends, OnlyOnce}
 use Rattle.fab_protocol.specs.Versions.{name_of, is_tid}
-use Rattle.fab_protocol.specs.Stores.{Shelf, Prepared, Item, item_name, all_in, is_locked_by, is_prepared, out_of_date, vote, last_of, boot_of}
+use Rattle.fab_protocol.specs.Stores.{Shelf, Prepared, Item, item_name, all_in, named_by, is_locked_by, is_prepared, out_of_date, vote, last_of, boot_of}
 
 -- the record is one that the rules give: at store s, over the shelf
 abbrev pub CanKeep : Rights → ℕ → Entry → Shelf → Type 0
@@ -36,8 +36,9 @@ AreApart [] = Unit {0}
 AreApart (p ∷ ps) = AllByRecursion (IsApart p) ps × AreApart ps
 
 -- The rows ascend, are here, and have versions. What is prepared is of workers, at most their last tids, here,
--- current and apart. Of each number that may be a node's something is remembered, and its last tid is its own. All
--- that is here can be spelled: objects have at most 16 fields, and items keep their counts.
+-- current and apart, and names each object once, so that a commit leaves each of its writes. Of each number that may
+-- be a node's something is remembered, and its last tid is its own. All that is here can be spelled: objects have at
+-- most 16 fields, and items keep their counts.
 pub record IsShelf (rights : Rights) (s : ℕ) (shelf : Shelf) : Type 0 where
   pub ascending : IsTrue (ascends name_of shelf.rows)
   pub rows_here : AllByRecursion (λ row. row.0.store ≡ s) shelf.rows
@@ -47,6 +48,7 @@ pub record IsShelf (rights : Rights) (s : ℕ) (shelf : Shelf) : Type 0 where
   pub items_here : AllByRecursion (λ p. AllByRecursion (λ i. (item_name i).store ≡ s) (all_in p.1)) shelf.prepared
   pub current : AllByRecursion (λ p. AllByRecursion (IsCurrent shelf) (all_in p.1)) shelf.prepared
   pub apart : AreApart shelf.prepared
+  pub once : AllByRecursion (λ p. OnlyOnce (named_by p.1)) shelf.prepared
   pub fields : AllByRecursion (λ row. length row.2.fields ≤ 16) shelf.rows
   pub counts : AllByRecursion (λ p. KeepsItems p.1) shelf.prepared
   pub remembered : map (λ x. x.last.worker) shelf.senders ≡ range_with_len 0 64

@@ -1,7 +1,8 @@
 -- A store: its shelf, what a record changes of it, and what it does with a message.
 --
 -- A shelf is the fold of the store's records over the roots, so what a crash leaves of the journal says what the
--- store is after recovery. Votes follow the two-phase commit of Fabric, with versions in place of locks on reads.
+-- store is after recovery. Votes follow the two-phase commit of Fabric: what was read or written is at the current
+-- version, and is locked from the vote to the end.
 use Rattle.std.specs.Prelude.{ℕ, Bool, true, false, not, ◌&&◌, ◌||◌, ◌==◌, nat_lt, if◌then◌else◌}
 use Rattle.std.specs.Prelude.{List, [], ◌∷◌, ◌++◌, map, Option, Some, None, fold, slice_get, slice_set, unwrap_or, option_map}
 use Rattle.std.specs.List.{filter, flat_map, list_any, range_with_len}

@@ -1,8 +1,8 @@
 -- Tables: rows that each have an object's name, in the order of names.
-use Rattle.std.specs.Prelude.{ℕ, Bool, true, ◌&&◌, if◌then◌else◌, List, [], ◌∷◌, Option, fold}
+use Rattle.std.specs.Prelude.{Bool, true, IsFalse, ◌&&◌, if◌then◌else◌, List, [], ◌∷◌, Option, fold}
 use Rattle.std.specs.List.{find}
 use Rattle.fab_base.specs.declared.object.Oid.{Oid}
-use Rattle.fab_base.specs.FlatMap.{is_before, is_same}
+use Rattle.fab_base.specs.FlatMap.{is_before, is_same, is_among}
 
 -- the first row of this name
 abbrev pub row_of : {R : Type 0} → (R → Oid) → List R → Oid → Option R
@@ -24,3 +24,8 @@ abbrev pub ascends : {R : Type 0} → (R → Oid) → List R → Bool
 ascends name [] = true
 ascends name (x ∷ []) = true
 ascends name (x ∷ y ∷ rows) = is_before (name x) (name y) && ascends name (y ∷ rows)
+
+-- no name stands twice among these
+abbrev pub OnlyOnce : List Oid → Type 0
+OnlyOnce [] = Unit {0}
+OnlyOnce (o ∷ os) = IsFalse (is_among o os) × OnlyOnce os

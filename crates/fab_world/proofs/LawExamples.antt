@@ -85,13 +85,14 @@ honest_is_evaluation = record {
       ];
   made = λ w r t N.
       elim (get N (account 0)) as (λ x. AllByRecursion (λ o. IsTrue (is_made_in t o)) (peeked ((0, account 0) ∷ []) x N).made) [ None ↦ tt | Some x ↦ tt ];
-  fits = λ w r t N numbers h. elim (get N (account 0)) as (λ x. AreFit honest (peeked ((0, account 0) ∷ []) x N).map) [ None ↦ h | Some x ↦ h ];
+  fits = λ w r t N numbers ascending h. elim (get N (account 0)) as (λ x. AreFit honest (peeked ((0, account 0) ∷ []) x N).map) [ None ↦ h | Some x ↦ h ];
   touches = λ w r t N h.
       elim (get N (account 0)) as (λ x. AllByRecursion (IsFitName honest) (touched (peeked ((0, account 0) ∷ []) x N).touches)) [
         | None ↦ tt
         | Some x ↦ (account_fits, tt)
       ];
-  missing = λ w r t N site o h e. subst (λ p. IsFitName honest p) (missed_there N site o (get N (account 0)) e) account_fits;
+  missing = λ w r t N site o numbers h e. subst (λ p. IsFitName honest p) (missed_there N site o (get N (account 0)) e) account_fits;
+  value = λ w r t N v numbers h e. ?;
   few_touched = λ w r t N.
       elim (get N (account 0)) as (λ x. length (touched (peeked ((0, account 0) ∷ []) x N).touches) ≤ 1024) [ None ↦ lit≤ tt | Some x ↦ lit≤ tt ];
   few_changed = λ w r t N.

@@ -1,6 +1,6 @@
 -- Runs in which something is refused or fails, and what is held where a writer is distrusted.
 use Rattle.std.proofs.Common.{◌≡◌, ◌⊎◌, inl, inr, ℕ, Bool, List, [], ◌∷◌, ◌++◌, map}
-use Rattle.std.proofs.Common.{pos, nat_abs, None, refl, ap, arith, true, false, true≢false, ◌||◌, ◌==◌, lit<}
+use Rattle.std.proofs.Common.{pos, nat_abs, None, refl, ap, arith, true, false, true≢false, ◌||◌, ◌==◌, lit≤}
 use Rattle.std.proofs.lemmas.Bool.Decides.{nat_tests}
 use Rattle.std.specs.List.{flat_map, range_with_len}
 use Rattle.fab_base.specs.declared.object.Oid.{Oid}
@@ -307,7 +307,7 @@ committed = map plain (until_applied 0)
 
 committed_is_run : IsRun T committed
 unfolding kept_of shelf_of
-committed_is_run = record { enabled = refl; few = lit< tt }
+committed_is_run = record { enabled = refl; few = lit≤ tt }
 
 abbrev in_first : FlatMap → ℕ
 in_first [] = 0

@@ -261,7 +261,8 @@ module _ (S : Setting) where
   abbrev pub is_running : World → ℕ → Bool
   is_running w n = is_node S.rights n && not (S.hostile n) && (w.node n).up
 
-  -- Nothing is left to do at this node: it has no post left, and is hostile, or failed for good, or up without a message that waits for it and not evaluating.
+  -- No post is left at this node; and it is hostile, or failed for good, or up without a message that waits for it
+  -- and not evaluating.
   abbrev pub is_settled : World → ℕ → Bool
   is_settled w n =
       is_empty (w.posts n)
@@ -272,8 +273,8 @@ module _ (S : Setting) where
   may w (i.Begin n) =
       is_running w n && is_worker S.rights n && is_idle (w.node n).attempt.phase && nat_lt (length (kept w n).outcomes) (S.requests n)
   may w (i.Resume n) = is_running w n && is_evaluating (w.node n).attempt.phase
-  may w (i.Deliver a b) = is_running w b && not (is_empty (w.queue a b))
-  may w (i.Idle n s) = is_running w n && lacks s (w.node n).attempt.phase && list_all (is_settled w) (nodes_in S.rights)
+  may w (i.Deliver a b) = is_running w b && is_node S.rights a && not (is_empty (w.queue a b))
+  may w (i.Idle n s) = is_running w n && is_node S.rights s && lacks s (w.node n).attempt.phase && list_all (is_settled w) (nodes_in S.rights)
   may w (i.Recover n) = is_node S.rights n && not (S.hostile n) && not (w.node n).up && not (w.node n).failed
 
   -- the bytes of the record that an event writes, if it writes one
@@ -289,7 +290,7 @@ module _ (S : Setting) where
   enabled w (Does e) = may w e
   enabled w (Cuts keep e) = may w e && is_some (act w e).entry && nat_le keep (length (record_at w e))
   enabled w (Fails keep e) = may w e && calls_journal w e && (keep == 0)
-  enabled w (Posts h) = S.hostile h && not (is_empty (w.posts h))
+  enabled w (Posts h) = is_node S.rights h && S.hostile h && not (is_empty (w.posts h))
   enabled w (Crashes n) = is_running w n
   enabled w Never = false
 

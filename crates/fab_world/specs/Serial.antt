@@ -7,7 +7,7 @@ use Rattle.fab_base.specs.declared.object.Tid.{Tid}
 use Rattle.fab_base.specs.declared.object.Value.{Value}
 use Rattle.fab_base.specs.declared.message.Message.{Message}
 use Rattle.fab_base.specs.MessageSpelling.{IsReadAs}
-use Rattle.fab_base.specs.FieldSpelling.{IsTid, IsOid, IsObject}
+use Rattle.fab_base.specs.FieldSpelling.{IsTid, IsOid, IsObject, IsValue}
 use Rattle.fab_base.specs.FlatMap.{FlatMap, get, put_all, map_of, is_among}
 use Rattle.fab_base.specs.FlatMap as flat
 use Rattle.fab_language.specs.declared.ending.Ending.TheVariants.{Ended, Missing}
@@ -127,10 +127,11 @@ pub record IsEvaluation (S : Setting) : Type 0 where
       → AllByRecursion (λ o. IsTrue (is_among o (touched (S.means w r t N).touches))) (S.means w r t N).written
   pub made : (w r : ℕ) (t : Tid) (N : FlatMap) → AllByRecursion (λ o. IsTrue (is_made_in t o)) (S.means w r t N).made
   -- over fitting objects: those behind it fit, and what is missing or touched has a fitting name
-  pub fits : (w r : ℕ) (t : Tid) (N : FlatMap) → IsTid t → AreFit S N → AreFit S (S.means w r t N).map
+  pub fits : (w r : ℕ) (t : Tid) (N : FlatMap) → IsTid t → IsTrue (flat.ascends N) → AreFit S N → AreFit S (S.means w r t N).map
   pub touches : (w r : ℕ) (t : Tid) (N : FlatMap) → AreFit S N → AllByRecursion (IsFitName S) (touched (S.means w r t N).touches)
-  pub missing : (w r : ℕ) (t : Tid) (N : FlatMap) (site : ℕ) (o : Oid) → AreFit S N → (S.means w r t N).ending ≡ Missing site o → IsFitName S o
-  -- no more than a message can spell
+  pub missing : (w r : ℕ) (t : Tid) (N : FlatMap) (site : ℕ) (o : Oid) → IsTid t → AreFit S N → (S.means w r t N).ending ≡ Missing site o → IsFitName S o
+  -- no more than a message can spell, and no other value
+  pub value : (w r : ℕ) (t : Tid) (N : FlatMap) (v : Value) → IsTid t → AreFit S N → (S.means w r t N).ending ≡ Ended (Some v) → IsValue 1 v
   pub few_touched : (w r : ℕ) (t : Tid) (N : FlatMap) → length (touched (S.means w r t N).touches) ≤ 1024
   pub few_changed : (w r : ℕ) (t : Tid) (N : FlatMap) → length (S.means w r t N).written + length (S.means w r t N).made ≤ 256
 
@@ -153,7 +154,7 @@ attempts moves = fold (λ n move. n + attempts_at (form_of move)) 0 moves
 -- a run from the start, with so few attempts that no number comes to its end
 pub record IsRun (S : Setting) (moves : List Move) : Type 0 where
   pub enabled : IsTrue (are_enabled S (at_start S) moves)
-  pub few : attempts moves < 4000000000
+  pub few : attempts moves ≤ 4000000000
 
 abbrev pub world_of : Setting → List Move → World
 world_of S moves = runs S (at_start S) moves

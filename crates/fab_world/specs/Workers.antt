@@ -16,6 +16,7 @@ use Rattle.fab_base.specs.declared.message.Message.TheVariants as m
 use Rattle.fab_base.specs.declared.entry.Entry.{Entry}
 use Rattle.fab_base.specs.declared.entry.Entry.TheVariants as e
 use Rattle.fab_base.specs.FlatMap.{is_same}
+use Rattle.fab_base.specs.JournalSpelling.{AreStores, IsOutcome}
 use Rattle.fab_base.specs.Tids.{is_above}
 use Rattle.fab_language.specs.declared.ending.Ending.{Ending}
 use Rattle.fab_language.specs.declared.ending.Ending.TheVariants as endings
@@ -59,17 +60,17 @@ closings n =
     Failed ∷ Conflict ∷ Silent n ∷ Denied n NoRights ∷ Denied n IllFormed
     ∷ Stopped stop.Fuel ∷ Stopped stop.Depth ∷ Stopped stop.Reads ∷ Stopped stop.Writes ∷ []
 
-abbrev pub keeps_w : Entry → Kept → Kept
-keeps_w (e.Decided t request value stores) kept = record kept {
+abbrev pub worker_keeps : Entry → Kept → Kept
+worker_keeps (e.Decided t request value stores) kept = record kept {
   decided = kept.decided ++ record { tid = t; request = request; stores = stores; value = value } ∷ [];
   outcomes = kept.outcomes ++ Committed t value ∷ [];
 }
-keeps_w (e.Closed request code node) kept = record kept { outcomes = kept.outcomes ++ unwrap_or (slice_get (closings node) (code - 1)) Unfinished ∷ [] }
-keeps_w (e.Boot b) kept = record kept { boot = suc kept.boot }
-keeps_w _ kept = kept
+worker_keeps (e.Closed request code node) kept = record kept { outcomes = kept.outcomes ++ unwrap_or (slice_get (closings node) (code - 1)) Unfinished ∷ [] }
+worker_keeps (e.Boot b) kept = record kept { boot = suc kept.boot }
+worker_keeps _ kept = kept
 
 unfoldable pub kept_of : List Entry → Kept
-kept_of entries = fold (λ kept entry. keeps_w entry kept) (record { boot = 1; decided = []; outcomes = [] }) entries
+kept_of entries = fold (λ kept entry. worker_keeps entry kept) (record { boot = 1; decided = []; outcomes = [] }) entries
 
 -- the Closed record of an outcome, which names no node but a silent or denying one
 abbrev pub closed : ℕ → ReqOutcome → Entry
@@ -86,12 +87,12 @@ closed request (Stopped stop.Writes) = e.Closed request 9 65535
 closed request _ = e.Closed request 0 65535
 
 -- the record is one that the rules give to a worker whose session has so many requests
-abbrev pub CanKeep_w : Rights → ℕ → Entry → Kept → Type 0
-CanKeep_w rights requests (e.Decided t request value stores) kept =
-    (request ≡ request_of kept) × (request ≤ requests) × AllByRecursion (λ s. IsTrue (is_store rights s)) stores
-CanKeep_w rights requests (e.Closed request code node) kept = (request ≡ request_of kept) × (request ≤ requests)
-CanKeep_w rights requests (e.Boot b) kept = Unit {0}
-CanKeep_w rights requests _ kept = ⊥
+abbrev pub WorkerCanKeep : Rights → ℕ → Entry → Kept → Type 0
+WorkerCanKeep rights requests (e.Decided t request value stores) kept =
+    (request ≡ request_of kept) × (request ≤ requests) × AllByRecursion (λ s. IsTrue (is_store rights s)) stores × AreStores stores
+WorkerCanKeep rights requests (e.Closed request code node) kept = (request ≡ request_of kept) × (request ≤ requests) × IsOutcome code node
+WorkerCanKeep rights requests (e.Boot b) kept = Unit {0}
+WorkerCanKeep rights requests _ kept = ⊥
 
 -- ---- the attempt: what a crash drops
 
