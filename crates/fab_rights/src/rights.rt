@@ -1,12 +1,13 @@
 //! Which worker may fetch and write, and which store may hold, the objects of each class.
 
-ghost use Rattle.std.specs.Prelude.{◌≡◌, ◌↔◌, IsTrue, option_copied, slice_get};
+ghost use Rattle.std.specs.Prelude.{◌≡◌, ◌↔◌, IsTrue, IfOk, option_copied, slice_get};
 ghost use Rattle.std.specs.List.{AllZip};
 ghost use Rattle.fab_rights.specs.Rights.{Knows, IsWorkerIn, IsStoreIn, MayFetch, MayWrite, MayHold, FitsField, IsWellFormed};
 ghost use Rattle.fab_rights.specs.Computed as computed;
 
 use crate::masks::is_in;
-use fab_base::{Object, Seq, Value};
+use fab_base::{NoMemory, Object, Seq, Value};
+use std::alloc::Global;
 
 /// Who may do what with the objects of a class. Bit n of a mask stands for node n. A field holds a
 /// number, or where it has the number of a class, a reference to an object of that class.
@@ -27,6 +28,20 @@ pub struct Rights {
     pub classes: Seq<ClassRights>,
 }
 
+impl ClassRights {
+    /// The same rights once more.
+    fn copy(&self, alloc: Global) -> Result<ClassRights, NoMemory>
+        ensures { IfOk result (λ copy. copy ≡ self.now) }
+    {
+        Ok(ClassRights {
+            fetchers: self.fetchers,
+            writers: self.writers,
+            holders: self.holders,
+            fields: Seq::from_slice(alloc, self.fields.as_slice())?,
+        })
+    }
+}
+
 impl Rights {
     /// The rights of these workers and stores over these classes.
     pub fn make(workers: u64, stores: u64, classes: Seq<ClassRights>) -> Rights
@@ -37,6 +52,21 @@ impl Rights {
             stores,
             classes,
         }
+    }
+
+    /// The same rights once more. Only want of memory is an error.
+    pub fn copy(&self, alloc: Global) -> Result<Rights, NoMemory>
+        ensures { IfOk result (λ copy. copy ≡ self.now) }
+    {
+        let mut classes = Vec::new(alloc);
+        for class in self.classes.as_slice() {
+            classes.push(class.copy(alloc)?)?;
+        }
+        Ok(Rights {
+            workers: self.workers,
+            stores: self.stores,
+            classes: Seq::from_vec(classes),
+        })
     }
 
     /// The class of this number.

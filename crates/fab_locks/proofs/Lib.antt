@@ -1,0 +1,3 @@
+pub mod Tids
+pub mod Barring
+pub mod Conflicting

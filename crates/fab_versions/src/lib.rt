@@ -1,0 +1,6 @@
+//! The current objects of a store with their versions, by name.
+#![tactic(auto)]
+
+mod table;
+
+pub use table::Table;
