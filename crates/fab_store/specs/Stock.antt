@@ -1,15 +1,13 @@
 -- A store as contracts see it, what it plans, and the room that a record needs.
-use Rattle.std.specs.Prelude.{◌≡◌, ℕ, ◌+◌, ◌≤◌, ◌<◌, ◌^◌, Option, Some, None, List, [], ◌∷◌, length}
-use Rattle.std.specs.List.{flat_map, AllByRecursion}
+use Rattle.std.specs.Prelude.{◌≡◌, ℕ, ◌≤◌, Option, Some, None, List, [], ◌∷◌}
+use Rattle.std.specs.List.{AllByRecursion}
 use Rattle.fab_base.specs.declared.entry.Entry.{Entry}
 use Rattle.fab_base.specs.declared.entry.Entry.TheVariants as e
 use Rattle.fab_base.specs.JournalSpelling.{KeepsEntry}
 use Rattle.fab_base.specs.MessageSpelling.{KeepsCounts}
-use Rattle.fab_base.specs.FlatMap.{FlatMap}
 use Rattle.fab_net.specs.declared.note.Step.{Step}
 use Rattle.fab_rights.specs.declared.rights.Rights.{Rights}
-use Rattle.fab_protocol.specs.Versions.{left_by}
-use Rattle.fab_protocol.specs.Stores.{Shelf, Said, prepared_as, step_of, shelf_of, shelf_at_start, keeps}
+use Rattle.fab_protocol.specs.Stores.{Shelf, Said, step_of, keeps}
 use Rattle.fab_protocol.specs.Shelves.{CanKeep}
 
 -- The store's number, what it knows of nodes and classes, its shelf, for how many objects more there is room, and
@@ -36,10 +34,10 @@ abbrev pub CanKeepSaid : Rights → ℕ → Option Entry → Shelf → Type 0
 CanKeepSaid rights s None shelf = Unit {0}
 CanKeepSaid rights s (Some entry) shelf = CanKeep rights s entry shelf
 
--- there is room for what a record adds
+-- there is room for what a record adds: one transaction, or as many objects as one may write and make
 abbrev pub HasRoomFor : Entry → Stock → Type 0
 HasRoomFor (e.Prepared t items) x = 1 ≤ x.spare_locks
-HasRoomFor (e.Applied t) x = length (flat_map (λ p. left_by p.1) (prepared_as t x.shelf.prepared)) ≤ x.spare_rows
+HasRoomFor (e.Applied t) x = 512 ≤ x.spare_rows
 HasRoomFor _ x = Unit {0}
 
 abbrev pub HasRoom : Option Entry → Stock → Type 0

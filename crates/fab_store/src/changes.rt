@@ -1,7 +1,8 @@
 //! What a record changes: objects, prepared transactions and what is remembered of senders.
 
 ghost use Rattle.std.specs.Prelude.{◌≡◌, ◌≤◌, ◌+◌, length, map};
-ghost use Rattle.std.specs.List.{flat_map};
+ghost use Rattle.std.specs.List.{AllByRecursion};
+ghost use Rattle.fab_base.specs.FieldSpelling.{KeepsItems};
 ghost use Rattle.fab_protocol.specs.Tables.{placed_all};
 ghost use Rattle.fab_protocol.specs.Versions.{begun, left_by, name_of, raised, risen};
 ghost use Rattle.fab_protocol.specs.Stores.{behind, prepared_as, without};
@@ -44,7 +45,8 @@ fn put_creates(table: &mut Table, creates: Seq<(Oid, Object)>)
 
 /// What these items leave behind is put into the table.
 fn put_left(table: &mut Table, items: Items)
-    requires room { length (left_by items) ≤ table.old.spare }
+    requires room { 512 ≤ table.old.spare }
+    requires counts { KeepsItems items }
     ensures rows { table.new.rows ≡ placed_all name_of (left_by items) table.old.rows }
 {
     let Items {
@@ -58,7 +60,8 @@ fn put_left(table: &mut Table, items: Items)
 
 /// A prepared transaction is applied, and its items are free.
 pub fn apply(table: &mut Table, locks: &mut Locks, tid: Tid)
-    requires room { length (flat_map (λ p. left_by p.1) (prepared_as tid locks.old.held)) ≤ table.old.spare }
+    requires room { 512 ≤ table.old.spare }
+    requires counts { AllByRecursion (λ p. KeepsItems p.1) locks.old.held }
     ensures rows { table.new.rows ≡ behind (prepared_as tid locks.old.held) table.old.rows }
     ensures held { locks.new.held ≡ without tid locks.old.held }
 {

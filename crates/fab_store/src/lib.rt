@@ -2,10 +2,15 @@
 //! record of each change before it answers.
 #![tactic(auto)]
 
+mod changes;
+mod fetches;
+mod heard;
 mod plan;
+mod recovery;
 mod senders;
 mod steps;
+mod store;
+mod votes;
 
 pub use plan::StorePlan;
-pub use senders::{none_heard, sender_in, set_boot, set_last};
-pub use steps::plan_of;
+pub use store::Store;

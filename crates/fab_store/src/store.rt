@@ -21,6 +21,9 @@ use fab_versions::Table;
 use std::alloc::Global;
 use std::marker::Model;
 
+/// The most objects that one transaction writes and makes here: 256 each.
+const MOST_CHANGED: u32 = 512;
+
 /// A store: its objects, the transactions that it has prepared, and what it remembers of each sender.
 #[derive(Debug, Drop)]
 pub struct Store {
@@ -100,10 +103,7 @@ impl Store {
     {
         match entry {
             Entry::Prepared { .. } => self.locks.reserve(),
-            Entry::Applied { tid } => {
-                let more = self.locks.left_by(*tid);
-                self.table.reserve(more)
-            }
+            Entry::Applied { .. } => self.table.reserve(MOST_CHANGED),
             _ => Ok(()),
         }
     }
