@@ -3,6 +3,7 @@ pub mod Lists
 pub mod Locks
 pub mod NameLists
 pub mod Reasons
+pub mod Records
 pub mod Senders
 mod StoreExamples
 pub mod TableLaws
