@@ -8,3 +8,4 @@ pub mod Senders
 mod StoreExamples
 pub mod TableLaws
 pub mod Toy
+pub mod VersionLaws
