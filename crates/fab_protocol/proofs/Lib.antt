@@ -1,3 +1,4 @@
+pub mod Applied
 pub mod Kept
 pub mod Lists
 pub mod Locks
