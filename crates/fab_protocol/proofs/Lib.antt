@@ -1,4 +1,5 @@
 pub mod Applied
+pub mod Commits
 pub mod Kept
 pub mod Lists
 pub mod Locks
@@ -6,6 +7,7 @@ pub mod NameLists
 pub mod Reasons
 pub mod Records
 pub mod Senders
+pub mod ShelfKept
 mod StoreExamples
 pub mod TableLaws
 pub mod Toy
