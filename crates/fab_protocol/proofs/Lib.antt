@@ -6,6 +6,7 @@ pub mod Locks
 pub mod NameLists
 pub mod Reasons
 pub mod Records
+pub mod Refusals
 pub mod Senders
 pub mod ShelfKept
 mod StoreExamples
