@@ -9,6 +9,7 @@ use Rattle.fab_base.specs.declared.message.Answer.{Answer}
 use Rattle.fab_base.specs.declared.message.Answer.TheVariants.{Yes, Stale, Locked, Rights as NoRights, OldTid, IllFormed, Exists}
 use Rattle.fab_base.specs.declared.message.Message.{Message}
 use Rattle.fab_base.specs.declared.message.Message.TheVariants as m
+use Rattle.fab_base.specs.declared.entry.Entry.{Entry}
 use Rattle.fab_base.specs.declared.entry.Entry.TheVariants as e
 use Rattle.fab_base.specs.Tids.{is_above}
 use Rattle.fab_rights.specs.declared.rights.Rights.{Rights}
@@ -58,8 +59,9 @@ module _ (rights : Rights) (s : ℕ) (shelf : Shelf) (t : Tid) (items : Items) (
       ∙ ap (λ b. if not b then votes t.worker t (OldTid (last_of shelf t.worker)) None else votes t.worker t answer (Some (voted t items answer))) above
 
   pub new_is_refused : IsTrue (is_above t (last_of shelf t.worker)) → (answer ≡ Yes → ⊥)
-      → (says rights s t.worker (m.Prepare t items) shelf).entry ≡ Some (e.Refused t)
-  new_is_refused above refused = ap (λ (said : Said). said.entry) (new_is_voted above) ∙ ap Some (voted_refused t items answer refused)
+      → says rights s t.worker (m.Prepare t items) shelf ≡ votes t.worker t answer (Some (e.Refused t))
+  new_is_refused above refused =
+      new_is_voted above ∙ ap (λ (entry : Entry). votes t.worker t answer (Some entry)) (voted_refused t items answer refused)
 
   pub old_is_told : IsFalse (is_above t (last_of shelf t.worker))
       → says rights s t.worker (m.Prepare t items) shelf ≡ votes t.worker t (OldTid (last_of shelf t.worker)) None
