@@ -14,7 +14,7 @@ use Rattle.fab_base.specs.declared.entry.Entry.TheVariants as e
 use Rattle.fab_base.specs.Tids.{is_above}
 use Rattle.fab_rights.specs.declared.rights.Rights.{Rights}
 use Rattle.fab_rights.specs.Computed.{is_worker}
-use Rattle.fab_protocol.specs.Stores.{Shelf, Said, silent, votes, voted, vote, is_own, does, says, hears, keeps, sender_in, last_of}
+use Rattle.fab_protocol.specs.Stores.{Shelf, silent, votes, voted, vote, is_own, does, says, hears, keeps, sender_in, last_of}
 use Rattle.fab_protocol.proofs.Senders.{sender_other}
 
 -- ---- what is dropped
