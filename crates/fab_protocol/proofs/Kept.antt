@@ -26,7 +26,7 @@ use Rattle.fab_protocol.specs.Shelves.{CanKeep}
 inside : (a b : Entry) → Some a ≡ Some b → a ≡ b
 inside a b h = ap (λ o. unwrap_or o a) h
 
-pub none : {A : Type 0} (entry : Entry) → None ≡ Some entry → A
+none : {A : Type 0} (entry : Entry) → None ≡ Some entry → A
 none entry h = let no : None ≡ Some entry = h in cc
 
 found_is_none : (n : ℕ) (t : Tid) (o : Oid) (row : Option Row) → (found n t o row).entry ≡ None

@@ -2,7 +2,7 @@
 use Rattle.std.proofs.Common.{◌≡◌, ℕ, suc, ◌≤◌, true, false, cond, ◌==◌, if◌then◌else◌, IsFalse}
 use Rattle.std.proofs.Common.{List, [], ◌∷◌, ◌++◌, map, length, Option, Some, None, unwrap_or, refl, sym, subst, ap, ◌∙◌, arith, lit≤, append_assoc}
 use Rattle.std.specs.List.{AllByRecursion}
-use Rattle.std.proofs.lemmas.Bool.{eqb-true, or_parts}
+use Rattle.std.proofs.lemmas.Bool.{eqb-true}
 use Rattle.std.proofs.lemmas.List.{map-append}
 use Rattle.fab_base.specs.declared.object.Oid.{Oid}
 use Rattle.fab_base.specs.declared.object.Object.{Object}
@@ -13,7 +13,7 @@ use Rattle.fab_protocol.specs.Tables.{row_of, OnlyOnce}
 use Rattle.fab_protocol.specs.Versions.{Row, Rows, name_of, version_of, risen, raised, begun, left_by}
 use Rattle.fab_protocol.specs.Stores.{Write, Create, item_name, reads_in, writes_in, creates_in, changed_by, named_by}
 use Rattle.fab_protocol.proofs.Lists.{all_append, all_map, all_of_map, all_by_recursion, all_always}
-use Rattle.fab_protocol.proofs.NameLists.{once_parts}
+use Rattle.fab_protocol.proofs.NameLists.{none_among, once_parts}
 
 -- ---- versions are those of the rows of names
 
@@ -86,11 +86,7 @@ left_by_names P items h =
 pub left_others : (items : Items) (o : Oid) → is_among o (changed_by items) ≡ false → AllByRecursion (λ r. IsFalse (is_same (name_of r) o)) (left_by items)
 left_others items o h =
     all_of_map (λ p. IsFalse (is_same p o)) name_of (left_by items)
-    (subst (AllByRecursion (λ p. IsFalse (is_same p o))) (sym (left_names items)) (each (changed_by items) h))
-  where
-    each : (os : List Oid) → is_among o os ≡ false → AllByRecursion (λ p. IsFalse (is_same p o)) os
-    each [] k = tt
-    each (p ∷ ps) k = let g = or_parts (is_same p o) (is_among o ps) k in (g.0, each ps g.1)
+    (subst (AllByRecursion (λ p. IsFalse (is_same p o))) (sym (left_names items)) (none_among o (changed_by items) h))
 
 risen_is_one : (n : ℕ) → 1 ≤ risen n
 risen_is_one n = elim (n == 4294967295) as (λ b. (n == 4294967295) ≡ b → 1 ≤ (if b then n else suc n)) [
