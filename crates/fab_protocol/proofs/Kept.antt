@@ -19,14 +19,15 @@ use Rattle.fab_rights.specs.declared.rights.Rights.{Rights}
 use Rattle.fab_rights.specs.Computed.{is_worker, knows, may_fetch}
 use Rattle.fab_protocol.specs.Tables.{row_of}
 use Rattle.fab_protocol.specs.Versions.{Row, name_of}
-use Rattle.fab_protocol.specs.Stores.{Shelf, Said, silent, replies, records, found, votes, boot_of, last_of}
+use Rattle.fab_protocol.specs.declared.said.Said.{Said}
+use Rattle.fab_protocol.specs.Stores.{Shelf, silent, replies, records, found, votes, boot_of, last_of}
 use Rattle.fab_protocol.specs.Stores.{voted, vote, fetched, asked, is_prepared, is_own, does, says}
 use Rattle.fab_protocol.specs.Shelves.{CanKeep}
 
 inside : (a b : Entry) → Some a ≡ Some b → a ≡ b
 inside a b h = ap (λ o. unwrap_or o a) h
 
-pub none : {A : Type 0} (entry : Entry) → None ≡ Some entry → A
+none : {A : Type 0} (entry : Entry) → None ≡ Some entry → A
 none entry h = let no : None ≡ Some entry = h in cc
 
 found_is_none : (n : ℕ) (t : Tid) (o : Oid) (row : Option Row) → (found n t o row).entry ≡ None
@@ -80,7 +81,7 @@ module _ (rights : Rights) (s : ℕ) (shelf : Shelf) (entry : Entry) where
         | false ↦ λ p g. none entry g
       ] refl h
 
-  does_can_keep : (n : ℕ) (message : Message) → IsTrue (is_worker rights n) → IsTrue (is_own rights s n message)
+  does_can_keep : (n : ℕ) (message : Message) → IsTrue (is_worker rights n) → IsTrue (is_own n message)
       → KeepsCounts message → (does rights s n message shelf).entry ≡ Some entry → CanKeep rights s entry shelf
   does_can_keep n (m.Fetch t o) worker own counts h = none entry (sym (fetched_is_none n t o) ∙ h)
   does_can_keep n (m.Prepare t items) worker own counts h =
@@ -104,10 +105,10 @@ module _ (rights : Rights) (s : ℕ) (shelf : Shelf) (entry : Entry) where
   pub says_can_keep : (n : ℕ) (message : Message) → KeepsCounts message
       → (says rights s n message shelf).entry ≡ Some entry → CanKeep rights s entry shelf
   says_can_keep n message counts h =
-      elim (is_worker rights n && is_own rights s n message) as (λ b. (is_worker rights n && is_own rights s n message) ≡ b
+      elim (is_worker rights n && is_own n message) as (λ b. (is_worker rights n && is_own n message) ≡ b
       → (if b then does rights s n message shelf else silent).entry ≡ Some entry → CanKeep rights s entry shelf) [
         | true ↦ λ p g.
-            let q = and_parts (is_worker rights n) (is_own rights s n message) p in
+            let q = and_parts (is_worker rights n) (is_own n message) p in
             does_can_keep n message q.0 q.1 counts g
         | false ↦ λ p g. none entry g
       ] refl h

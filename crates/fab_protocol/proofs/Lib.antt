@@ -1,9 +1,15 @@
+pub mod Applied
+pub mod Commits
 pub mod Kept
 pub mod Lists
 pub mod Locks
 pub mod NameLists
 pub mod Reasons
+pub mod Records
+pub mod Refusals
 pub mod Senders
+pub mod ShelfKept
 mod StoreExamples
 pub mod TableLaws
 pub mod Toy
+pub mod VersionLaws

@@ -12,6 +12,15 @@ use Rattle.fab_protocol.proofs.Lists.{all_along}
 pub among_append : (o : Oid) (xs ys : List Oid) → is_among o (xs ++ ys) ≡ (is_among o xs || is_among o ys)
 among_append o xs ys = list_any-append (λ p. is_same p o) xs ys
 
+-- a name isn't among these exactly where none of them is the same
+pub none_among : (o : Oid) (os : List Oid) → is_among o os ≡ false → AllByRecursion (λ p. IsFalse (is_same p o)) os
+none_among o [] h = tt
+none_among o (p ∷ ps) h = let g = or_parts (is_same p o) (is_among o ps) h in (g.0, none_among o ps g.1)
+
+pub among_none : (o : Oid) (os : List Oid) → AllByRecursion (λ p. IsFalse (is_same p o)) os → is_among o os ≡ false
+among_none o [] h = refl
+among_none o (p ∷ ps) h = or_from (is_same p o) (is_among o ps) h.0 (among_none o ps h.1)
+
 -- none of the ones is among the others
 abbrev pub Avoid : List Oid → List Oid → Type 0
 Avoid xs ys = AllByRecursion (λ x. IsFalse (is_among x ys)) xs

@@ -19,6 +19,10 @@ use Rattle.fab_base.specs.Tids.{is_above}
 use Rattle.fab_protocol.specs.Versions.{risen}
 use Rattle.fab_protocol.specs.Stores.{Shelf, shelf_at_start, keeps, vote, says, asks, silent, replies, votes, start_of, last_of}
 use Rattle.fab_protocol.specs.Shelves.{IsShelf}
+use Rattle.fab_protocol.specs.Tables.{row_of}
+use Rattle.fab_protocol.specs.Versions.{name_of}
+use Rattle.fab_protocol.proofs.Commits.{written, unchanged}
+use Rattle.fab_protocol.proofs.ShelfKept.{start_is, shelf_keeps}
 use Rattle.fab_protocol.proofs.Toy.{account, box, holding, accounts, attempt, made, rights}
 
 abbrev t : Tid
@@ -326,3 +330,28 @@ two_writers h = true≢false (h.apart.0.0.1.0)
 -- nor does one that writes an object twice
 twice_is_no_shelf : IsShelf rights 1 (record S { prepared = (t, items [] ((account 0, 1, one) ∷ (account 0, 1, one) ∷ []) []) ∷ [] }) → ⊥
 twice_is_no_shelf h = true≢false h.once.0.0
+
+-- ---- laws
+
+-- the roots of the setting are as the law of starts wants them
+from_start : IsShelf rights 1 S
+from_start = start_is rights (accounts (pos 100) (pos 0)) 1 refl (lit≤ tt, (lit≤ tt, tt))
+
+-- a vote that holds two items at once
+abbrev both_items : Items
+both_items = items [] ((account 0, 1, one) ∷ []) ((made t, one) ∷ [])
+
+behind_a_yes : IsShelf rights 1 (keeps (e.Prepared t both_items) S)
+behind_a_yes =
+    shelf_keeps rights 1 (e.Prepared t both_items) S (lit≤ tt)
+    (refl, refl, few both_items (lit≤ tt) (lit≤ tt) (lit≤ tt, tt) (lit≤ tt) (lit≤ tt, tt), refl) from_start
+
+commit_writes : row_of name_of (keeps (e.Applied t) P).rows (account 0) ≡ Some (account 0, 2, one)
+commit_writes = written rights 1 P prepared_is_shelf t both_items (1, lit≤ tt, refl) (account 0, 1, one) (0, lit≤ tt, refl)
+
+commit_leaves : row_of name_of (keeps (e.Applied t) P).rows (account 1) ≡ Some (account 1, 1, holding (pos 0))
+commit_leaves = unchanged rights 1 P prepared_is_shelf t both_items (1, lit≤ tt, refl) (account 1) refl
+
+-- of a number past the nodes nothing is remembered, so its next attempt would be new again
+past_the_nodes : last_of (keeps (e.Refused (attempt 64 1 1)) S) 64 ≡ start_of 64 0
+past_the_nodes = refl

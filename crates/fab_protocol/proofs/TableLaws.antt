@@ -4,12 +4,14 @@ use Rattle.std.proofs.Common.{List, [], ◌∷◌, ◌++◌, map, length, get_or
 use Rattle.std.specs.Cmp.Lexicographic.{bytes_decides}
 use Rattle.std.specs.List.{filter, AllByRecursion}
 use Rattle.std.specs.Str.{bytes_eq}
-use Rattle.std.proofs.lemmas.Bool.{and_parts, and_from, or_parts, or_from, true≢false}
+use Rattle.std.proofs.lemmas.Bool.{and_parts, and_from, true≢false}
 use Rattle.std.proofs.lemmas.Bool.Decides.{nat_tests}
 use Rattle.fab_base.specs.declared.object.Oid.{Oid}
-use Rattle.fab_base.specs.FlatMap.{parts_of, precedes, is_before, is_same, is_among}
+use Rattle.fab_base.specs.FlatMap.{parts_of, precedes, is_before, is_same}
 use Rattle.fab_base.proofs.Names.{same_self, same_flips}
 use Rattle.fab_protocol.specs.Tables.{row_of, placed, placed_all, ascends, OnlyOnce}
+use Rattle.fab_protocol.proofs.Lists.{all_along, all_filter, all_map, all_of_map}
+use Rattle.fab_protocol.proofs.NameLists.{among_none, none_among}
 
 -- ---- the order of names
 
@@ -214,13 +216,9 @@ module _ {R : Type 0} (name : R → Oid) where
   ascends_once [] h = tt
   ascends_once (x ∷ xs) h =
       let g = parted x xs h in
-      (another xs (leads_all (name x) xs g.0 g.1), ascends_once xs g.1)
-    where
-      another : (ys : List R) → AllByRecursion (λ y. IsTrue (is_before (name x) (name y))) ys → IsFalse (is_among (name x) (map name ys))
-      another [] k = refl
-      another (y ∷ ys) k =
-          or_from (is_same (name y) (name x)) (is_among (name x) (map name ys)) (same_flips (name y) (name x) ∙ before_apart (name x) (name y) k.0)
-          (another ys k.1)
+      let apart = all_along (λ y. IsTrue (is_before (name x) (name y))) (λ y. IsFalse (is_same (name y) (name x)))
+      (λ y k. same_flips (name y) (name x) ∙ before_apart (name x) (name y) k) xs (leads_all (name x) xs g.0 g.1) in
+      (among_none (name x) (map name xs) (all_map (λ o. IsFalse (is_same o (name x))) name xs apart), ascends_once xs g.1)
 
   -- what passes a test ascends still
   pub ascends_filter : (test : R → Bool) (rows : List R) → IsTrue (ascends name rows) → IsTrue (ascends name (filter test rows))
@@ -228,18 +226,9 @@ module _ {R : Type 0} (name : R → Oid) where
   ascends_filter test (x ∷ xs) h =
       let g = parted x xs h in
       elim (test x) as (λ b. IsTrue (ascends name (cond b (x ∷ filter test xs) (filter test xs)))) [
-        | true ↦ headed x (filter test xs) (leads_from (name x) (filter test xs) (those xs (leads_all (name x) xs g.0 g.1))) (ascends_filter test xs g.1)
+        | true ↦ headed x (filter test xs) (leads_from (name x) (filter test xs) (all_filter (λ y. IsTrue (is_before (name x) (name y))) test xs (leads_all (name x) xs g.0 g.1))) (ascends_filter test xs g.1)
         | false ↦ ascends_filter test xs g.1
       ]
-    where
-      those : (ys : List R) → AllByRecursion (λ y. IsTrue (is_before (name x) (name y))) ys
-          → AllByRecursion (λ y. IsTrue (is_before (name x) (name y))) (filter test ys)
-      those [] k = tt
-      those (y ∷ ys) k =
-          elim (test y) as (λ b. AllByRecursion (λ z. IsTrue (is_before (name x) (name z))) (cond b (y ∷ filter test ys) (filter test ys))) [
-            | true ↦ (k.0, those ys k.1)
-            | false ↦ those ys k.1
-          ]
 
   -- rows that are made of others, with their names
   pub ascends_map : {Q : Type 0} (of : Q → Oid) (f : Q → R) → ((q : Q) → name (f q) ≡ of q) → (qs : List Q) → ascends name (map f qs) ≡ ascends of qs
@@ -272,16 +261,12 @@ module _ {R : Type 0} (name : R → Oid) where
       → AllByRecursion (λ r. row_of name (placed_all name rs rows) (name r) ≡ Some r) rs
   each_placed_all [] rows h = tt
   each_placed_all (r ∷ rs) rows h = (
-    row_of_placed_all rs (placed name r rows) (name r) (apart rs h.0)
+    row_of_placed_all rs (placed name r rows) (name r)
+        (all_of_map (λ o. IsFalse (is_same o (name r))) name rs (none_among (name r) (map name rs) h.0))
         ∙ row_of_placed r rows (name r)
         ∙ ap (λ b. if b then Some r else row_of name rows (name r)) (same_self (name r)),
     each_placed_all rs (placed name r rows) h.1,
-  ) where
-    apart : (xs : List R) → IsFalse (is_among (name r) (map name xs)) → AllByRecursion (λ x. IsFalse (is_same (name x) (name r))) xs
-    apart [] k = tt
-    apart (x ∷ xs) k =
-        let g = or_parts (is_same (name x) (name r)) (is_among (name r) (map name xs)) k in
-        (g.0, apart xs g.1)
+  )
 
   -- ---- parts of a table
 
@@ -308,16 +293,15 @@ module _ {R : Type 0} (name : R → Oid) where
   -- behind rows of names before it, and before rows of names behind it, there is no row of a name
   pub row_of_behind : (xs ys : List R) (o : Oid) → AllByRecursion (λ x. IsTrue (is_before (name x) o)) xs
       → row_of name (xs ++ ys) o ≡ row_of name ys o
-  row_of_behind [] ys o h = refl
-  row_of_behind (x ∷ xs) ys o h =
-      ap (λ b. cond b (Some x) (row_of name (xs ++ ys) o)) (before_apart (name x) o h.0) ∙ row_of_behind xs ys o h.1
+  row_of_behind xs ys o h =
+      row_of_others xs ys o
+      (all_along (λ x. IsTrue (is_before (name x) o)) (λ x. IsFalse (is_same (name x) o)) (λ x k. before_apart (name x) o k) xs h)
 
   pub row_of_before : (ys : List R) (o : Oid) → IsTrue (leads name o ys) → IsTrue (ascends name ys) → row_of name ys o ≡ None
-  row_of_before ys o h g = row_of_none ys o (apart ys (leads_all o ys h g))
-    where
-      apart : (xs : List R) → AllByRecursion (λ x. IsTrue (is_before o (name x))) xs → AllByRecursion (λ x. IsFalse (is_same (name x) o)) xs
-      apart [] k = tt
-      apart (x ∷ xs) k = (same_flips (name x) o ∙ before_apart o (name x) k.0, apart xs k.1)
+  row_of_before ys o h g =
+      row_of_none ys o
+      (all_along (λ x. IsTrue (is_before o (name x))) (λ x. IsFalse (is_same (name x) o))
+      (λ x k. same_flips (name x) o ∙ before_apart o (name x) k) ys (leads_all o ys h g))
 
   -- the rows in front of one in ascending rows are before it, and those behind it behind
   pub ascends_parts : (xs ys : List R) (y : R) → IsTrue (ascends name (xs ++ y ∷ ys))

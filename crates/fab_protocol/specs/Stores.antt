@@ -26,7 +26,7 @@ use Rattle.fab_net.specs.declared.note.Step.{Step}
 use Rattle.fab_net.specs.declared.note.Note.TheVariants as note
 use Rattle.fab_rights.specs.declared.rights.Rights.{Rights}
 use Rattle.fab_rights.specs.Computed.{is_worker, knows, may_fetch, may_write, suits}
-pub use Rattle.fab_protocol.specs.declared.said.Said.{Said}
+use Rattle.fab_protocol.specs.declared.said.Said.{Said}
 use Rattle.fab_protocol.specs.declared.sender.Sender.{Sender}
 use Rattle.fab_protocol.specs.Tables.{row_of, placed_all}
 use Rattle.fab_protocol.specs.Versions.{Row, Rows, name_of, version_of, begun, is_tid, is_made_in, left_by}
@@ -227,17 +227,17 @@ found n t o (Some row) = replies n (m.Object t o row.1 row.2)
 abbrev pub is_prepared : Tid → Shelf → Bool
 is_prepared t shelf = list_any (λ p. is_tid p.0 t) shelf.prepared
 
+-- a message that workers send, and with a tid of the sender
+abbrev pub is_own : ℕ → Message → Bool
+is_own n (m.Fetch t o) = t.worker == n
+is_own n (m.Prepare t items) = t.worker == n
+is_own n (m.Commit t) = t.worker == n
+is_own n (m.Abort t) = t.worker == n
+is_own n (m.Boot b) = true
+is_own n _ = false
+
 -- store s, sender n
 module _ (rights : Rights) (s n : ℕ) where
-  -- a message that workers send, and with a tid of the sender
-  abbrev pub is_own : Message → Bool
-  is_own (m.Fetch t o) = t.worker == n
-  is_own (m.Prepare t items) = t.worker == n
-  is_own (m.Commit t) = t.worker == n
-  is_own (m.Abort t) = t.worker == n
-  is_own (m.Boot b) = true
-  is_own _ = false
-
   abbrev pub fetched : Tid → Oid → Shelf → Said
   fetched t o shelf =
       if not (o.store == s) || not (knows rights o.class) then replies n (m.Deny t o why.Missing)
@@ -259,7 +259,7 @@ module _ (rights : Rights) (s n : ℕ) where
 
   -- what is dropped leaves no reply and no record
   abbrev pub says : Message → Shelf → Said
-  says message shelf = if is_worker rights n && is_own message then does message shelf else silent
+  says message shelf = if is_worker rights n && is_own n message then does message shelf else silent
 
   -- of bytes that are read as no message nothing is heard
   abbrev pub hears : Option Message → Shelf → Said

@@ -7,6 +7,10 @@ mod laws;
 mod said;
 mod sender;
 
-pub use laws::{folds_go_on, says_only_what_can_be_kept};
+pub use laws::{
+    a_no_leaves_all_but_the_last_tid, commits_apply_what_is_prepared, folds_go_on,
+    messages_keep_shelves, no_yes_without_rights, records_keep_shelves, says_only_what_can_be_kept,
+    start_is_a_shelf,
+};
 pub use said::Said;
 pub use sender::Sender;

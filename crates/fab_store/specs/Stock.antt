@@ -7,7 +7,8 @@ use Rattle.fab_base.specs.JournalSpelling.{KeepsEntry}
 use Rattle.fab_base.specs.MessageSpelling.{KeepsCounts}
 use Rattle.fab_net.specs.declared.note.Step.{Step}
 use Rattle.fab_rights.specs.declared.rights.Rights.{Rights}
-use Rattle.fab_protocol.specs.Stores.{Shelf, Said, step_of, keeps}
+use Rattle.fab_protocol.specs.declared.said.Said.{Said}
+use Rattle.fab_protocol.specs.Stores.{Shelf, step_of, keeps}
 use Rattle.fab_protocol.specs.Shelves.{CanKeep}
 
 -- The store's number, what it knows of nodes and classes, its shelf, for how many objects more there is room, and

@@ -22,7 +22,8 @@ use Rattle.fab_net.specs.declared.outcome.ReqOutcome.TheVariants.{NodeDown, Unfi
 use Rattle.fab_rights.specs.declared.rights.Rights.{Rights}
 use Rattle.fab_rights.specs.Computed.{is_node, is_worker, nodes_in}
 use Rattle.fab_protocol.specs.Versions.{Rows, objects_of, is_tid}
-use Rattle.fab_protocol.specs.Stores.{Shelf, Said, shelf_of, says, asks, behind}
+use Rattle.fab_protocol.specs.declared.said.Said.{Said}
+use Rattle.fab_protocol.specs.Stores.{Shelf, shelf_of, says, asks, behind}
 use Rattle.fab_world.specs.Workers as workers
 use Rattle.fab_world.specs.Workers.{is_in, Kept, Phase, Attempt, Act, kept_of, fresh, stays, begins, resumes, takes, gives_up, wakes, request_of, tid_of}
 
