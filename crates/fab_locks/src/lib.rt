@@ -3,5 +3,7 @@
 
 mod items;
 mod locks;
+#[cfg(test)]
+mod tests;
 
 pub use locks::Locks;
