@@ -85,7 +85,7 @@ others-list-smaller t c = omega (arith, operator_shorter c.in-Some.ensures, read
 
 pub others-returns : goal.others-returns
 others-returns t c =
-    whole (alike _ (others_end c.args.level c.list.invariant c.in_default.ensures) (λ v. append-nil _))
+    rw c.fitted.ensures (whole (alike _ (others_end c.args.level c.list.invariant c.in_default.ensures) (λ v. append-nil _)))
 
 pub operand-returns-in-Or : goal.operand-returns-in-Or
 operand-returns-in-Or t c =

@@ -112,7 +112,7 @@ statements-list-smaller t c =
 
 pub statements-returns : goal.statements-returns
 statements-returns t c =
-    whole (alike _ (list_end begins_statement statement_begins c.list.invariant (λ s. not_true c.list-test.false (c.starts_statement.ensures.1 s))) (λ v. append-nil _))
+    rw c.fitted.ensures (whole (alike _ (list_end begins_statement statement_begins c.list.invariant (λ s. not_true c.list-test.false (c.starts_statement.ensures.1 s))) (λ v. append-nil _)))
 
 pub statement-returns-in-Some : goal.statement-returns-in-Some
 statement-returns-in-Some t c = handed c.declared.result (λ x. x.0) (λ x. x.1.now) any (any_weak after_statement) (int_start c.place-at.ensures c.in-Some.ensures) c.declared.ensures
