@@ -104,7 +104,7 @@ statements-returns-in_err-item t c =
 
 pub statements-list-preserved : goal.statements-list-preserved
 statements-list-preserved t c =
-    alike _ (part (list_more begins_statement after_statement c.list.invariant (c.starts_statement.ensures.0 c.list-test.true)) c.in_ok-item.ensures statements_meet) (one_more _ _ _ c.in_ok-push.ensures.ok)
+    alike _ (part (list_more begins_statement after_statement c.list.invariant (c.starts_statement.ensures.0 c.list-test.true)) c.in_ok-item.ensures statements_meet) (one_more _ _ _ c.in_ok-found.ensures)
 
 pub statements-list-smaller : goal.statements-list-smaller
 statements-list-smaller t c =
