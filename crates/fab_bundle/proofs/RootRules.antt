@@ -10,7 +10,7 @@ use Rattle.fab_tree.specs.declared.start.Session.{Session}
 use Rattle.fab_tree.specs.Lists.{Is, IsName, Repeated, Separated}
 use Rattle.fab_tree.specs.Runs.{IsGiven, IsRoot, root, IsRequest, request, IsSession, session}
 use Rattle.fab_reading.specs.Reading.{Read, any, begins_name, behind_list, behind_literals}
-use Rattle.fab_reading.proofs.Rules.{Then, End, Sign, HasText, Going, start, turn, sign, part, end_text, sign_text, then_text, any_follows, sign_follows, opened, closed}
+use Rattle.fab_reading.proofs.Rules.{Then, End, Sign, HasText, Going, start, turn, sign, part, end_text, sign_text, then_text, any_follows, sign_follows, opened, closed, followed}
 use Rattle.fab_reading.proofs.TokenRules.{name_text}
 use Rattle.fab_reading.proofs.ListRules.{repeated_text}
 use Rattle.fab_reading.proofs.ItemRules.{separated_text}
@@ -118,10 +118,16 @@ pub root_text_1 : HasText RootRest1
 root_text_1 = then_text name_text root_text_2
 
 root_back : {a : List Token} {v : Root} {b : List Token} → IsRoot a v b → (x : RootTree0) × (v ≡ root_of x) × RootRest0 a x b
-root_back (root {x = p1} {y = p3} {z = p5} {ws = p7} q0 q1 q2 q3 q4 q5 q6 q7 q8 q9) = ((tt, (p1, (tt, (p3, (tt, (p5, (tt, (p7, (tt, (tt, tt)))))))))), refl, record { mid = _; first = q0; second = record { mid = _; first = q1; second = record { mid = _; first = q2; second = record { mid = _; first = q3; second = record { mid = _; first = q4; second = record { mid = _; first = q5; second = record { mid = _; first = q6; second = record { mid = _; first = q7; second = record { mid = _; first = q8; second = record { mid = _; first = q9; second = refl } } } } } } } } } })
+root_back (root {x = p1} {y = p3} {z = p5} {ws = p7} q0 q1 q2 q3 q4 q5 q6 q7 q8 q9) = ((tt, (p1, (tt, (p3, (tt, (p5, (tt, (p7, (tt, (tt, tt)))))))))), refl, followed _ q0 (followed _ q1 (followed _ q2 (followed _ q3 (followed _ q4 (followed _ q5 (followed _ q6 (followed _ q7 (followed _ q8 (followed _ q9 refl))))))))))
 
 pub root_0 : {room : ℕ} (a : List Token) → Going IsRoot any room a RootRest0 root_of room a
-root_0 {room = room} a = turn root_of (start IsRoot any room a) (λ more v after p. let p1 = p.second in let p2 = p1.second in let p3 = p2.second in let p4 = p3.second in let p5 = p4.second in let p6 = p5.second in let p7 = p6.second in let p8 = p7.second in let p9 = p8.second in subst (λ x. IsRoot more (root_of v) x) p9.second (root p.first p1.first p2.first p3.first p4.first p5.first p6.first p7.first p8.first p9.first)) (λ more v after same p h. root_back p)
+root_0 {room = room} a =
+    turn root_of (start IsRoot any room a)
+    (λ more v after p. let p1 = p.second in let p2 = p1.second in let p3 = p2.second in let p4 = p3.second in let p5 = p4.second in
+    let p6 = p5.second in let p7 = p6.second in let p8 = p7.second in let p9 = p8.second in
+    subst (λ x. IsRoot more (root_of v) x) p9.second
+    (root p.first p1.first p2.first p3.first p4.first p5.first p6.first p7.first p8.first p9.first))
+    (λ more v after same p h. root_back p)
 
 pub root_1 : {room : ℕ} {a0 a1 : List Token} → Is m.Root a0 a1 → Going IsRoot any room a0 RootRest1 (λ v. root_of (tt, v)) room a1
 root_1 h0 = sign (root_0 _) h0 refl
@@ -141,16 +147,29 @@ root_5 h0 h1 h2 h3 h4 = sign (root_4 h0 h1 h2 h3) h4 refl
 pub root_6 : {room : ℕ} {a0 a1 a2 a3 a4 a5 a6 : List Token} {x1 : Name} {x3 : Name} {x5 : Name} → Is m.Root a0 a1 → Read IsName any room a1 x1 a2 → Is m.Colon a2 a3 → Read IsName any room a3 x3 a4 → Is m.At a4 a5 → Read IsName any room a5 x5 a6 → Going IsRoot any room a0 RootRest6 (λ v. root_of (tt, (x1, (tt, (x3, (tt, (x5, v))))))) room a6
 root_6 h0 h1 h2 h3 h4 h5 = part (root_5 h0 h1 h2 h3 h4) h5 (λ more v after q h. any_follows more)
 
-pub root_7 : {room inner : ℕ} {a0 a1 a2 a3 a4 a5 a6 a7 : List Token} {x1 : Name} {x3 : Name} {x5 : Name} → Is m.Root a0 a1 → Read IsName any room a1 x1 a2 → Is m.Colon a2 a3 → Read IsName any room a3 x3 a4 → Is m.At a4 a5 → Read IsName any room a5 x5 a6 → (Is m.LeftParen a6 a7 × (room ≡ inner + 1)) → Going IsRoot any room a0 RootRest7 (λ v. root_of (tt, (x1, (tt, (x3, (tt, (x5, (tt, v)))))))) inner a7
+pub root_7 : {room inner : ℕ} {a0 a1 a2 a3 a4 a5 a6 a7 : List Token} {x1 : Name} {x3 : Name} {x5 : Name} → Is m.Root a0 a1
+    → Read IsName any room a1 x1 a2 → Is m.Colon a2 a3 → Read IsName any room a3 x3 a4 → Is m.At a4 a5 → Read IsName any room a5 x5 a6
+    → (Is m.LeftParen a6 a7 × (room ≡ inner + 1))
+    → Going IsRoot any room a0 RootRest7 (λ v. root_of (tt, (x1, (tt, (x3, (tt, (x5, (tt, v)))))))) inner a7
 root_7 h0 h1 h2 h3 h4 h5 h6 = sign (root_6 h0 h1 h2 h3 h4 h5) h6.0 (opened m.LeftParen (λ r. refl) h6.1)
 
-pub root_8 : {room inner : ℕ} {a0 a1 a2 a3 a4 a5 a6 a7 a8 : List Token} {x1 : Name} {x3 : Name} {x5 : Name} {x7 : List Given} → Is m.Root a0 a1 → Read IsName any room a1 x1 a2 → Is m.Colon a2 a3 → Read IsName any room a3 x3 a4 → Is m.At a4 a5 → Read IsName any room a5 x5 a6 → (Is m.LeftParen a6 a7 × (room ≡ inner + 1)) → Read (Separated m.Comma IsGiven) behind_literals inner a7 x7 a8 → Going IsRoot any room a0 RootRest8 (λ v. root_of (tt, (x1, (tt, (x3, (tt, (x5, (tt, (x7, v))))))))) inner a8
+pub root_8 : {room inner : ℕ} {a0 a1 a2 a3 a4 a5 a6 a7 a8 : List Token} {x1 : Name} {x3 : Name} {x5 : Name} {x7 : List Given} → Is m.Root a0 a1
+    → Read IsName any room a1 x1 a2 → Is m.Colon a2 a3 → Read IsName any room a3 x3 a4 → Is m.At a4 a5 → Read IsName any room a5 x5 a6
+    → (Is m.LeftParen a6 a7 × (room ≡ inner + 1)) → Read (Separated m.Comma IsGiven) behind_literals inner a7 x7 a8
+    → Going IsRoot any room a0 RootRest8 (λ v. root_of (tt, (x1, (tt, (x3, (tt, (x5, (tt, (x7, v))))))))) inner a8
 root_8 h0 h1 h2 h3 h4 h5 h6 h7 = part (root_7 h0 h1 h2 h3 h4 h5 h6) h7 (λ more v after q h. sign_follows m.RightParen behind_literals refl q.first)
 
-pub root_9 : {room inner : ℕ} {a0 a1 a2 a3 a4 a5 a6 a7 a8 a9 : List Token} {x1 : Name} {x3 : Name} {x5 : Name} {x7 : List Given} → Is m.Root a0 a1 → Read IsName any room a1 x1 a2 → Is m.Colon a2 a3 → Read IsName any room a3 x3 a4 → Is m.At a4 a5 → Read IsName any room a5 x5 a6 → (Is m.LeftParen a6 a7 × (room ≡ inner + 1)) → Read (Separated m.Comma IsGiven) behind_literals inner a7 x7 a8 → Is m.RightParen a8 a9 → Going IsRoot any room a0 RootRest9 (λ v. root_of (tt, (x1, (tt, (x3, (tt, (x5, (tt, (x7, (tt, v)))))))))) room a9
+pub root_9 : {room inner : ℕ} {a0 a1 a2 a3 a4 a5 a6 a7 a8 a9 : List Token} {x1 : Name} {x3 : Name} {x5 : Name} {x7 : List Given} → Is m.Root a0 a1
+    → Read IsName any room a1 x1 a2 → Is m.Colon a2 a3 → Read IsName any room a3 x3 a4 → Is m.At a4 a5 → Read IsName any room a5 x5 a6
+    → (Is m.LeftParen a6 a7 × (room ≡ inner + 1)) → Read (Separated m.Comma IsGiven) behind_literals inner a7 x7 a8 → Is m.RightParen a8 a9
+    → Going IsRoot any room a0 RootRest9 (λ v. root_of (tt, (x1, (tt, (x3, (tt, (x5, (tt, (x7, (tt, v)))))))))) room a9
 root_9 h0 h1 h2 h3 h4 h5 h6 h7 h8 = sign (root_8 h0 h1 h2 h3 h4 h5 h6 h7) h8 (closed m.RightParen _ (λ r. refl) h6.1)
 
-pub root_10 : {room inner : ℕ} {a0 a1 a2 a3 a4 a5 a6 a7 a8 a9 a10 : List Token} {x1 : Name} {x3 : Name} {x5 : Name} {x7 : List Given} → Is m.Root a0 a1 → Read IsName any room a1 x1 a2 → Is m.Colon a2 a3 → Read IsName any room a3 x3 a4 → Is m.At a4 a5 → Read IsName any room a5 x5 a6 → (Is m.LeftParen a6 a7 × (room ≡ inner + 1)) → Read (Separated m.Comma IsGiven) behind_literals inner a7 x7 a8 → Is m.RightParen a8 a9 → Is m.Semicolon a9 a10 → Going IsRoot any room a0 RootRest10 (λ v. root_of (tt, (x1, (tt, (x3, (tt, (x5, (tt, (x7, (tt, (tt, v))))))))))) room a10
+pub root_10 : {room inner : ℕ} {a0 a1 a2 a3 a4 a5 a6 a7 a8 a9 a10 : List Token} {x1 : Name} {x3 : Name} {x5 : Name} {x7 : List Given}
+    → Is m.Root a0 a1 → Read IsName any room a1 x1 a2 → Is m.Colon a2 a3 → Read IsName any room a3 x3 a4 → Is m.At a4 a5
+    → Read IsName any room a5 x5 a6 → (Is m.LeftParen a6 a7 × (room ≡ inner + 1)) → Read (Separated m.Comma IsGiven) behind_literals inner a7 x7 a8
+    → Is m.RightParen a8 a9 → Is m.Semicolon a9 a10
+    → Going IsRoot any room a0 RootRest10 (λ v. root_of (tt, (x1, (tt, (x3, (tt, (x5, (tt, (x7, (tt, (tt, v))))))))))) room a10
 root_10 h0 h1 h2 h3 h4 h5 h6 h7 h8 h9 = sign (root_9 h0 h1 h2 h3 h4 h5 h6 h7 h8) h9 refl
 
 -- ---- request = name "(" [literal {"," literal}] ")" ";"
@@ -211,7 +230,7 @@ pub request_text_1 : HasText RequestRest1
 request_text_1 = sign_text m.LeftParen request_text_2
 
 request_back : {a : List Token} {v : RequestText} {b : List Token} → IsRequest a v b → (x : RequestTree0) × (v ≡ request_of x) × RequestRest0 a x b
-request_back (request {x = p0} {ys = p2} q0 q1 q2 q3 q4) = ((p0, (tt, (p2, (tt, (tt, tt))))), refl, record { mid = _; first = q0; second = record { mid = _; first = q1; second = record { mid = _; first = q2; second = record { mid = _; first = q3; second = record { mid = _; first = q4; second = refl } } } } })
+request_back (request {x = p0} {ys = p2} q0 q1 q2 q3 q4) = ((p0, (tt, (p2, (tt, (tt, tt))))), refl, followed _ q0 (followed _ q1 (followed _ q2 (followed _ q3 (followed _ q4 refl)))))
 
 pub request_0 : {room : ℕ} (a : List Token) → Going IsRequest any room a RequestRest0 request_of room a
 request_0 {room = room} a = turn request_of (start IsRequest any room a) (λ more v after p. let p1 = p.second in let p2 = p1.second in let p3 = p2.second in let p4 = p3.second in subst (λ x. IsRequest more (request_of v) x) p4.second (request p.first p1.first p2.first p3.first p4.first)) (λ more v after same p h. request_back p)
@@ -228,7 +247,9 @@ request_3 h0 h1 h2 = part (request_2 h0 h1) h2 (λ more v after q h. sign_follow
 pub request_4 : {room inner : ℕ} {a0 a1 a2 a3 a4 : List Token} {x0 : Name} {x2 : List Given} → Read IsName any room a0 x0 a1 → (Is m.LeftParen a1 a2 × (room ≡ inner + 1)) → Read (Separated m.Comma IsGiven) behind_literals inner a2 x2 a3 → Is m.RightParen a3 a4 → Going IsRequest any room a0 RequestRest4 (λ v. request_of (x0, (tt, (x2, (tt, v))))) room a4
 request_4 h0 h1 h2 h3 = sign (request_3 h0 h1 h2) h3 (closed m.RightParen _ (λ r. refl) h1.1)
 
-pub request_5 : {room inner : ℕ} {a0 a1 a2 a3 a4 a5 : List Token} {x0 : Name} {x2 : List Given} → Read IsName any room a0 x0 a1 → (Is m.LeftParen a1 a2 × (room ≡ inner + 1)) → Read (Separated m.Comma IsGiven) behind_literals inner a2 x2 a3 → Is m.RightParen a3 a4 → Is m.Semicolon a4 a5 → Going IsRequest any room a0 RequestRest5 (λ v. request_of (x0, (tt, (x2, (tt, (tt, v)))))) room a5
+pub request_5 : {room inner : ℕ} {a0 a1 a2 a3 a4 a5 : List Token} {x0 : Name} {x2 : List Given} → Read IsName any room a0 x0 a1
+    → (Is m.LeftParen a1 a2 × (room ≡ inner + 1)) → Read (Separated m.Comma IsGiven) behind_literals inner a2 x2 a3 → Is m.RightParen a3 a4
+    → Is m.Semicolon a4 a5 → Going IsRequest any room a0 RequestRest5 (λ v. request_of (x0, (tt, (x2, (tt, (tt, v)))))) room a5
 request_5 h0 h1 h2 h3 h4 = sign (request_4 h0 h1 h2 h3) h4 refl
 
 -- ---- session = "session" name "{" {request} "}"
@@ -289,7 +310,7 @@ pub session_text_1 : HasText SessionRest1
 session_text_1 = then_text name_text session_text_2
 
 session_back : {a : List Token} {v : Session} {b : List Token} → IsSession a v b → (x : SessionTree0) × (v ≡ session_of x) × SessionRest0 a x b
-session_back (session {x = p1} {ys = p3} q0 q1 q2 q3 q4) = ((tt, (p1, (tt, (p3, (tt, tt))))), refl, record { mid = _; first = q0; second = record { mid = _; first = q1; second = record { mid = _; first = q2; second = record { mid = _; first = q3; second = record { mid = _; first = q4; second = refl } } } } })
+session_back (session {x = p1} {ys = p3} q0 q1 q2 q3 q4) = ((tt, (p1, (tt, (p3, (tt, tt))))), refl, followed _ q0 (followed _ q1 (followed _ q2 (followed _ q3 (followed _ q4 refl)))))
 
 pub session_0 : {room : ℕ} (a : List Token) → Going IsSession any room a SessionRest0 session_of room a
 session_0 {room = room} a = turn session_of (start IsSession any room a) (λ more v after p. let p1 = p.second in let p2 = p1.second in let p3 = p2.second in let p4 = p3.second in subst (λ x. IsSession more (session_of v) x) p4.second (session p.first p1.first p2.first p3.first p4.first)) (λ more v after same p h. session_back p)
@@ -306,5 +327,8 @@ session_3 h0 h1 h2 = sign (session_2 h0 h1) h2.0 (opened m.LeftBrace (λ r. refl
 pub session_4 : {room inner : ℕ} {a0 a1 a2 a3 a4 : List Token} {x1 : Name} {x3 : List RequestText} → Is m.Session a0 a1 → Read IsName any room a1 x1 a2 → (Is m.LeftBrace a2 a3 × (room ≡ inner + 1)) → Read (Repeated IsRequest) (behind_list begins_name any) inner a3 x3 a4 → Going IsSession any room a0 SessionRest4 (λ v. session_of (tt, (x1, (tt, (x3, v))))) inner a4
 session_4 h0 h1 h2 h3 = part (session_3 h0 h1 h2) h3 (λ more v after q h. sign_follows m.RightBrace (behind_list begins_name any) refl q.first)
 
-pub session_5 : {room inner : ℕ} {a0 a1 a2 a3 a4 a5 : List Token} {x1 : Name} {x3 : List RequestText} → Is m.Session a0 a1 → Read IsName any room a1 x1 a2 → (Is m.LeftBrace a2 a3 × (room ≡ inner + 1)) → Read (Repeated IsRequest) (behind_list begins_name any) inner a3 x3 a4 → Is m.RightBrace a4 a5 → Going IsSession any room a0 SessionRest5 (λ v. session_of (tt, (x1, (tt, (x3, (tt, v)))))) room a5
+pub session_5 : {room inner : ℕ} {a0 a1 a2 a3 a4 a5 : List Token} {x1 : Name} {x3 : List RequestText} → Is m.Session a0 a1
+    → Read IsName any room a1 x1 a2 → (Is m.LeftBrace a2 a3 × (room ≡ inner + 1))
+    → Read (Repeated IsRequest) (behind_list begins_name any) inner a3 x3 a4 → Is m.RightBrace a4 a5
+    → Going IsSession any room a0 SessionRest5 (λ v. session_of (tt, (x1, (tt, (x3, (tt, v)))))) room a5
 session_5 h0 h1 h2 h3 h4 = sign (session_4 h0 h1 h2 h3) h4 (closed m.RightBrace _ (λ r. refl) h2.1)

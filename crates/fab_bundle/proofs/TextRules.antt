@@ -24,7 +24,7 @@ use Rattle.fab_reading.proofs.ListRules.{repeated_text}
 use Rattle.fab_parser.specs.Pieces.{after_program}
 use Rattle.fab_bundle.specs.Pieces.{begins_post, begins_crash, after_crashes, after_cache}
 use Rattle.fab_bundle.specs.Texts.{BadNext, BadToken, BadBracket, TooMany}
-use Rattle.fab_reading.proofs.Rules.{Then, End, Sign, HasText, Going, turn, sign, part, ending, end_text, sign_text, then_text, extra, any_follows, sign_follows, begins_at, room_append, opened, closed}
+use Rattle.fab_reading.proofs.Rules.{Then, End, Sign, HasText, Going, turn, sign, part, ending, end_text, sign_text, then_text, extra, any_follows, sign_follows, begins_at, room_append, opened, closed, followed}
 use Rattle.fab_reading.proofs.Rules as rules
 use Rattle.fab_bundle.proofs.PostRules.{cache_text}
 use Rattle.fab_bundle.proofs.EventRules.{schedule_text}
@@ -201,10 +201,16 @@ pub start_text_1 : HasText StartRest1
 start_text_1 = sign_text m.Run start_text_2
 
 start_back : {a : List Token} {v : Start} {b : List Token} → IsStart a v b → (x : StartTree0) × (v ≡ start_of x) × StartRest0 a x b
-start_back (start {p = p0} {rs = p3} {ss = p4} {ps = p5} {cs = p6} {n = p7} {es = p8} q0 q1 q2 q3 q4 q5 q6 q7 q8 q9) = ((p0, (tt, (tt, (p3, (p4, (p5, (p6, (p7, (p8, (tt, tt)))))))))), refl, record { mid = _; first = q0; second = record { mid = _; first = q1; second = record { mid = _; first = q2; second = record { mid = _; first = q3; second = record { mid = _; first = q4; second = record { mid = _; first = q5; second = record { mid = _; first = q6; second = record { mid = _; first = q7; second = record { mid = _; first = q8; second = record { mid = _; first = q9; second = refl } } } } } } } } } })
+start_back (start {p = p0} {rs = p3} {ss = p4} {ps = p5} {cs = p6} {n = p7} {es = p8} q0 q1 q2 q3 q4 q5 q6 q7 q8 q9) = ((p0, (tt, (tt, (p3, (p4, (p5, (p6, (p7, (p8, (tt, tt)))))))))), refl, followed _ q0 (followed _ q1 (followed _ q2 (followed _ q3 (followed _ q4 (followed _ q5 (followed _ q6 (followed _ q7 (followed _ q8 (followed _ q9 refl))))))))))
 
 pub start_0 : {room : ℕ} (a : List Token) → Going IsStart any room a StartRest0 start_of room a
-start_0 {room = room} a = turn start_of (rules.start IsStart any room a) (λ more v after p. let p1 = p.second in let p2 = p1.second in let p3 = p2.second in let p4 = p3.second in let p5 = p4.second in let p6 = p5.second in let p7 = p6.second in let p8 = p7.second in let p9 = p8.second in subst (λ x. IsStart more (start_of v) x) p9.second (start p.first p1.first p2.first p3.first p4.first p5.first p6.first p7.first p8.first p9.first)) (λ more v after same p h. start_back p)
+start_0 {room = room} a =
+    turn start_of (rules.start IsStart any room a)
+    (λ more v after p. let p1 = p.second in let p2 = p1.second in let p3 = p2.second in let p4 = p3.second in let p5 = p4.second in
+    let p6 = p5.second in let p7 = p6.second in let p8 = p7.second in let p9 = p8.second in
+    subst (λ x. IsStart more (start_of v) x) p9.second
+    (start p.first p1.first p2.first p3.first p4.first p5.first p6.first p7.first p8.first p9.first))
+    (λ more v after same p h. start_back p)
 
 pub start_1 : {room : ℕ} {a0 a1 : List Token} {x0 : Program} → Read IsProgram after_program room a0 x0 a1 → Going IsStart any room a0 StartRest1 (λ v. start_of (x0, v)) room a1
 start_1 h0 = part (start_0 _) h0 (λ more v after q h. sign_follows m.Run after_program refl q.first)
@@ -218,22 +224,52 @@ start_3 h0 h1 h2 = sign (start_2 h0 h1) h2.0 (opened m.LeftBrace (λ r. refl) h2
 pub start_4 : {room inner : ℕ} {a0 a1 a2 a3 a4 : List Token} {x0 : Program} {x3 : List Root} → Read IsProgram after_program room a0 x0 a1 → Is m.Run a1 a2 → (Is m.LeftBrace a2 a3 × (room ≡ inner + 1)) → Read (Repeated IsRoot) (behind_list begins_root any) inner a3 x3 a4 → Going IsStart any room a0 StartRest4 (λ v. start_of (x0, (tt, (tt, (x3, v))))) inner a4
 start_4 h0 h1 h2 h3 = part (start_3 h0 h1 h2) h3 (λ more v after q h. behind_roots more v after q)
 
-pub start_5 : {room inner : ℕ} {a0 a1 a2 a3 a4 a5 : List Token} {x0 : Program} {x3 : List Root} {x4 : List Session} → Read IsProgram after_program room a0 x0 a1 → Is m.Run a1 a2 → (Is m.LeftBrace a2 a3 × (room ≡ inner + 1)) → Read (Repeated IsRoot) (behind_list begins_root any) inner a3 x3 a4 → Read (Repeated IsSession) (behind_list begins_session any) inner a4 x4 a5 → Going IsStart any room a0 StartRest5 (λ v. start_of (x0, (tt, (tt, (x3, (x4, v)))))) inner a5
+pub start_5 : {room inner : ℕ} {a0 a1 a2 a3 a4 a5 : List Token} {x0 : Program} {x3 : List Root} {x4 : List Session}
+    → Read IsProgram after_program room a0 x0 a1 → Is m.Run a1 a2 → (Is m.LeftBrace a2 a3 × (room ≡ inner + 1))
+    → Read (Repeated IsRoot) (behind_list begins_root any) inner a3 x3 a4 → Read (Repeated IsSession) (behind_list begins_session any) inner a4 x4 a5
+    → Going IsStart any room a0 StartRest5 (λ v. start_of (x0, (tt, (tt, (x3, (x4, v)))))) inner a5
 start_5 h0 h1 h2 h3 h4 = part (start_4 h0 h1 h2 h3) h4 (λ more v after q h. behind_sessions more v after q)
 
-pub start_6 : {room inner : ℕ} {a0 a1 a2 a3 a4 a5 a6 : List Token} {x0 : Program} {x3 : List Root} {x4 : List Session} {x5 : List PostLine} → Read IsProgram after_program room a0 x0 a1 → Is m.Run a1 a2 → (Is m.LeftBrace a2 a3 × (room ≡ inner + 1)) → Read (Repeated IsRoot) (behind_list begins_root any) inner a3 x3 a4 → Read (Repeated IsSession) (behind_list begins_session any) inner a4 x4 a5 → Read (Repeated IsPost) (behind_list begins_post any) inner a5 x5 a6 → Going IsStart any room a0 StartRest6 (λ v. start_of (x0, (tt, (tt, (x3, (x4, (x5, v))))))) inner a6
+pub start_6 : {room inner : ℕ} {a0 a1 a2 a3 a4 a5 a6 : List Token} {x0 : Program} {x3 : List Root} {x4 : List Session} {x5 : List PostLine}
+    → Read IsProgram after_program room a0 x0 a1 → Is m.Run a1 a2 → (Is m.LeftBrace a2 a3 × (room ≡ inner + 1))
+    → Read (Repeated IsRoot) (behind_list begins_root any) inner a3 x3 a4 → Read (Repeated IsSession) (behind_list begins_session any) inner a4 x4 a5
+    → Read (Repeated IsPost) (behind_list begins_post any) inner a5 x5 a6
+    → Going IsStart any room a0 StartRest6 (λ v. start_of (x0, (tt, (tt, (x3, (x4, (x5, v))))))) inner a6
 start_6 h0 h1 h2 h3 h4 h5 = part (start_5 h0 h1 h2 h3 h4) h5 (λ more v after q h. behind_posts more v after q)
 
-pub start_7 : {room inner : ℕ} {a0 a1 a2 a3 a4 a5 a6 a7 : List Token} {x0 : Program} {x3 : List Root} {x4 : List Session} {x5 : List PostLine} {x6 : List CrashLine} → Read IsProgram after_program room a0 x0 a1 → Is m.Run a1 a2 → (Is m.LeftBrace a2 a3 × (room ≡ inner + 1)) → Read (Repeated IsRoot) (behind_list begins_root any) inner a3 x3 a4 → Read (Repeated IsSession) (behind_list begins_session any) inner a4 x4 a5 → Read (Repeated IsPost) (behind_list begins_post any) inner a5 x5 a6 → Read (Repeated IsCrash) (behind_list begins_crash any) inner a6 x6 a7 → Going IsStart any room a0 StartRest7 (λ v. start_of (x0, (tt, (tt, (x3, (x4, (x5, (x6, v)))))))) inner a7
+pub start_7 : {room inner : ℕ} {a0 a1 a2 a3 a4 a5 a6 a7 : List Token} {x0 : Program} {x3 : List Root} {x4 : List Session} {x5 : List PostLine}
+    {x6 : List CrashLine}
+    → Read IsProgram after_program room a0 x0 a1 → Is m.Run a1 a2 → (Is m.LeftBrace a2 a3 × (room ≡ inner + 1))
+    → Read (Repeated IsRoot) (behind_list begins_root any) inner a3 x3 a4 → Read (Repeated IsSession) (behind_list begins_session any) inner a4 x4 a5
+    → Read (Repeated IsPost) (behind_list begins_post any) inner a5 x5 a6 → Read (Repeated IsCrash) (behind_list begins_crash any) inner a6 x6 a7
+    → Going IsStart any room a0 StartRest7 (λ v. start_of (x0, (tt, (tt, (x3, (x4, (x5, (x6, v)))))))) inner a7
 start_7 h0 h1 h2 h3 h4 h5 h6 = part (start_6 h0 h1 h2 h3 h4 h5) h6 (λ more v after q h. behind_crashes more v after q)
 
-pub start_8 : {room inner : ℕ} {a0 a1 a2 a3 a4 a5 a6 a7 a8 : List Token} {x0 : Program} {x3 : List Root} {x4 : List Session} {x5 : List PostLine} {x6 : List CrashLine} {x7 : ℕ} → Read IsProgram after_program room a0 x0 a1 → Is m.Run a1 a2 → (Is m.LeftBrace a2 a3 × (room ≡ inner + 1)) → Read (Repeated IsRoot) (behind_list begins_root any) inner a3 x3 a4 → Read (Repeated IsSession) (behind_list begins_session any) inner a4 x4 a5 → Read (Repeated IsPost) (behind_list begins_post any) inner a5 x5 a6 → Read (Repeated IsCrash) (behind_list begins_crash any) inner a6 x6 a7 → Read IsCache after_crashes inner a7 x7 a8 → Going IsStart any room a0 StartRest8 (λ v. start_of (x0, (tt, (tt, (x3, (x4, (x5, (x6, (x7, v))))))))) inner a8
+pub start_8 : {room inner : ℕ} {a0 a1 a2 a3 a4 a5 a6 a7 a8 : List Token} {x0 : Program} {x3 : List Root} {x4 : List Session} {x5 : List PostLine}
+    {x6 : List CrashLine} {x7 : ℕ}
+    → Read IsProgram after_program room a0 x0 a1 → Is m.Run a1 a2 → (Is m.LeftBrace a2 a3 × (room ≡ inner + 1))
+    → Read (Repeated IsRoot) (behind_list begins_root any) inner a3 x3 a4 → Read (Repeated IsSession) (behind_list begins_session any) inner a4 x4 a5
+    → Read (Repeated IsPost) (behind_list begins_post any) inner a5 x5 a6 → Read (Repeated IsCrash) (behind_list begins_crash any) inner a6 x6 a7
+    → Read IsCache after_crashes inner a7 x7 a8
+    → Going IsStart any room a0 StartRest8 (λ v. start_of (x0, (tt, (tt, (x3, (x4, (x5, (x6, (x7, v))))))))) inner a8
 start_8 h0 h1 h2 h3 h4 h5 h6 h7 = part (start_7 h0 h1 h2 h3 h4 h5 h6) h7 (λ more v after q h. behind_cache more v after q)
 
-pub start_9 : {room inner : ℕ} {a0 a1 a2 a3 a4 a5 a6 a7 a8 a9 : List Token} {x0 : Program} {x3 : List Root} {x4 : List Session} {x5 : List PostLine} {x6 : List CrashLine} {x7 : ℕ} {x8 : List Event} → Read IsProgram after_program room a0 x0 a1 → Is m.Run a1 a2 → (Is m.LeftBrace a2 a3 × (room ≡ inner + 1)) → Read (Repeated IsRoot) (behind_list begins_root any) inner a3 x3 a4 → Read (Repeated IsSession) (behind_list begins_session any) inner a4 x4 a5 → Read (Repeated IsPost) (behind_list begins_post any) inner a5 x5 a6 → Read (Repeated IsCrash) (behind_list begins_crash any) inner a6 x6 a7 → Read IsCache after_crashes inner a7 x7 a8 → Read IsSchedule after_cache inner a8 x8 a9 → Going IsStart any room a0 StartRest9 (λ v. start_of (x0, (tt, (tt, (x3, (x4, (x5, (x6, (x7, (x8, v)))))))))) inner a9
+pub start_9 : {room inner : ℕ} {a0 a1 a2 a3 a4 a5 a6 a7 a8 a9 : List Token} {x0 : Program} {x3 : List Root} {x4 : List Session} {x5 : List PostLine}
+    {x6 : List CrashLine} {x7 : ℕ} {x8 : List Event}
+    → Read IsProgram after_program room a0 x0 a1 → Is m.Run a1 a2 → (Is m.LeftBrace a2 a3 × (room ≡ inner + 1))
+    → Read (Repeated IsRoot) (behind_list begins_root any) inner a3 x3 a4 → Read (Repeated IsSession) (behind_list begins_session any) inner a4 x4 a5
+    → Read (Repeated IsPost) (behind_list begins_post any) inner a5 x5 a6 → Read (Repeated IsCrash) (behind_list begins_crash any) inner a6 x6 a7
+    → Read IsCache after_crashes inner a7 x7 a8 → Read IsSchedule after_cache inner a8 x8 a9
+    → Going IsStart any room a0 StartRest9 (λ v. start_of (x0, (tt, (tt, (x3, (x4, (x5, (x6, (x7, (x8, v)))))))))) inner a9
 start_9 h0 h1 h2 h3 h4 h5 h6 h7 h8 = part (start_8 h0 h1 h2 h3 h4 h5 h6 h7) h8 (λ more v after q h. sign_follows m.RightBrace after_cache refl q.first)
 
-pub start_10 : {room inner : ℕ} {a0 a1 a2 a3 a4 a5 a6 a7 a8 a9 a10 : List Token} {x0 : Program} {x3 : List Root} {x4 : List Session} {x5 : List PostLine} {x6 : List CrashLine} {x7 : ℕ} {x8 : List Event} → Read IsProgram after_program room a0 x0 a1 → Is m.Run a1 a2 → (Is m.LeftBrace a2 a3 × (room ≡ inner + 1)) → Read (Repeated IsRoot) (behind_list begins_root any) inner a3 x3 a4 → Read (Repeated IsSession) (behind_list begins_session any) inner a4 x4 a5 → Read (Repeated IsPost) (behind_list begins_post any) inner a5 x5 a6 → Read (Repeated IsCrash) (behind_list begins_crash any) inner a6 x6 a7 → Read IsCache after_crashes inner a7 x7 a8 → Read IsSchedule after_cache inner a8 x8 a9 → Is m.RightBrace a9 a10 → Going IsStart any room a0 StartRest10 (λ v. start_of (x0, (tt, (tt, (x3, (x4, (x5, (x6, (x7, (x8, (tt, v))))))))))) room a10
+pub start_10 : {room inner : ℕ} {a0 a1 a2 a3 a4 a5 a6 a7 a8 a9 a10 : List Token} {x0 : Program} {x3 : List Root} {x4 : List Session}
+    {x5 : List PostLine} {x6 : List CrashLine} {x7 : ℕ} {x8 : List Event}
+    → Read IsProgram after_program room a0 x0 a1 → Is m.Run a1 a2 → (Is m.LeftBrace a2 a3 × (room ≡ inner + 1))
+    → Read (Repeated IsRoot) (behind_list begins_root any) inner a3 x3 a4 → Read (Repeated IsSession) (behind_list begins_session any) inner a4 x4 a5
+    → Read (Repeated IsPost) (behind_list begins_post any) inner a5 x5 a6 → Read (Repeated IsCrash) (behind_list begins_crash any) inner a6 x6 a7
+    → Read IsCache after_crashes inner a7 x7 a8 → Read IsSchedule after_cache inner a8 x8 a9 → Is m.RightBrace a9 a10
+    → Going IsStart any room a0 StartRest10 (λ v. start_of (x0, (tt, (tt, (x3, (x4, (x5, (x6, (x7, (x8, (tt, v))))))))))) room a10
 start_10 h0 h1 h2 h3 h4 h5 h6 h7 h8 h9 = sign (start_9 h0 h1 h2 h3 h4 h5 h6 h7 h8) h9 (closed m.RightBrace _ (λ r. refl) h2.1)
 
 -- ---- where a text is refused

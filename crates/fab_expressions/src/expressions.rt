@@ -7,8 +7,8 @@ ghost use Rattle.fab_expressions.specs.Pieces.{begins_expression, after_primary,
 use crate::operators::{chain_of, comparison, comparison_of, operator};
 use fab_base::{Boxed, Kind, Mark, Seq, Token};
 use fab_reading::{
-    Item, Refusal, behind, behind_least, name, next, numeral, open, place, positive, separated,
-    sign, starts_name,
+    Item, Refusal, added, behind, behind_least, fitted, name, next, numeral, open, place, positive,
+    separated, sign, starts_name,
 };
 use fab_tree::{Expression, Form, Level, Operand};
 use std::alloc::Global;
@@ -155,14 +155,15 @@ fn others(
     'list: while let Some((before, after)) = operator(rest, level) {
         let at = place(rest);
         let (value, after) = operand(alloc, after, room, level)?;
-        found.push(Operand {
+        let other = Operand {
             operator: before,
             at,
             operand: value,
-        })?;
+        };
+        found = added(found, other)?;
         rest = after;
     }
-    Ok((found, rest))
+    Ok((fitted(found), rest))
 }
 
 /// Operands with operators of a level between them.

@@ -1,8 +1,8 @@
 //! How marks are spelled.
-ghost use Rattle.std.specs.Prelude.{◌≡◌, [], ◌∷◌, find};
+ghost use Rattle.std.specs.Prelude.{◌≡◌, [], ◌∷◌, IsTrue, find};
 ghost use Rattle.std.specs.Str.{bytes_eq};
 ghost use Rattle.fab_base.specs.Tokens.{mark_text, keywords, keyword_of, sign_at};
-ghost use Rattle.fab_lexer.specs.Firsts.{begun_by};
+ghost use Rattle.fab_lexer.specs.Firsts.{begun_by, is_word_from};
 
 use fab_base::Mark;
 
@@ -109,6 +109,15 @@ pub(crate) fn text_of(mark: Mark) -> &'static str
         Mark::Colon => ":",
         Mark::Dot => ".",
         Mark::At => "@",
+        _ => keyword_text(mark),
+    }
+}
+
+/// How a keyword is spelled.
+fn keyword_text(mark: Mark) -> &'static str
+    ensures { IsTrue (is_word_from 97 mark) → result.now ≡ mark_text mark }
+{
+    match mark {
         Mark::Access => "access",
         Mark::ActsFor => "actsfor",
         Mark::After => "after",
@@ -129,6 +138,15 @@ pub(crate) fn text_of(mark: Mark) -> &'static str
         Mark::Idle => "idle",
         Mark::If => "if",
         Mark::Int => "int",
+        _ => later_keyword_text(mark),
+    }
+}
+
+/// How a keyword from `keep` on is spelled.
+fn later_keyword_text(mark: Mark) -> &'static str
+    ensures { IsTrue (is_word_from 107 mark) → result.now ≡ mark_text mark }
+{
+    match mark {
         Mark::Keep => "keep",
         Mark::Label => "label",
         Mark::Method => "method",
@@ -148,6 +166,7 @@ pub(crate) fn text_of(mark: Mark) -> &'static str
         Mark::To => "to",
         Mark::While => "while",
         Mark::Worker => "worker",
+        _ => "",
     }
 }
 

@@ -21,7 +21,7 @@ pub(crate) fn numbered_expressions(
 ) -> Result<Seq<NumberedExpression>, Refusal>
     ensures { Gives result sites.new (expressions_of scope.now.tables.now scope.now.locals expressions.now sites.old) }
 {
-    let mut made = Seq::new(alloc);
+    let mut made = Seq::from_vec(Vec::with_capacity(alloc, expressions.len())?);
     for expression in expressions {
         let one = numbered_expression(alloc, scope, sites, expression)?;
         made.push(one)?;
@@ -111,7 +111,7 @@ fn numbered_operands(
 ) -> Result<Seq<NumberedOperand>, Refusal>
     ensures { Gives result sites.new (in_turn (map (operand_of scope.now.tables.now scope.now.locals) others.now) sites.old) }
 {
-    let mut made = Seq::new(alloc);
+    let mut made = Seq::from_vec(Vec::with_capacity(alloc, others.len())?);
     for other in others {
         let operand = numbered_expression(alloc, scope, sites, &other.operand)?;
         made.push(NumberedOperand {

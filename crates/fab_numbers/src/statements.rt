@@ -23,7 +23,7 @@ pub(crate) fn numbered_block(
 ) -> Result<Seq<NumberedStatement>, Refusal>
     ensures { Gives result sites.new (block_of scope.now.tables.now scope.now.locals block.now sites.old) }
 {
-    let mut made = Seq::new(alloc);
+    let mut made = Seq::from_vec(Vec::with_capacity(alloc, block.len())?);
     for statement in block {
         let one = numbered_statement(alloc, scope, sites, statement)?;
         made.push(one)?;

@@ -15,7 +15,7 @@ use Rattle.fab_tree.specs.Declarations.{IsAspect, readers, writers, IsPolicy, po
 use Rattle.fab_reading.specs.Reading.{Lacks, BeginsWith, Starts, Read, Refused, Stops, CannotRead, any, behind_items, behind_names, begins_name, is_semicolon}
 use Rattle.fab_reading.specs.declared.refusal.Refusal.{Refusal}
 use Rattle.fab_reading.specs.declared.refusal.Refusal.TheVariants as refusal
-use Rattle.fab_reading.proofs.Rules.{Then, End, Sign, HasText, Going, start, turn, here, never, token_of}
+use Rattle.fab_reading.proofs.Rules.{Then, End, Sign, HasText, Going, start, turn, here, never, token_of, followed}
 use Rattle.fab_reading.proofs.TokenRules.{mark_read}
 
 -- ---- aspect = "->" | "<-"
@@ -79,7 +79,7 @@ abbrev pub PolicyRule : List Token → PolicyParts → List Token → Type 0
 PolicyRule = Then IsName (Then IsAspect (Then (Separated m.Comma IsName) End))
 
 policy_back : {a : List Token} {v : PolicyText} {b : List Token} → IsPolicy a v b → (x : PolicyParts) × (v ≡ policy_of x) × PolicyRule a x b
-policy_back (policy {x = x} {y = y} {zs = zs} p q r) = ((x, (y, (zs, tt))), refl, record { mid = _; first = p; second = record { mid = _; first = q; second = record { mid = _; first = r; second = refl } } })
+policy_back (policy {x = x} {y = y} {zs = zs} p q r) = ((x, (y, (zs, tt))), refl, followed _ p (followed _ q (followed _ r refl)))
 
 pub policy_start : {room : ℕ} (a : List Token) → Going IsPolicy behind_names room a PolicyRule policy_of room a
 policy_start {room = room} a = turn policy_of (start IsPolicy behind_names room a) (λ more v after p. subst (λ x. IsPolicy more (policy_of v) x) p.second.second.second (policy p.first p.second.first p.second.second.first)) (λ more v after same p h. policy_back p)
@@ -96,7 +96,7 @@ abbrev pub LabelRule : List Token → LabelParts → List Token → Type 0
 LabelRule = Then (Sign m.Label) (Then IsName (Then (Sign m.Equal) (Then (Sign m.LeftBrace) (Then (Separated m.Semicolon IsPolicy) (Then (Sign m.RightBrace) (Then (Sign m.Semicolon) End))))))
 
 label_back : {a : List Token} {v : LabelText} {b : List Token} → IsLabel a v b → (x : LabelParts) × (v ≡ label_of x) × LabelRule a x b
-label_back (label {x = x} {ys = ys} p q r s t u w) = ((tt, (x, (tt, (tt, (ys, (tt, (tt, tt))))))), refl, record { mid = _; first = p; second = record { mid = _; first = q; second = record { mid = _; first = r; second = record { mid = _; first = s; second = record { mid = _; first = t; second = record { mid = _; first = u; second = record { mid = _; first = w; second = refl } } } } } } })
+label_back (label {x = x} {ys = ys} p q r s t u w) = ((tt, (x, (tt, (tt, (ys, (tt, (tt, tt))))))), refl, followed _ p (followed _ q (followed _ r (followed _ s (followed _ t (followed _ u (followed _ w refl)))))))
 
 pub label_start : {room : ℕ} (a : List Token) → Going IsLabel any room a LabelRule label_of room a
 label_start {room = room} a = turn label_of (start IsLabel any room a) (λ more v after p. let q = p.second in let r = q.second in let s = r.second in let t = s.second in let u = t.second in let w = u.second in subst (λ x. IsLabel more (label_of v) x) w.second (label p.first q.first r.first s.first t.first u.first w.first)) (λ more v after same p h. label_back p)

@@ -195,4 +195,7 @@ module _ (c : List Token) where
   longer_result (pr.result p0) = pr.result (longer_return p0)
 
   pub longer_method : {a : List Token} {t : Method} {b : List Token} → IsMethod a t b → IsMethod (a ++ c) t (b ++ c)
-  longer_method (pr.method p0 p1 p2 p3 p4 p5 p6 p7 p8 p9 p10 p11 p12 p13) = pr.method (longer_is p0) (longer_name p1) (longer_is p2) (longer_separated (λ x t y. longer_parameter) p3) (longer_is p4) (longer_perhaps (λ x t y. longer_returns) p5) (longer_is p6) (longer_name p7) (longer_fails p8) (longer_authority p9) (longer_is p10) (longer_repeated (λ x t y. longer_statement) p11) (longer_result p12) (longer_is p13)
+  longer_method (pr.method p0 p1 p2 p3 p4 p5 p6 p7 p8 p9 p10 p11 p12 p13) =
+      pr.method (longer_is p0) (longer_name p1) (longer_is p2) (longer_separated (λ x t y. longer_parameter) p3) (longer_is p4)
+      (longer_perhaps (λ x t y. longer_returns) p5) (longer_is p6) (longer_name p7) (longer_fails p8) (longer_authority p9) (longer_is p10)
+      (longer_repeated (λ x t y. longer_statement) p11) (longer_result p12) (longer_is p13)

@@ -19,7 +19,7 @@ use Rattle.fab_reading.specs.Reading.{Follows, Lacks, Read, any, first_place, is
 use Rattle.fab_reading.proofs.ChoiceRules.{perhaps_none, perhaps_some, perhaps_text}
 use Rattle.fab_reading.proofs.ItemRules.{items_meet, separated_text}
 use Rattle.fab_reading.proofs.ListRules.{repeated_text}
-use Rattle.fab_reading.proofs.Rules.{End, Going, HasText, Sign, Then, any_follows, behind_mark, closed, end_text, lacks_sign, lacks_too, never, opened, part, same_sign, sign, sign_follows, sign_text, start, then_text, turn, whole}
+use Rattle.fab_reading.proofs.Rules.{End, Going, HasText, Sign, Then, any_follows, behind_mark, closed, end_text, followed, lacks_sign, lacks_too, never, opened, part, same_sign, sign, sign_follows, sign_text, start, then_text, turn, whole}
 use Rattle.fab_reading.proofs.TokenRules.{name_text}
 use Rattle.fab_parser.specs.Pieces.{IsValue, after_authority, after_body, after_head, after_parameters, begins_authority, behind_parameters, behind_statements}
 
@@ -53,7 +53,7 @@ abbrev pub ParameterChain0 : List Token → ParameterParts0 → List Token → T
 ParameterChain0 = Then IsSort ParameterChain1
 
 parameter_back : {a : List Token} {v : Parameter} {b : List Token} → IsParameter a v b → (parts : ParameterParts0) × (v ≡ parameter_of parts) × ParameterChain0 a parts b
-parameter_back (parameter {x = p_x} {y = p_y} {z = p_z} q0 q1 q2 q3) = ((p_x, (p_y, (tt, (p_z, tt)))), refl, record { mid = _; first = q0; second = record { mid = _; first = q1; second = record { mid = _; first = q2; second = record { mid = _; first = q3; second = refl } } } })
+parameter_back (parameter {x = p_x} {y = p_y} {z = p_z} q0 q1 q2 q3) = ((p_x, (p_y, (tt, (p_z, tt)))), refl, followed _ q0 (followed _ q1 (followed _ q2 (followed _ q3 refl))))
 
 pub parameter_start : {room : ℕ} (a : List Token) → Going IsParameter any room a ParameterChain0 parameter_of room a
 parameter_start {room = room} a = turn parameter_of (start IsParameter any room a) (λ more v after p. let p1 = p.second in let p2 = p1.second in let p3 = p2.second in subst (λ back. IsParameter more (parameter_of v) back) p3.second (parameter p.first p1.first p2.first p3.first)) (λ more v after same p h. parameter_back p)
@@ -103,7 +103,7 @@ abbrev pub TypedChain0 : List Token → TypedParts0 → List Token → Type 0
 TypedChain0 = Then IsSort TypedChain1
 
 typed_back : {a : List Token} {v : Returns} {b : List Token} → IsReturns a v b → (parts : TypedParts0) × (v ≡ typed_of parts) × TypedChain0 a parts b
-typed_back (returns {x = p_x} {y = p_y} q0 q1 q2) = ((p_x, (tt, (p_y, tt))), refl, record { mid = _; first = q0; second = record { mid = _; first = q1; second = record { mid = _; first = q2; second = refl } } })
+typed_back (returns {x = p_x} {y = p_y} q0 q1 q2) = ((p_x, (tt, (p_y, tt))), refl, followed _ q0 (followed _ q1 (followed _ q2 refl)))
 
 pub typed_start : {room : ℕ} (a : List Token) → Going IsReturns any room a TypedChain0 typed_of room a
 typed_start {room = room} a = turn typed_of (start IsReturns any room a) (λ more v after p. let p1 = p.second in let p2 = p1.second in subst (λ back. IsReturns more (typed_of v) back) p2.second (returns p.first p1.first p2.first)) (λ more v after same p h. typed_back p)
@@ -310,10 +310,28 @@ abbrev pub MethodChain0 : List Token → MethodParts0 → List Token → Type 0
 MethodChain0 = Then (Sign m.Method) MethodChain1
 
 method_back : {a : List Token} {v : Method} {b : List Token} → IsMethod a v b → (parts : MethodParts0) × (v ≡ method_of parts) × MethodChain0 a parts b
-method_back (method {x = p_x} {ys = p_ys} {z = p_z} {u = p_u} {v = p_v} {ws = p_ws} {ts = p_ts} {q = p_q} q0 q1 q2 q3 q4 q5 q6 q7 q8 q9 q10 q11 q12 q13) = ((tt, (p_x, (tt, (p_ys, (tt, (p_z, (tt, (p_u, (p_v, (p_ws, (tt, (p_ts, (p_q, (tt, tt)))))))))))))), refl, record { mid = _; first = q0; second = record { mid = _; first = q1; second = record { mid = _; first = q2; second = record { mid = _; first = q3; second = record { mid = _; first = q4; second = record { mid = _; first = q5; second = record { mid = _; first = q6; second = record { mid = _; first = q7; second = record { mid = _; first = q8; second = record { mid = _; first = q9; second = record { mid = _; first = q10; second = record { mid = _; first = q11; second = record { mid = _; first = q12; second = record { mid = _; first = q13; second = refl } } } } } } } } } } } } } })
+method_back
+    (method {x = p_x} {ys = p_ys} {z = p_z} {u = p_u} {v = p_v} {ws = p_ws} {ts = p_ts} {q = p_q} q0 q1 q2 q3 q4 q5 q6 q7 q8 q9 q10 q11 q12 q13) = (
+      (tt, (p_x, (tt, (p_ys, (tt, (p_z, (tt, (p_u, (p_v, (p_ws, (tt, (p_ts, (p_q, (tt, tt)))))))))))))),
+      refl,
+      followed _ q0
+          (followed _ q1
+          (followed _ q2
+          (followed _ q3
+          (followed _ q4
+          (followed _ q5
+          (followed _ q6 (followed _ q7 (followed _ q8 (followed _ q9 (followed _ q10 (followed _ q11 (followed _ q12 (followed _ q13 refl))))))))))))),
+    )
 
 pub method_start : {room : ℕ} (a : List Token) → Going IsMethod any room a MethodChain0 method_of room a
-method_start {room = room} a = turn method_of (start IsMethod any room a) (λ more v after p. let p1 = p.second in let p2 = p1.second in let p3 = p2.second in let p4 = p3.second in let p5 = p4.second in let p6 = p5.second in let p7 = p6.second in let p8 = p7.second in let p9 = p8.second in let p10 = p9.second in let p11 = p10.second in let p12 = p11.second in let p13 = p12.second in subst (λ back. IsMethod more (method_of v) back) p13.second (method p.first p1.first p2.first p3.first p4.first p5.first p6.first p7.first p8.first p9.first p10.first p11.first p12.first p13.first)) (λ more v after same p h. method_back p)
+method_start {room = room} a =
+    turn method_of (start IsMethod any room a)
+    (λ more v after p. let p1 = p.second in let p2 = p1.second in let p3 = p2.second in let p4 = p3.second in let p5 = p4.second in
+    let p6 = p5.second in let p7 = p6.second in let p8 = p7.second in let p9 = p8.second in let p10 = p9.second in let p11 = p10.second in
+    let p12 = p11.second in let p13 = p12.second in
+    subst (λ back. IsMethod more (method_of v) back) p13.second
+    (method p.first p1.first p2.first p3.first p4.first p5.first p6.first p7.first p8.first p9.first p10.first p11.first p12.first p13.first))
+    (λ more v after same p h. method_back p)
 
 pub method_text_13 : HasText MethodChain13
 method_text_13 = sign_text m.RightBrace end_text
@@ -369,29 +387,79 @@ method_4 p0 p1 p2 g2 p3 = part (method_3 p0 p1 p2 g2) p3 (λ more v after q h. s
 pub method_5 : {room n2 : ℕ} {b0 b1 b2 b3 b4 b5 : List Token} {x1 : Name} {x3 : (List Parameter)} → Is m.Method b0 b1 → Read IsName any room b1 x1 b2 → Is m.LeftParen b2 b3 → room ≡ n2 + 1 → Read (Separated m.Comma IsParameter) behind_parameters n2 b3 x3 b4 → Is m.RightParen b4 b5 → Going IsMethod any room b0 MethodChain5 (λ v. method_of (tt, (x1, (tt, (x3, (tt, v)))))) room b5
 method_5 {n2 = n2} p0 p1 p2 g2 p3 p4 = sign (method_4 p0 p1 p2 g2 p3) p4 (closed m.RightParen n2 (λ r. refl) g2)
 
-pub method_6 : {room n2 : ℕ} {b0 b1 b2 b3 b4 b5 b6 : List Token} {x1 : Name} {x3 : (List Parameter)} {x5 : (Option Returns)} → Is m.Method b0 b1 → Read IsName any room b1 x1 b2 → Is m.LeftParen b2 b3 → room ≡ n2 + 1 → Read (Separated m.Comma IsParameter) behind_parameters n2 b3 x3 b4 → Is m.RightParen b4 b5 → Read (Perhaps m.Returns IsReturns) after_parameters room b5 x5 b6 → Going IsMethod any room b0 MethodChain6 (λ v. method_of (tt, (x1, (tt, (x3, (tt, (x5, v))))))) room b6
+pub method_6 : {room n2 : ℕ} {b0 b1 b2 b3 b4 b5 b6 : List Token} {x1 : Name} {x3 : (List Parameter)} {x5 : (Option Returns)} → Is m.Method b0 b1
+    → Read IsName any room b1 x1 b2 → Is m.LeftParen b2 b3 → room ≡ n2 + 1 → Read (Separated m.Comma IsParameter) behind_parameters n2 b3 x3 b4
+    → Is m.RightParen b4 b5 → Read (Perhaps m.Returns IsReturns) after_parameters room b5 x5 b6
+    → Going IsMethod any room b0 MethodChain6 (λ v. method_of (tt, (x1, (tt, (x3, (tt, (x5, v))))))) room b6
 method_6 p0 p1 p2 g2 p3 p4 p5 = part (method_5 p0 p1 p2 g2 p3 p4) p5 (λ more v after q h. sign_follows m.Begin after_parameters refl q.first)
 
-pub method_7 : {room n2 : ℕ} {b0 b1 b2 b3 b4 b5 b6 b7 : List Token} {x1 : Name} {x3 : (List Parameter)} {x5 : (Option Returns)} → Is m.Method b0 b1 → Read IsName any room b1 x1 b2 → Is m.LeftParen b2 b3 → room ≡ n2 + 1 → Read (Separated m.Comma IsParameter) behind_parameters n2 b3 x3 b4 → Is m.RightParen b4 b5 → Read (Perhaps m.Returns IsReturns) after_parameters room b5 x5 b6 → Is m.Begin b6 b7 → Going IsMethod any room b0 MethodChain7 (λ v. method_of (tt, (x1, (tt, (x3, (tt, (x5, (tt, v)))))))) room b7
+pub method_7 : {room n2 : ℕ} {b0 b1 b2 b3 b4 b5 b6 b7 : List Token} {x1 : Name} {x3 : (List Parameter)} {x5 : (Option Returns)} → Is m.Method b0 b1
+    → Read IsName any room b1 x1 b2 → Is m.LeftParen b2 b3 → room ≡ n2 + 1 → Read (Separated m.Comma IsParameter) behind_parameters n2 b3 x3 b4
+    → Is m.RightParen b4 b5 → Read (Perhaps m.Returns IsReturns) after_parameters room b5 x5 b6 → Is m.Begin b6 b7
+    → Going IsMethod any room b0 MethodChain7 (λ v. method_of (tt, (x1, (tt, (x3, (tt, (x5, (tt, v)))))))) room b7
 method_7 p0 p1 p2 g2 p3 p4 p5 p6 = sign (method_6 p0 p1 p2 g2 p3 p4 p5) p6 refl
 
-pub method_8 : {room n2 : ℕ} {b0 b1 b2 b3 b4 b5 b6 b7 b8 : List Token} {x1 : Name} {x3 : (List Parameter)} {x5 : (Option Returns)} {x7 : Name} → Is m.Method b0 b1 → Read IsName any room b1 x1 b2 → Is m.LeftParen b2 b3 → room ≡ n2 + 1 → Read (Separated m.Comma IsParameter) behind_parameters n2 b3 x3 b4 → Is m.RightParen b4 b5 → Read (Perhaps m.Returns IsReturns) after_parameters room b5 x5 b6 → Is m.Begin b6 b7 → Read IsName any room b7 x7 b8 → Going IsMethod any room b0 MethodChain8 (λ v. method_of (tt, (x1, (tt, (x3, (tt, (x5, (tt, (x7, v))))))))) room b8
+pub method_8 : {room n2 : ℕ} {b0 b1 b2 b3 b4 b5 b6 b7 b8 : List Token} {x1 : Name} {x3 : (List Parameter)} {x5 : (Option Returns)} {x7 : Name}
+    → Is m.Method b0 b1 → Read IsName any room b1 x1 b2 → Is m.LeftParen b2 b3 → room ≡ n2 + 1
+    → Read (Separated m.Comma IsParameter) behind_parameters n2 b3 x3 b4 → Is m.RightParen b4 b5
+    → Read (Perhaps m.Returns IsReturns) after_parameters room b5 x5 b6 → Is m.Begin b6 b7 → Read IsName any room b7 x7 b8
+    → Going IsMethod any room b0 MethodChain8 (λ v. method_of (tt, (x1, (tt, (x3, (tt, (x5, (tt, (x7, v))))))))) room b8
 method_8 p0 p1 p2 g2 p3 p4 p5 p6 p7 = part (method_7 p0 p1 p2 g2 p3 p4 p5 p6) p7 (λ more v after q h. any_follows more)
 
-pub method_9 : {room n2 : ℕ} {b0 b1 b2 b3 b4 b5 b6 b7 b8 b9 : List Token} {x1 : Name} {x3 : (List Parameter)} {x5 : (Option Returns)} {x7 : Name} {x8 : Bool} → Is m.Method b0 b1 → Read IsName any room b1 x1 b2 → Is m.LeftParen b2 b3 → room ≡ n2 + 1 → Read (Separated m.Comma IsParameter) behind_parameters n2 b3 x3 b4 → Is m.RightParen b4 b5 → Read (Perhaps m.Returns IsReturns) after_parameters room b5 x5 b6 → Is m.Begin b6 b7 → Read IsName any room b7 x7 b8 → Read IsFails after_head room b8 x8 b9 → Going IsMethod any room b0 MethodChain9 (λ v. method_of (tt, (x1, (tt, (x3, (tt, (x5, (tt, (x7, (x8, v)))))))))) room b9
+pub method_9 : {room n2 : ℕ} {b0 b1 b2 b3 b4 b5 b6 b7 b8 b9 : List Token} {x1 : Name} {x3 : (List Parameter)} {x5 : (Option Returns)} {x7 : Name}
+    {x8 : Bool}
+    → Is m.Method b0 b1 → Read IsName any room b1 x1 b2 → Is m.LeftParen b2 b3 → room ≡ n2 + 1
+    → Read (Separated m.Comma IsParameter) behind_parameters n2 b3 x3 b4 → Is m.RightParen b4 b5
+    → Read (Perhaps m.Returns IsReturns) after_parameters room b5 x5 b6 → Is m.Begin b6 b7 → Read IsName any room b7 x7 b8
+    → Read IsFails after_head room b8 x8 b9
+    → Going IsMethod any room b0 MethodChain9 (λ v. method_of (tt, (x1, (tt, (x3, (tt, (x5, (tt, (x7, (x8, v)))))))))) room b9
 method_9 p0 p1 p2 g2 p3 p4 p5 p6 p7 p8 = part (method_8 p0 p1 p2 g2 p3 p4 p5 p6 p7) p8 fails_meet
 
-pub method_10 : {room n2 : ℕ} {b0 b1 b2 b3 b4 b5 b6 b7 b8 b9 b10 : List Token} {x1 : Name} {x3 : (List Parameter)} {x5 : (Option Returns)} {x7 : Name} {x8 : Bool} {x9 : (List Name)} → Is m.Method b0 b1 → Read IsName any room b1 x1 b2 → Is m.LeftParen b2 b3 → room ≡ n2 + 1 → Read (Separated m.Comma IsParameter) behind_parameters n2 b3 x3 b4 → Is m.RightParen b4 b5 → Read (Perhaps m.Returns IsReturns) after_parameters room b5 x5 b6 → Is m.Begin b6 b7 → Read IsName any room b7 x7 b8 → Read IsFails after_head room b8 x8 b9 → Read IsAuthority after_authority room b9 x9 b10 → Going IsMethod any room b0 MethodChain10 (λ v. method_of (tt, (x1, (tt, (x3, (tt, (x5, (tt, (x7, (x8, (x9, v))))))))))) room b10
+pub method_10 : {room n2 : ℕ} {b0 b1 b2 b3 b4 b5 b6 b7 b8 b9 b10 : List Token} {x1 : Name} {x3 : (List Parameter)} {x5 : (Option Returns)} {x7 : Name}
+    {x8 : Bool} {x9 : (List Name)}
+    → Is m.Method b0 b1 → Read IsName any room b1 x1 b2 → Is m.LeftParen b2 b3 → room ≡ n2 + 1
+    → Read (Separated m.Comma IsParameter) behind_parameters n2 b3 x3 b4 → Is m.RightParen b4 b5
+    → Read (Perhaps m.Returns IsReturns) after_parameters room b5 x5 b6 → Is m.Begin b6 b7 → Read IsName any room b7 x7 b8
+    → Read IsFails after_head room b8 x8 b9 → Read IsAuthority after_authority room b9 x9 b10
+    → Going IsMethod any room b0 MethodChain10 (λ v. method_of (tt, (x1, (tt, (x3, (tt, (x5, (tt, (x7, (x8, (x9, v))))))))))) room b10
 method_10 p0 p1 p2 g2 p3 p4 p5 p6 p7 p8 p9 = part (method_9 p0 p1 p2 g2 p3 p4 p5 p6 p7 p8) p9 (λ more v after q h. sign_follows m.LeftBrace after_authority refl q.first)
 
-pub method_11 : {room n2 n10 : ℕ} {b0 b1 b2 b3 b4 b5 b6 b7 b8 b9 b10 b11 : List Token} {x1 : Name} {x3 : (List Parameter)} {x5 : (Option Returns)} {x7 : Name} {x8 : Bool} {x9 : (List Name)} → Is m.Method b0 b1 → Read IsName any room b1 x1 b2 → Is m.LeftParen b2 b3 → room ≡ n2 + 1 → Read (Separated m.Comma IsParameter) behind_parameters n2 b3 x3 b4 → Is m.RightParen b4 b5 → Read (Perhaps m.Returns IsReturns) after_parameters room b5 x5 b6 → Is m.Begin b6 b7 → Read IsName any room b7 x7 b8 → Read IsFails after_head room b8 x8 b9 → Read IsAuthority after_authority room b9 x9 b10 → Is m.LeftBrace b10 b11 → room ≡ n10 + 1 → Going IsMethod any room b0 MethodChain11 (λ v. method_of (tt, (x1, (tt, (x3, (tt, (x5, (tt, (x7, (x8, (x9, (tt, v)))))))))))) n10 b11
+pub method_11 : {room n2 n10 : ℕ} {b0 b1 b2 b3 b4 b5 b6 b7 b8 b9 b10 b11 : List Token} {x1 : Name} {x3 : (List Parameter)} {x5 : (Option Returns)}
+    {x7 : Name} {x8 : Bool} {x9 : (List Name)}
+    → Is m.Method b0 b1 → Read IsName any room b1 x1 b2 → Is m.LeftParen b2 b3 → room ≡ n2 + 1
+    → Read (Separated m.Comma IsParameter) behind_parameters n2 b3 x3 b4 → Is m.RightParen b4 b5
+    → Read (Perhaps m.Returns IsReturns) after_parameters room b5 x5 b6 → Is m.Begin b6 b7 → Read IsName any room b7 x7 b8
+    → Read IsFails after_head room b8 x8 b9 → Read IsAuthority after_authority room b9 x9 b10 → Is m.LeftBrace b10 b11 → room ≡ n10 + 1
+    → Going IsMethod any room b0 MethodChain11 (λ v. method_of (tt, (x1, (tt, (x3, (tt, (x5, (tt, (x7, (x8, (x9, (tt, v)))))))))))) n10 b11
 method_11 p0 p1 p2 g2 p3 p4 p5 p6 p7 p8 p9 p10 g10 = sign (method_10 p0 p1 p2 g2 p3 p4 p5 p6 p7 p8 p9) p10 (opened m.LeftBrace (λ r. refl) g10)
 
-pub method_12 : {room n2 n10 : ℕ} {b0 b1 b2 b3 b4 b5 b6 b7 b8 b9 b10 b11 b12 : List Token} {x1 : Name} {x3 : (List Parameter)} {x5 : (Option Returns)} {x7 : Name} {x8 : Bool} {x9 : (List Name)} {x11 : (List Statement)} → Is m.Method b0 b1 → Read IsName any room b1 x1 b2 → Is m.LeftParen b2 b3 → room ≡ n2 + 1 → Read (Separated m.Comma IsParameter) behind_parameters n2 b3 x3 b4 → Is m.RightParen b4 b5 → Read (Perhaps m.Returns IsReturns) after_parameters room b5 x5 b6 → Is m.Begin b6 b7 → Read IsName any room b7 x7 b8 → Read IsFails after_head room b8 x8 b9 → Read IsAuthority after_authority room b9 x9 b10 → Is m.LeftBrace b10 b11 → room ≡ n10 + 1 → Read (Repeated IsStatement) behind_statements n10 b11 x11 b12 → Going IsMethod any room b0 MethodChain12 (λ v. method_of (tt, (x1, (tt, (x3, (tt, (x5, (tt, (x7, (x8, (x9, (tt, (x11, v))))))))))))) n10 b12
+pub method_12 : {room n2 n10 : ℕ} {b0 b1 b2 b3 b4 b5 b6 b7 b8 b9 b10 b11 b12 : List Token} {x1 : Name} {x3 : (List Parameter)} {x5 : (Option Returns)}
+    {x7 : Name} {x8 : Bool} {x9 : (List Name)} {x11 : (List Statement)}
+    → Is m.Method b0 b1 → Read IsName any room b1 x1 b2 → Is m.LeftParen b2 b3 → room ≡ n2 + 1
+    → Read (Separated m.Comma IsParameter) behind_parameters n2 b3 x3 b4 → Is m.RightParen b4 b5
+    → Read (Perhaps m.Returns IsReturns) after_parameters room b5 x5 b6 → Is m.Begin b6 b7 → Read IsName any room b7 x7 b8
+    → Read IsFails after_head room b8 x8 b9 → Read IsAuthority after_authority room b9 x9 b10 → Is m.LeftBrace b10 b11 → room ≡ n10 + 1
+    → Read (Repeated IsStatement) behind_statements n10 b11 x11 b12
+    → Going IsMethod any room b0 MethodChain12 (λ v. method_of (tt, (x1, (tt, (x3, (tt, (x5, (tt, (x7, (x8, (x9, (tt, (x11, v))))))))))))) n10 b12
 method_12 p0 p1 p2 g2 p3 p4 p5 p6 p7 p8 p9 p10 g10 p11 = part (method_11 p0 p1 p2 g2 p3 p4 p5 p6 p7 p8 p9 p10 g10) p11 body_meets
 
-pub method_13 : {room n2 n10 : ℕ} {b0 b1 b2 b3 b4 b5 b6 b7 b8 b9 b10 b11 b12 b13 : List Token} {x1 : Name} {x3 : (List Parameter)} {x5 : (Option Returns)} {x7 : Name} {x8 : Bool} {x9 : (List Name)} {x11 : (List Statement)} {x12 : (Option Return)} → Is m.Method b0 b1 → Read IsName any room b1 x1 b2 → Is m.LeftParen b2 b3 → room ≡ n2 + 1 → Read (Separated m.Comma IsParameter) behind_parameters n2 b3 x3 b4 → Is m.RightParen b4 b5 → Read (Perhaps m.Returns IsReturns) after_parameters room b5 x5 b6 → Is m.Begin b6 b7 → Read IsName any room b7 x7 b8 → Read IsFails after_head room b8 x8 b9 → Read IsAuthority after_authority room b9 x9 b10 → Is m.LeftBrace b10 b11 → room ≡ n10 + 1 → Read (Repeated IsStatement) behind_statements n10 b11 x11 b12 → Read IsResult after_body n10 b12 x12 b13 → Going IsMethod any room b0 MethodChain13 (λ v. method_of (tt, (x1, (tt, (x3, (tt, (x5, (tt, (x7, (x8, (x9, (tt, (x11, (x12, v)))))))))))))) n10 b13
+pub method_13 : {room n2 n10 : ℕ} {b0 b1 b2 b3 b4 b5 b6 b7 b8 b9 b10 b11 b12 b13 : List Token} {x1 : Name} {x3 : (List Parameter)}
+    {x5 : (Option Returns)} {x7 : Name} {x8 : Bool} {x9 : (List Name)} {x11 : (List Statement)} {x12 : (Option Return)}
+    → Is m.Method b0 b1 → Read IsName any room b1 x1 b2 → Is m.LeftParen b2 b3 → room ≡ n2 + 1
+    → Read (Separated m.Comma IsParameter) behind_parameters n2 b3 x3 b4 → Is m.RightParen b4 b5
+    → Read (Perhaps m.Returns IsReturns) after_parameters room b5 x5 b6 → Is m.Begin b6 b7 → Read IsName any room b7 x7 b8
+    → Read IsFails after_head room b8 x8 b9 → Read IsAuthority after_authority room b9 x9 b10 → Is m.LeftBrace b10 b11 → room ≡ n10 + 1
+    → Read (Repeated IsStatement) behind_statements n10 b11 x11 b12 → Read IsResult after_body n10 b12 x12 b13
+    → Going IsMethod any room b0 MethodChain13 (λ v. method_of (tt, (x1, (tt, (x3, (tt, (x5, (tt, (x7, (x8, (x9, (tt, (x11, (x12, v)))))))))))))) n10
+    b13
 method_13 p0 p1 p2 g2 p3 p4 p5 p6 p7 p8 p9 p10 g10 p11 p12 = part (method_12 p0 p1 p2 g2 p3 p4 p5 p6 p7 p8 p9 p10 g10 p11) p12 (λ more v after q h. sign_follows m.RightBrace after_body refl q.first)
 
-pub method_14 : {room n2 n10 : ℕ} {b0 b1 b2 b3 b4 b5 b6 b7 b8 b9 b10 b11 b12 b13 b14 : List Token} {x1 : Name} {x3 : (List Parameter)} {x5 : (Option Returns)} {x7 : Name} {x8 : Bool} {x9 : (List Name)} {x11 : (List Statement)} {x12 : (Option Return)} → Is m.Method b0 b1 → Read IsName any room b1 x1 b2 → Is m.LeftParen b2 b3 → room ≡ n2 + 1 → Read (Separated m.Comma IsParameter) behind_parameters n2 b3 x3 b4 → Is m.RightParen b4 b5 → Read (Perhaps m.Returns IsReturns) after_parameters room b5 x5 b6 → Is m.Begin b6 b7 → Read IsName any room b7 x7 b8 → Read IsFails after_head room b8 x8 b9 → Read IsAuthority after_authority room b9 x9 b10 → Is m.LeftBrace b10 b11 → room ≡ n10 + 1 → Read (Repeated IsStatement) behind_statements n10 b11 x11 b12 → Read IsResult after_body n10 b12 x12 b13 → Is m.RightBrace b13 b14 → Going IsMethod any room b0 End (λ v. method_of (tt, (x1, (tt, (x3, (tt, (x5, (tt, (x7, (x8, (x9, (tt, (x11, (x12, (tt, v))))))))))))))) room b14
+pub method_14 : {room n2 n10 : ℕ} {b0 b1 b2 b3 b4 b5 b6 b7 b8 b9 b10 b11 b12 b13 b14 : List Token} {x1 : Name} {x3 : (List Parameter)}
+    {x5 : (Option Returns)} {x7 : Name} {x8 : Bool} {x9 : (List Name)} {x11 : (List Statement)} {x12 : (Option Return)}
+    → Is m.Method b0 b1 → Read IsName any room b1 x1 b2 → Is m.LeftParen b2 b3 → room ≡ n2 + 1
+    → Read (Separated m.Comma IsParameter) behind_parameters n2 b3 x3 b4 → Is m.RightParen b4 b5
+    → Read (Perhaps m.Returns IsReturns) after_parameters room b5 x5 b6 → Is m.Begin b6 b7 → Read IsName any room b7 x7 b8
+    → Read IsFails after_head room b8 x8 b9 → Read IsAuthority after_authority room b9 x9 b10 → Is m.LeftBrace b10 b11 → room ≡ n10 + 1
+    → Read (Repeated IsStatement) behind_statements n10 b11 x11 b12 → Read IsResult after_body n10 b12 x12 b13 → Is m.RightBrace b13 b14
+    → Going IsMethod any room b0 End (λ v. method_of (tt, (x1, (tt, (x3, (tt, (x5, (tt, (x7, (x8, (x9, (tt, (x11, (x12, (tt, v))))))))))))))) room b14
 method_14 {n10 = n10} p0 p1 p2 g2 p3 p4 p5 p6 p7 p8 p9 p10 g10 p11 p12 p13 = sign (method_13 p0 p1 p2 g2 p3 p4 p5 p6 p7 p8 p9 p10 g10 p11 p12) p13 (closed m.RightBrace n10 (λ r. refl) g10)

@@ -25,7 +25,11 @@ pub last_stops : {A B : Type 0} {R : List Token → A → List Token → Type 0}
 last_stops may' weak e r p = stop_part may' e (ending r) p (λ more v after q h. subst (λ x. Follows may' x) (sym q) (weak after h)) end_text
 
 -- the same of what another reader answered
-pub handed : {X A : Type 0} (r : Result X Refusal) (tree : X → A) (rest : X → List Token) {R S : List Token → A → List Token → Type 0} {may : Kind → Bool} (may' : Kind → Bool) {room : ℕ} {a c : List Token} → ((x : List Token) → Follows may x → Follows may' x) → Going R may room a S (λ v. v) room c → MatchResult r (λ x. Read S may' room c (tree x) (rest x)) (λ e. Stops S may' room c e) → MatchResult r (λ x. Read R may room a (tree x) (rest x)) (λ e. Stops R may room a e)
+pub handed : {X A : Type 0} (r : Result X Refusal) (tree : X → A) (rest : X → List Token) {R S : List Token → A → List Token → Type 0}
+    {may : Kind → Bool} (may' : Kind → Bool) {room : ℕ} {a c : List Token}
+    → ((x : List Token) → Follows may x → Follows may' x) → Going R may room a S (λ v. v) room c
+    → MatchResult r (λ x. Read S may' room c (tree x) (rest x)) (λ e. Stops S may' room c e)
+    → MatchResult r (λ x. Read R may room a (tree x) (rest x)) (λ e. Stops R may room a e)
 handed (Ok x) tree rest may' weak g p = last_read weak g p
 handed (Err e) tree rest may' weak g p = last_stops may' weak e g p
 
@@ -38,7 +42,11 @@ any_weak may x h = any_follows x
 pub read_here : {A : Type 0} {R : List Token → A → List Token → Type 0} {may : Kind → Bool} {room : ℕ} {a : List Token} {t : A} {b : List Token} → Read R may room a t b → R a t b
 read_here {R = R} {t = t} {b = b} r = subst (λ x. R x t b) (sym r.cut) (r.reads b)
 
-pub behind_part : {A B : Type 0} {R : List Token → A → List Token → Type 0} {P : List Token → B → List Token → Type 0} {may may' : Kind → Bool} {room : ℕ} {a : List Token} {x : B} {b : List Token} (S : List Token → A → List Token → Type 0) → Read P may' room a x b → ((y more : List Token) (v : A) (after : List Token) → P y x more → S more v after → R y v after) → ((y more : List Token) (u : A) (after : List Token) → P y x more → SameHead b more → R y u after → Follows may after → S more u after) → Going R may room a S (λ v. v) room b
+pub behind_part : {A B : Type 0} {R : List Token → A → List Token → Type 0} {P : List Token → B → List Token → Type 0} {may may' : Kind → Bool}
+    {room : ℕ} {a : List Token} {x : B} {b : List Token} (S : List Token → A → List Token → Type 0)
+    → Read P may' room a x b → ((y more : List Token) (v : A) (after : List Token) → P y x more → S more v after → R y v after)
+    → ((y more : List Token) (u : A) (after : List Token) → P y x more → SameHead b more → R y u after → Follows may after → S more u after)
+    → Going R may room a S (λ v. v) room b
 behind_part S r to from = record {
   front = r.front;
   cut = r.cut;
@@ -48,7 +56,12 @@ behind_part S r to from = record {
 }
 
 -- the same behind a word whose place is kept
-behind_token : {A : Type 0} {R : List Token → A → List Token → Type 0} {may : Kind → Bool} {room : ℕ} (S : ℕ → List Token → A → List Token → Type 0) {mark : Mark} {a c : List Token} → Is mark a c → room_by (k.Fixed mark) room ≡ Some room → ((t : Token) → t.kind ≡ k.Fixed mark → (more : List Token) (v : A) (after : List Token) → S t.at more v after → R (t ∷ more) v after) → ((t : Token) → t.kind ≡ k.Fixed mark → (more : List Token) (u : A) (after : List Token) → R (t ∷ more) u after → S t.at more u after) → Going R may room a (S (first_place a)) (λ v. v) room c
+behind_token : {A : Type 0} {R : List Token → A → List Token → Type 0} {may : Kind → Bool} {room : ℕ} (S : ℕ → List Token → A → List Token → Type 0)
+    {mark : Mark} {a c : List Token}
+    → Is mark a c → room_by (k.Fixed mark) room ≡ Some room
+    → ((t : Token) → t.kind ≡ k.Fixed mark → (more : List Token) (v : A) (after : List Token) → S t.at more v after → R (t ∷ more) v after)
+    → ((t : Token) → t.kind ≡ k.Fixed mark → (more : List Token) (u : A) (after : List Token) → R (t ∷ more) u after → S t.at more u after)
+    → Going R may room a (S (first_place a)) (λ v. v) room c
 behind_token {room = room} S (is {t = t} e) level to from = record {
   front = t ∷ [];
   cut = refl;
@@ -57,7 +70,12 @@ behind_token {room = room} S (is {t = t} e) level to from = record {
   only = λ more same u after d h. (u, refl, from t e more u after d);
 }
 
-pub behind_word : {A : Type 0} {R : List Token → A → List Token → Type 0} {may : Kind → Bool} {room : ℕ} (S : ℕ → List Token → A → List Token → Type 0) {mark : Mark} {a c : List Token} {at : ℕ} → at ≡ first_place a → Is mark a c → room_by (k.Fixed mark) room ≡ Some room → ((t : Token) → t.kind ≡ k.Fixed mark → (more : List Token) (v : A) (after : List Token) → S t.at more v after → R (t ∷ more) v after) → ((t : Token) → t.kind ≡ k.Fixed mark → (more : List Token) (u : A) (after : List Token) → R (t ∷ more) u after → S t.at more u after) → Going R may room a (S at) (λ v. v) room c
+pub behind_word : {A : Type 0} {R : List Token → A → List Token → Type 0} {may : Kind → Bool} {room : ℕ}
+    (S : ℕ → List Token → A → List Token → Type 0) {mark : Mark} {a c : List Token} {at : ℕ}
+    → at ≡ first_place a → Is mark a c → room_by (k.Fixed mark) room ≡ Some room
+    → ((t : Token) → t.kind ≡ k.Fixed mark → (more : List Token) (v : A) (after : List Token) → S t.at more v after → R (t ∷ more) v after)
+    → ((t : Token) → t.kind ≡ k.Fixed mark → (more : List Token) (u : A) (after : List Token) → R (t ∷ more) u after → S t.at more u after)
+    → Going R may room a (S at) (λ v. v) room c
 behind_word {R = R} {may = may} {room = room} S {a = a} {c = c} e i level to from = subst (λ x. Going R may room a (S x) (λ v. v) room c) (sym e) (behind_token S i level to from)
 
 -- ---- names
@@ -125,7 +143,11 @@ two_heads (t ∷ ts) (u ∷ us) same = same.0
 
 module _ {A B : Type 0} {R : List Token → A → List Token → Type 0} {P : List Token → B → List Token → Type 0} {may may' : Kind → Bool} {room : ℕ} {a : List Token} (g : B → A) where
   -- what one choice reads is what the rule reads, where the other choices go on otherwise
-  pub chosen : {t : B} {b : List Token} (first : Kind → Bool) → ((x : List Token) (v : B) (y : List Token) → P x v y → Starts first x) → ((x : List Token) → Follows may x → Follows may' x) → Read P may' room a t b → ((more : List Token) (v : B) (after : List Token) → P more v after → R more (g v) after) → ((more : List Token) (u : A) (after : List Token) → SameTwo a more → R more u after → (v : B) × (u ≡ g v) × P more v after) → Read R may room a (g t) b
+  pub chosen : {t : B} {b : List Token} (first : Kind → Bool) → ((x : List Token) (v : B) (y : List Token) → P x v y → Starts first x)
+      → ((x : List Token) → Follows may x → Follows may' x) → Read P may' room a t b
+      → ((more : List Token) (v : B) (after : List Token) → P more v after → R more (g v) after)
+      → ((more : List Token) (u : A) (after : List Token) → SameTwo a more → R more u after → (v : B) × (u ≡ g v) × P more v after)
+      → Read R may room a (g t) b
   chosen {t = t} {b = b} first begins weak r to from = record {
     front = r.front;
     cut = r.cut;
@@ -142,7 +164,12 @@ module _ {A B : Type 0} {R : List Token → A → List Token → Type 0} {P : Li
       both (x ∷ p) e d more same = subst (λ z. SameTwo z (x ∷ (p ++ more))) (sym e) (two_same x p b more same)
 
   -- what it refuses is refused, where it reads something from the first token that the rule reads something from
-  pub chosen_refused : {n : ℕ} → ((x : List Token) → Follows may x → Follows may' x) → Refused P may' room a n → ((more : List Token) (v : B) (after : List Token) → P more v after → R more (g v) after) → ((more : List Token) (u : A) (after : List Token) → SameTwo a more → R more u after → (v : B) × (u ≡ g v) × P more v after) → ((more : List Token) (u : A) (after : List Token) → SameHead a more → R more u after → Follows may after → (w : List Token) × SameHead a w × (v : B) × (z : List Token) × P w v z × Follows may' z) → Refused R may room a n
+  pub chosen_refused : {n : ℕ} → ((x : List Token) → Follows may x → Follows may' x) → Refused P may' room a n
+      → ((more : List Token) (v : B) (after : List Token) → P more v after → R more (g v) after)
+      → ((more : List Token) (u : A) (after : List Token) → SameTwo a more → R more u after → (v : B) × (u ≡ g v) × P more v after)
+      → ((more : List Token) (u : A) (after : List Token) → SameHead a more → R more u after → Follows may after
+      → (w : List Token) × SameHead a w × (v : B) × (z : List Token) × P w v z × Follows may' z)
+      → Refused R may room a n
   chosen_refused weak r to from seed = record {
     front = r.front;
     back = r.back;

@@ -15,7 +15,7 @@ use Rattle.fab_tree.specs.Lists.{Repeated, no_more, one_more}
 use Rattle.fab_tree.specs.Programs.{IsMethod, IsProgram, program}
 use Rattle.fab_reading.specs.Reading.{Follows, Read, Starts, any, begins_class, begins_label, begins_method, begins_name, begins_node, behind_list}
 use Rattle.fab_reading.proofs.ListRules.{repeated_text, starts_follows, weaker}
-use Rattle.fab_reading.proofs.Rules.{End, Going, HasText, Then, end_text, never, part, start, then_text, turn}
+use Rattle.fab_reading.proofs.Rules.{End, Going, HasText, Then, end_text, followed, never, part, start, then_text, turn}
 use Rattle.fab_parser.specs.Firsts.{class_begins, delegation_begins, label_begins, method_begins}
 use Rattle.fab_parser.specs.Pieces.{after_program}
 
@@ -72,7 +72,11 @@ module _ (may : Kind → Bool) (method_may : (k : Kind) → IsTrue (begins_metho
   labels_follow : ((k : Kind) → IsTrue (begins_class k) → IsTrue (may k)) → ((k : Kind) → IsTrue (begins_label k) → IsTrue (may k)) → (more : List Token) (v : List LabelText × (List Class × (List Method × Unit {0}))) (after : List Token) → Then (Repeated IsLabel) (Then (Repeated IsClass) (Then (Repeated IsMethod) End)) more v after → Follows may after → Follows may more
   labels_follow class_may label_may more v after q h = list_follows begins_label may label_begins label_may more v.0 q.mid q.first (classes_follow class_may q.mid v.1 after q.second h)
 
-  delegations_follow : ((k : Kind) → IsTrue (begins_class k) → IsTrue (may k)) → ((k : Kind) → IsTrue (begins_label k) → IsTrue (may k)) → ((k : Kind) → IsTrue (begins_name k) → IsTrue (may k)) → (more : List Token) (v : List Delegation × (List LabelText × (List Class × (List Method × Unit {0})))) (after : List Token) → Then (Repeated IsDelegation) (Then (Repeated IsLabel) (Then (Repeated IsClass) (Then (Repeated IsMethod) End))) more v after → Follows may after → Follows may more
+  delegations_follow : ((k : Kind) → IsTrue (begins_class k) → IsTrue (may k)) → ((k : Kind) → IsTrue (begins_label k) → IsTrue (may k))
+      → ((k : Kind) → IsTrue (begins_name k) → IsTrue (may k))
+      → (more : List Token) (v : List Delegation × (List LabelText × (List Class × (List Method × Unit {0})))) (after : List Token)
+      → Then (Repeated IsDelegation) (Then (Repeated IsLabel) (Then (Repeated IsClass) (Then (Repeated IsMethod) End))) more v after
+      → Follows may after → Follows may more
   delegations_follow class_may label_may name_may more v after q h = list_follows begins_name may delegation_begins name_may more v.0 q.mid q.first (labels_follow class_may label_may q.mid v.1 after q.second h)
 
 pub behind_methods : (more : List Token) (v : Unit {0}) (after : List Token) → End more v after → Follows after_program after → Follows (behind_list begins_method any) more
@@ -166,7 +170,7 @@ abbrev pub ProgramChain0 : List Token → ProgramParts0 → List Token → Type 
 ProgramChain0 = Then (Repeated IsNode) ProgramChain1
 
 program_back : {a : List Token} {v : Program} {b : List Token} → IsProgram a v b → (parts : ProgramParts0) × (v ≡ program_of parts) × ProgramChain0 a parts b
-program_back (program {ts = p_ts} {us = p_us} {vs = p_vs} {ws = p_ws} {xs = p_xs} q0 q1 q2 q3 q4) = ((p_ts, (p_us, (p_vs, (p_ws, (p_xs, tt))))), refl, record { mid = _; first = q0; second = record { mid = _; first = q1; second = record { mid = _; first = q2; second = record { mid = _; first = q3; second = record { mid = _; first = q4; second = refl } } } } })
+program_back (program {ts = p_ts} {us = p_us} {vs = p_vs} {ws = p_ws} {xs = p_xs} q0 q1 q2 q3 q4) = ((p_ts, (p_us, (p_vs, (p_ws, (p_xs, tt))))), refl, followed _ q0 (followed _ q1 (followed _ q2 (followed _ q3 (followed _ q4 refl)))))
 
 pub program_start : {room : ℕ} (a : List Token) → Going IsProgram after_program room a ProgramChain0 program_of room a
 program_start {room = room} a = turn program_of (start IsProgram after_program room a) (λ more v after p. let p1 = p.second in let p2 = p1.second in let p3 = p2.second in let p4 = p3.second in subst (λ back. IsProgram more (program_of v) back) p4.second (program p.first p1.first p2.first p3.first p4.first)) (λ more v after same p h. program_back p)
@@ -189,11 +193,22 @@ program_1 {b0 = b0} p0 = part (program_start b0) p0 behind_nodes
 pub program_2 : {room : ℕ} {b0 b1 b2 : List Token} {x0 : (List Node)} {x1 : (List Delegation)} → Read (Repeated IsNode) (behind_list begins_node any) room b0 x0 b1 → Read (Repeated IsDelegation) (behind_list begins_name any) room b1 x1 b2 → Going IsProgram after_program room b0 ProgramChain2 (λ v. program_of (x0, (x1, v))) room b2
 program_2 p0 p1 = part (program_1 p0) p1 behind_delegations
 
-pub program_3 : {room : ℕ} {b0 b1 b2 b3 : List Token} {x0 : (List Node)} {x1 : (List Delegation)} {x2 : (List LabelText)} → Read (Repeated IsNode) (behind_list begins_node any) room b0 x0 b1 → Read (Repeated IsDelegation) (behind_list begins_name any) room b1 x1 b2 → Read (Repeated IsLabel) (behind_list begins_label any) room b2 x2 b3 → Going IsProgram after_program room b0 ProgramChain3 (λ v. program_of (x0, (x1, (x2, v)))) room b3
+pub program_3 : {room : ℕ} {b0 b1 b2 b3 : List Token} {x0 : (List Node)} {x1 : (List Delegation)} {x2 : (List LabelText)}
+    → Read (Repeated IsNode) (behind_list begins_node any) room b0 x0 b1 → Read (Repeated IsDelegation) (behind_list begins_name any) room b1 x1 b2
+    → Read (Repeated IsLabel) (behind_list begins_label any) room b2 x2 b3
+    → Going IsProgram after_program room b0 ProgramChain3 (λ v. program_of (x0, (x1, (x2, v)))) room b3
 program_3 p0 p1 p2 = part (program_2 p0 p1) p2 behind_labels
 
-pub program_4 : {room : ℕ} {b0 b1 b2 b3 b4 : List Token} {x0 : (List Node)} {x1 : (List Delegation)} {x2 : (List LabelText)} {x3 : (List Class)} → Read (Repeated IsNode) (behind_list begins_node any) room b0 x0 b1 → Read (Repeated IsDelegation) (behind_list begins_name any) room b1 x1 b2 → Read (Repeated IsLabel) (behind_list begins_label any) room b2 x2 b3 → Read (Repeated IsClass) (behind_list begins_class any) room b3 x3 b4 → Going IsProgram after_program room b0 ProgramChain4 (λ v. program_of (x0, (x1, (x2, (x3, v))))) room b4
+pub program_4 : {room : ℕ} {b0 b1 b2 b3 b4 : List Token} {x0 : (List Node)} {x1 : (List Delegation)} {x2 : (List LabelText)} {x3 : (List Class)}
+    → Read (Repeated IsNode) (behind_list begins_node any) room b0 x0 b1 → Read (Repeated IsDelegation) (behind_list begins_name any) room b1 x1 b2
+    → Read (Repeated IsLabel) (behind_list begins_label any) room b2 x2 b3 → Read (Repeated IsClass) (behind_list begins_class any) room b3 x3 b4
+    → Going IsProgram after_program room b0 ProgramChain4 (λ v. program_of (x0, (x1, (x2, (x3, v))))) room b4
 program_4 p0 p1 p2 p3 = part (program_3 p0 p1 p2) p3 behind_classes
 
-pub program_5 : {room : ℕ} {b0 b1 b2 b3 b4 b5 : List Token} {x0 : (List Node)} {x1 : (List Delegation)} {x2 : (List LabelText)} {x3 : (List Class)} {x4 : (List Method)} → Read (Repeated IsNode) (behind_list begins_node any) room b0 x0 b1 → Read (Repeated IsDelegation) (behind_list begins_name any) room b1 x1 b2 → Read (Repeated IsLabel) (behind_list begins_label any) room b2 x2 b3 → Read (Repeated IsClass) (behind_list begins_class any) room b3 x3 b4 → Read (Repeated IsMethod) (behind_list begins_method any) room b4 x4 b5 → Going IsProgram after_program room b0 End (λ v. program_of (x0, (x1, (x2, (x3, (x4, v)))))) room b5
+pub program_5 : {room : ℕ} {b0 b1 b2 b3 b4 b5 : List Token} {x0 : (List Node)} {x1 : (List Delegation)} {x2 : (List LabelText)} {x3 : (List Class)}
+    {x4 : (List Method)}
+    → Read (Repeated IsNode) (behind_list begins_node any) room b0 x0 b1 → Read (Repeated IsDelegation) (behind_list begins_name any) room b1 x1 b2
+    → Read (Repeated IsLabel) (behind_list begins_label any) room b2 x2 b3 → Read (Repeated IsClass) (behind_list begins_class any) room b3 x3 b4
+    → Read (Repeated IsMethod) (behind_list begins_method any) room b4 x4 b5
+    → Going IsProgram after_program room b0 End (λ v. program_of (x0, (x1, (x2, (x3, (x4, v)))))) room b5
 program_5 p0 p1 p2 p3 p4 = part (program_4 p0 p1 p2 p3) p4 behind_methods

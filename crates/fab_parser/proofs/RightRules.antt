@@ -26,7 +26,7 @@ use Rattle.fab_reading.specs.Reading.{BeginsWith, Follows, Lacks, Read, SameHead
 use Rattle.fab_reading.specs.declared.refusal.Refusal.{Refusal}
 use Rattle.fab_reading.specs.declared.refusal.Refusal.TheVariants as refusal
 use Rattle.fab_reading.proofs.ListRules.{weaker}
-use Rattle.fab_reading.proofs.Rules.{End, Going, HasText, SameTwo, Sign, Then, any_follows, begins_at, begins_too, closed, end_text, lacks_too, never, opened, part, sign, sign_follows, sign_text, start, starts_too, then_text, token_of, turn}
+use Rattle.fab_reading.proofs.Rules.{End, Going, HasText, SameTwo, Sign, Then, any_follows, begins_at, begins_too, closed, end_text, followed, lacks_too, never, opened, part, sign, sign_follows, sign_text, start, starts_too, then_text, token_of, turn}
 use Rattle.fab_reading.proofs.TokenRules.{name_only, name_text}
 use Rattle.fab_expressions.specs.Pieces.{after_expression, begins_expression, begins_primary}
 use Rattle.fab_parser.specs.Pieces.{BeginsCall, Bracketed, IsCalled, IsCreated, IsLowered, after_right, begins_arguments, begins_downgrade, bracketed, called, created, lowered}
@@ -175,7 +175,7 @@ abbrev pub CreatedChain0 : List Token → CreatedParts0 → List Token → Type 
 CreatedChain0 = Then IsName CreatedChain1
 
 created_back : {at : ℕ} {a : List Token} {v : Right} {b : List Token} → IsCreated at a v b → (parts : CreatedParts0) × (v ≡ (created_of at) parts) × CreatedChain0 a parts b
-created_back (created {x = p_x} {y = p_y} {ts = p_ts} q0 q1 q2 q3) = ((p_x, (tt, (p_y, (p_ts, tt)))), refl, record { mid = _; first = q0; second = record { mid = _; first = q1; second = record { mid = _; first = q2; second = record { mid = _; first = q3; second = refl } } } })
+created_back (created {x = p_x} {y = p_y} {ts = p_ts} q0 q1 q2 q3) = ((p_x, (tt, (p_y, (p_ts, tt)))), refl, followed _ q0 (followed _ q1 (followed _ q2 (followed _ q3 refl))))
 
 pub created_start : {at : ℕ} {room : ℕ} (a : List Token) → Going (IsCreated at) any room a CreatedChain0 (created_of at) room a
 created_start {at = at} {room = room} a = turn (created_of at) (start (IsCreated at) any room a) (λ more v after p. let p1 = p.second in let p2 = p1.second in let p3 = p2.second in subst (λ back. IsCreated at more ((created_of at) v) back) p3.second (created p.first p1.first p2.first p3.first)) (λ more v after same p h. created_back p)
@@ -249,10 +249,16 @@ abbrev pub LoweredChain0 : List Token → LoweredParts0 → List Token → Type 
 LoweredChain0 = Then (Sign m.LeftParen) LoweredChain1
 
 lowered_back : {w : Downgrade} {at : ℕ} {a : List Token} {v : Right} {b : List Token} → IsLowered w at a v b → (parts : LoweredParts0) × (v ≡ (lowered_of w at) parts) × LoweredChain0 a parts b
-lowered_back (lowered {t = p_t} {x = p_x} {y = p_y} q0 q1 q2 q3 q4 q5 q6) = ((tt, (p_t, (tt, (p_x, (tt, (p_y, (tt, tt))))))), refl, record { mid = _; first = q0; second = record { mid = _; first = q1; second = record { mid = _; first = q2; second = record { mid = _; first = q3; second = record { mid = _; first = q4; second = record { mid = _; first = q5; second = record { mid = _; first = q6; second = refl } } } } } } })
+lowered_back (lowered {t = p_t} {x = p_x} {y = p_y} q0 q1 q2 q3 q4 q5 q6) = ((tt, (p_t, (tt, (p_x, (tt, (p_y, (tt, tt))))))), refl, followed _ q0 (followed _ q1 (followed _ q2 (followed _ q3 (followed _ q4 (followed _ q5 (followed _ q6 refl)))))))
 
 pub lowered_start : {w : Downgrade} {at : ℕ} {room : ℕ} (a : List Token) → Going (IsLowered w at) any room a LoweredChain0 (lowered_of w at) room a
-lowered_start {w = w} {at = at} {room = room} a = turn (lowered_of w at) (start (IsLowered w at) any room a) (λ more v after p. let p1 = p.second in let p2 = p1.second in let p3 = p2.second in let p4 = p3.second in let p5 = p4.second in let p6 = p5.second in subst (λ back. IsLowered w at more ((lowered_of w at) v) back) p6.second (lowered p.first p1.first p2.first p3.first p4.first p5.first p6.first)) (λ more v after same p h. lowered_back p)
+lowered_start {w = w} {at = at} {room = room} a =
+    turn (lowered_of w at) (start (IsLowered w at) any room a)
+    (λ more v after p. let p1 = p.second in let p2 = p1.second in let p3 = p2.second in let p4 = p3.second in let p5 = p4.second in
+    let p6 = p5.second in
+    subst (λ back. IsLowered w at more ((lowered_of w at) v) back) p6.second
+    (lowered p.first p1.first p2.first p3.first p4.first p5.first p6.first))
+    (λ more v after same p h. lowered_back p)
 
 pub lowered_text_6 : HasText LoweredChain6
 lowered_text_6 = sign_text m.RightParen end_text
@@ -284,13 +290,21 @@ lowered_3 p0 g0 p1 p2 = sign (lowered_2 p0 g0 p1) p2 refl
 pub lowered_4 : {w : Downgrade} {at : ℕ} {room n0 : ℕ} {b0 b1 b2 b3 b4 : List Token} {x1 : Expression} {x3 : Name} → Is m.LeftParen b0 b1 → room ≡ n0 + 1 → Read IsExpression after_expression n0 b1 x1 b2 → Is m.Comma b2 b3 → Read IsName any n0 b3 x3 b4 → Going (IsLowered w at) any room b0 LoweredChain4 (λ v. lowered_of w at (tt, (x1, (tt, (x3, v))))) n0 b4
 lowered_4 p0 g0 p1 p2 p3 = part (lowered_3 p0 g0 p1 p2) p3 (λ more v after q h. any_follows more)
 
-pub lowered_5 : {w : Downgrade} {at : ℕ} {room n0 : ℕ} {b0 b1 b2 b3 b4 b5 : List Token} {x1 : Expression} {x3 : Name} → Is m.LeftParen b0 b1 → room ≡ n0 + 1 → Read IsExpression after_expression n0 b1 x1 b2 → Is m.Comma b2 b3 → Read IsName any n0 b3 x3 b4 → Is m.To b4 b5 → Going (IsLowered w at) any room b0 LoweredChain5 (λ v. lowered_of w at (tt, (x1, (tt, (x3, (tt, v)))))) n0 b5
+pub lowered_5 : {w : Downgrade} {at : ℕ} {room n0 : ℕ} {b0 b1 b2 b3 b4 b5 : List Token} {x1 : Expression} {x3 : Name} → Is m.LeftParen b0 b1
+    → room ≡ n0 + 1 → Read IsExpression after_expression n0 b1 x1 b2 → Is m.Comma b2 b3 → Read IsName any n0 b3 x3 b4 → Is m.To b4 b5
+    → Going (IsLowered w at) any room b0 LoweredChain5 (λ v. lowered_of w at (tt, (x1, (tt, (x3, (tt, v)))))) n0 b5
 lowered_5 p0 g0 p1 p2 p3 p4 = sign (lowered_4 p0 g0 p1 p2 p3) p4 refl
 
-pub lowered_6 : {w : Downgrade} {at : ℕ} {room n0 : ℕ} {b0 b1 b2 b3 b4 b5 b6 : List Token} {x1 : Expression} {x3 : Name} {x5 : Name} → Is m.LeftParen b0 b1 → room ≡ n0 + 1 → Read IsExpression after_expression n0 b1 x1 b2 → Is m.Comma b2 b3 → Read IsName any n0 b3 x3 b4 → Is m.To b4 b5 → Read IsName any n0 b5 x5 b6 → Going (IsLowered w at) any room b0 LoweredChain6 (λ v. lowered_of w at (tt, (x1, (tt, (x3, (tt, (x5, v))))))) n0 b6
+pub lowered_6 : {w : Downgrade} {at : ℕ} {room n0 : ℕ} {b0 b1 b2 b3 b4 b5 b6 : List Token} {x1 : Expression} {x3 : Name} {x5 : Name}
+    → Is m.LeftParen b0 b1 → room ≡ n0 + 1 → Read IsExpression after_expression n0 b1 x1 b2 → Is m.Comma b2 b3 → Read IsName any n0 b3 x3 b4
+    → Is m.To b4 b5 → Read IsName any n0 b5 x5 b6
+    → Going (IsLowered w at) any room b0 LoweredChain6 (λ v. lowered_of w at (tt, (x1, (tt, (x3, (tt, (x5, v))))))) n0 b6
 lowered_6 p0 g0 p1 p2 p3 p4 p5 = part (lowered_5 p0 g0 p1 p2 p3 p4) p5 (λ more v after q h. any_follows more)
 
-pub lowered_7 : {w : Downgrade} {at : ℕ} {room n0 : ℕ} {b0 b1 b2 b3 b4 b5 b6 b7 : List Token} {x1 : Expression} {x3 : Name} {x5 : Name} → Is m.LeftParen b0 b1 → room ≡ n0 + 1 → Read IsExpression after_expression n0 b1 x1 b2 → Is m.Comma b2 b3 → Read IsName any n0 b3 x3 b4 → Is m.To b4 b5 → Read IsName any n0 b5 x5 b6 → Is m.RightParen b6 b7 → Going (IsLowered w at) any room b0 End (λ v. lowered_of w at (tt, (x1, (tt, (x3, (tt, (x5, (tt, v)))))))) room b7
+pub lowered_7 : {w : Downgrade} {at : ℕ} {room n0 : ℕ} {b0 b1 b2 b3 b4 b5 b6 b7 : List Token} {x1 : Expression} {x3 : Name} {x5 : Name}
+    → Is m.LeftParen b0 b1 → room ≡ n0 + 1 → Read IsExpression after_expression n0 b1 x1 b2 → Is m.Comma b2 b3 → Read IsName any n0 b3 x3 b4
+    → Is m.To b4 b5 → Read IsName any n0 b5 x5 b6 → Is m.RightParen b6 b7
+    → Going (IsLowered w at) any room b0 End (λ v. lowered_of w at (tt, (x1, (tt, (x3, (tt, (x5, (tt, v)))))))) room b7
 lowered_7 {n0 = n0} p0 g0 p1 p2 p3 p4 p5 p6 = sign (lowered_6 p0 g0 p1 p2 p3 p4 p5) p6 (closed m.RightParen n0 (λ r. refl) g0)
 
 -- ---- "(" arguments ")"

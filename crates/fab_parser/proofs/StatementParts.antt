@@ -13,7 +13,7 @@ use Rattle.fab_tree.specs.Lists.{Is, IsName, Repeated, ended, is, no_more, one_m
 use Rattle.fab_tree.specs.Statements.{IsBlock, IsOtherwise, IsRight, IsStatement, IsStatements, block, no_else, no_statement, one_statement, some_else}
 use Rattle.fab_reading.specs.Reading.{Follows, Lacks, Read, any}
 use Rattle.fab_reading.proofs.ListRules.{repeated_text}
-use Rattle.fab_reading.proofs.Rules.{End, Going, HasText, Sign, Then, any_follows, closed, end_meets, end_text, lacks_sign, lacks_too, never, opened, part, same_sign, sign, sign_follows, sign_text, start, then_text, token_of, turn}
+use Rattle.fab_reading.proofs.Rules.{End, Going, HasText, Sign, Then, any_follows, closed, end_meets, end_text, followed, lacks_sign, lacks_too, never, opened, part, same_sign, sign, sign_follows, sign_text, start, then_text, token_of, turn}
 use Rattle.fab_reading.proofs.TokenRules.{name_text}
 use Rattle.fab_expressions.specs.Pieces.{after_expression}
 use Rattle.fab_parser.specs.Pieces.{Bracketed, IsAssigned, IsAttempt, IsChoice, IsDeclared, IsFailure, IsLoop, IsRequested, IsValue, IsWritten, after_right, after_statement, assigned, attempted, behind_statements, branched, declared, failed, looped, requested, written}
@@ -98,10 +98,14 @@ abbrev pub DeclaredChain0 : List Token → DeclaredParts0 → List Token → Typ
 DeclaredChain0 = Then IsName DeclaredChain1
 
 declared_back : {x : Sort} {at : ℕ} {a : List Token} {v : Statement} {b : List Token} → IsDeclared x at a v b → (parts : DeclaredParts0) × (v ≡ (declared_of x at) parts) × DeclaredChain0 a parts b
-declared_back (declared {y = p_y} {z = p_z} {t = p_t} q0 q1 q2 q3 q4) = ((p_y, (tt, (p_z, (tt, (p_t, tt))))), refl, record { mid = _; first = q0; second = record { mid = _; first = q1; second = record { mid = _; first = q2; second = record { mid = _; first = q3; second = record { mid = _; first = q4; second = refl } } } } })
+declared_back (declared {y = p_y} {z = p_z} {t = p_t} q0 q1 q2 q3 q4) = ((p_y, (tt, (p_z, (tt, (p_t, tt))))), refl, followed _ q0 (followed _ q1 (followed _ q2 (followed _ q3 (followed _ q4 refl)))))
 
 pub declared_start : {x : Sort} {at : ℕ} {room : ℕ} (a : List Token) → Going (IsDeclared x at) any room a DeclaredChain0 (declared_of x at) room a
-declared_start {x = x} {at = at} {room = room} a = turn (declared_of x at) (start (IsDeclared x at) any room a) (λ more v after p. let p1 = p.second in let p2 = p1.second in let p3 = p2.second in let p4 = p3.second in subst (λ back. IsDeclared x at more ((declared_of x at) v) back) p4.second (declared p.first p1.first p2.first p3.first p4.first)) (λ more v after same p h. declared_back p)
+declared_start {x = x} {at = at} {room = room} a =
+    turn (declared_of x at) (start (IsDeclared x at) any room a)
+    (λ more v after p. let p1 = p.second in let p2 = p1.second in let p3 = p2.second in let p4 = p3.second in
+    subst (λ back. IsDeclared x at more ((declared_of x at) v) back) p4.second (declared p.first p1.first p2.first p3.first p4.first))
+    (λ more v after same p h. declared_back p)
 
 pub declared_text_4 : HasText DeclaredChain4
 declared_text_4 = then_text value_text end_text
@@ -186,7 +190,7 @@ abbrev pub WrittenChain0 : List Token → WrittenParts0 → List Token → Type 
 WrittenChain0 = Then IsName WrittenChain1
 
 written_back : {x : Name} {a : List Token} {v : Statement} {b : List Token} → IsWritten x a v b → (parts : WrittenParts0) × (v ≡ (written_of x) parts) × WrittenChain0 a parts b
-written_back (written {y = p_y} {t = p_t} q0 q1 q2) = ((p_y, (tt, (p_t, tt))), refl, record { mid = _; first = q0; second = record { mid = _; first = q1; second = record { mid = _; first = q2; second = refl } } })
+written_back (written {y = p_y} {t = p_t} q0 q1 q2) = ((p_y, (tt, (p_t, tt))), refl, followed _ q0 (followed _ q1 (followed _ q2 refl)))
 
 pub written_start : {x : Name} {room : ℕ} (a : List Token) → Going (IsWritten x) any room a WrittenChain0 (written_of x) room a
 written_start {x = x} {room = room} a = turn (written_of x) (start (IsWritten x) any room a) (λ more v after p. let p1 = p.second in let p2 = p1.second in subst (λ back. IsWritten x more ((written_of x) v) back) p2.second (written p.first p1.first p2.first)) (λ more v after same p h. written_back p)
@@ -262,7 +266,7 @@ abbrev pub ChoiceChain0 : List Token → ChoiceParts0 → List Token → Type 0
 ChoiceChain0 = Then (Bracketed IsExpression) ChoiceChain1
 
 choice_back : {a : List Token} {v : Statement} {b : List Token} → IsChoice a v b → (parts : ChoiceParts0) × (v ≡ choice_of parts) × ChoiceChain0 a parts b
-choice_back (branched {t = p_t} {us = p_us} {ws = p_ws} q0 q1 q2) = ((p_t, (p_us, (p_ws, tt))), refl, record { mid = _; first = q0; second = record { mid = _; first = q1; second = record { mid = _; first = q2; second = refl } } })
+choice_back (branched {t = p_t} {us = p_us} {ws = p_ws} q0 q1 q2) = ((p_t, (p_us, (p_ws, tt))), refl, followed _ q0 (followed _ q1 (followed _ q2 refl)))
 
 pub choice_start : {room : ℕ} (a : List Token) → Going IsChoice after_statement room a ChoiceChain0 choice_of room a
 choice_start {room = room} a = turn choice_of (start IsChoice after_statement room a) (λ more v after p. let p1 = p.second in let p2 = p1.second in subst (λ back. IsChoice more (choice_of v) back) p2.second (branched p.first p1.first p2.first)) (λ more v after same p h. choice_back p)
@@ -344,7 +348,7 @@ abbrev pub AttemptChain0 : List Token → AttemptParts0 → List Token → Type 
 AttemptChain0 = Then IsName AttemptChain1
 
 attempt_back : {at : ℕ} {a : List Token} {v : Statement} {b : List Token} → IsAttempt at a v b → (parts : AttemptParts0) × (v ≡ (attempt_of at) parts) × AttemptChain0 a parts b
-attempt_back (attempted {x = p_x} {us = p_us} {ws = p_ws} q0 q1 q2 q3) = ((p_x, (p_us, (tt, (p_ws, tt)))), refl, record { mid = _; first = q0; second = record { mid = _; first = q1; second = record { mid = _; first = q2; second = record { mid = _; first = q3; second = refl } } } })
+attempt_back (attempted {x = p_x} {us = p_us} {ws = p_ws} q0 q1 q2 q3) = ((p_x, (p_us, (tt, (p_ws, tt)))), refl, followed _ q0 (followed _ q1 (followed _ q2 (followed _ q3 refl))))
 
 pub attempt_start : {at : ℕ} {room : ℕ} (a : List Token) → Going (IsAttempt at) any room a AttemptChain0 (attempt_of at) room a
 attempt_start {at = at} {room = room} a = turn (attempt_of at) (start (IsAttempt at) any room a) (λ more v after p. let p1 = p.second in let p2 = p1.second in let p3 = p2.second in subst (λ back. IsAttempt at more ((attempt_of at) v) back) p3.second (attempted p.first p1.first p2.first p3.first)) (λ more v after same p h. attempt_back p)
@@ -424,7 +428,7 @@ abbrev pub BlockChain0 : List Token → BlockParts0 → List Token → Type 0
 BlockChain0 = Then (Sign m.LeftBrace) BlockChain1
 
 block_back : {a : List Token} {v : List Statement} {b : List Token} → IsBlock a v b → (parts : BlockParts0) × (v ≡ block_of parts) × BlockChain0 a parts b
-block_back (block {us = p_us} q0 q1 q2) = ((tt, (p_us, (tt, tt))), refl, record { mid = _; first = q0; second = record { mid = _; first = (statements_back q1); second = record { mid = _; first = q2; second = refl } } })
+block_back (block {us = p_us} q0 q1 q2) = ((tt, (p_us, (tt, tt))), refl, followed _ q0 (followed _ ((statements_back q1)) (followed _ q2 refl)))
 
 pub block_start : {room : ℕ} (a : List Token) → Going IsBlock any room a BlockChain0 block_of room a
 block_start {room = room} a = turn block_of (start IsBlock any room a) (λ more v after p. let p1 = p.second in let p2 = p1.second in subst (λ back. IsBlock more (block_of v) back) p2.second (block p.first (statements_made p1.first) p2.first)) (λ more v after same p h. block_back p)

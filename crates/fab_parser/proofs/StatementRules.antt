@@ -150,7 +150,10 @@ only_fail : {at : ℕ} {a b : List Token} {u : Statement} → Begun (k.Fixed m.F
 only_fail (by_fail d) = d
 
 module _ {room at : ℕ} {a c : List Token} where
-  word_start : (S : ℕ → List Token → Statement → List Token → Type 0) (mark : Mark) → room_by (k.Fixed mark) room ≡ Some room → ((t : Token) (more b : List Token) (u : Statement) → t.kind ≡ k.Fixed mark → S t.at more u b → IsStatement (t ∷ more) u b) → ((at : ℕ) (x b : List Token) (u : Statement) → Begun (k.Fixed mark) at x u b → S at x u b) → at ≡ first_place a → Is mark a c → Going IsStatement after_statement room a (S at) (λ v. v) room c
+  word_start : (S : ℕ → List Token → Statement → List Token → Type 0) (mark : Mark) → room_by (k.Fixed mark) room ≡ Some room
+      → ((t : Token) (more b : List Token) (u : Statement) → t.kind ≡ k.Fixed mark → S t.at more u b → IsStatement (t ∷ more) u b)
+      → ((at : ℕ) (x b : List Token) (u : Statement) → Begun (k.Fixed mark) at x u b → S at x u b) → at ≡ first_place a → Is mark a c
+      → Going IsStatement after_statement room a (S at) (λ v. v) room c
   word_start S mark level made only e i = behind_word S e i level (λ t g more v after. made t more after v g) (λ t g more u after d. only t.at more after u (begun_as (k.Fixed mark) g d))
 
   pub int_start : at ≡ first_place a → Is m.Int a c → Going IsStatement after_statement room a (IsDeclared sorts.Int at) (λ v. v) room c

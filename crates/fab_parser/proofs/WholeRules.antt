@@ -93,7 +93,11 @@ module _ {C : Type 0} {Q : List Token → C → List Token → Type 0} {room lef
   pub no_whole_nodes : {f : List Node × C → Program} → (e : Refusal) → Going IsProgram after_program room a (Then (Repeated IsNode) Q) f left b → Stops (Repeated IsNode) (behind_list begins_node any) left b e → ((more : List Token) (v : C) (after : List Token) → Q more v after → Follows after_program after → Follows (behind_list begins_node any) more) → NoneYet a e
   no_whole_nodes e g x meets = none_yet IsNode begins_node (λ c x t y. longer_node c) (λ t. node_from t t.kind refl) g meets e x
 
-  pub no_whole_delegations : {f : List Delegation × C → Program} → (e : Refusal) → Going IsProgram after_program room a (Then (Repeated IsDelegation) Q) f left b → Stops (Repeated IsDelegation) (behind_list begins_name any) left b e → ((more : List Token) (v : C) (after : List Token) → Q more v after → Follows after_program after → Follows (behind_list begins_name any) more) → NoneYet a e
+  pub no_whole_delegations : {f : List Delegation × C → Program} → (e : Refusal)
+      → Going IsProgram after_program room a (Then (Repeated IsDelegation) Q) f left b
+      → Stops (Repeated IsDelegation) (behind_list begins_name any) left b e
+      → ((more : List Token) (v : C) (after : List Token) → Q more v after → Follows after_program after → Follows (behind_list begins_name any) more)
+      → NoneYet a e
   no_whole_delegations e g x meets = none_yet IsDelegation begins_name (λ c x t y. longer_delegation c) (λ t. delegation_from t t.kind refl) g meets e x
 
   pub no_whole_labels : {f : List LabelText × C → Program} → (e : Refusal) → Going IsProgram after_program room a (Then (Repeated IsLabel) Q) f left b → Stops (Repeated IsLabel) (behind_list begins_label any) left b e → ((more : List Token) (v : C) (after : List Token) → Q more v after → Follows after_program after → Follows (behind_list begins_label any) more) → NoneYet a e

@@ -8,7 +8,7 @@ ghost use Rattle.fab_parser.specs.Pieces.{IsValue, IsDeclared, IsAssigned, IsWri
 use crate::rights::{condition, given, right};
 use fab_base::{Kind, Mark, Seq, Token};
 use fab_expressions::expression;
-use fab_reading::{Refusal, behind, name, next, open, place, sign, starts_name};
+use fab_reading::{Refusal, added, behind, fitted, name, next, open, place, sign, starts_name};
 use fab_tree::{Expression, Name, Sort, Statement};
 use std::alloc::Global;
 
@@ -257,8 +257,8 @@ pub fn statements(
     let mut rest = tokens;
     'list: while starts_statement(rest) {
         let (item, after) = statement(alloc, rest, room)?;
-        found.push(item)?;
+        found = added(found, item)?;
         rest = after;
     }
-    Ok((found, rest))
+    Ok((fitted(found), rest))
 }

@@ -16,6 +16,11 @@ pub record Then {A B : Type 0} (P : List Token → A → List Token → Type 0) 
   pub first : P a v.0 mid
   pub second : Q mid v.1 c
 
+-- one part is read, and the others behind it
+pub followed : {A B : Type 0} {P : List Token → A → List Token → Type 0} {Q : List Token → B → List Token → Type 0} {a c : List Token} {x : A} {v : B} (b : List Token)
+    → P a x b → Q b v c → Then P Q a (x, v) c
+followed b p q = record { mid = b; first = p; second = q }
+
 -- no part is left
 abbrev pub End : List Token → Unit {0} → List Token → Type 0
 End a u b = a ≡ b
@@ -74,7 +79,11 @@ module _ {A : Type 0} (R : List Token → A → List Token → Type 0) (p q more
   joined r = subst (λ x. R x u after) (sym (append_assoc p q more)) r
 
 -- the rest of the rule in other words
-pub turn : {A B C : Type 0} {R : List Token → A → List Token → Type 0} {may : Kind → Bool} {room : ℕ} {a : List Token} {S : List Token → B → List Token → Type 0} {T : List Token → C → List Token → Type 0} {f : B → A} {left : ℕ} {b : List Token} (g : C → B) → Going R may room a S f left b → ((more : List Token) (v : C) (after : List Token) → T more v after → S more (g v) after) → ((more : List Token) (v : B) (after : List Token) → SameHead b more → S more v after → Follows may after → (w : C) × (v ≡ g w) × T more w after) → Going R may room a T (λ w. f (g w)) left b
+pub turn : {A B C : Type 0} {R : List Token → A → List Token → Type 0} {may : Kind → Bool} {room : ℕ} {a : List Token}
+    {S : List Token → B → List Token → Type 0} {T : List Token → C → List Token → Type 0} {f : B → A} {left : ℕ} {b : List Token} (g : C → B)
+    → Going R may room a S f left b → ((more : List Token) (v : C) (after : List Token) → T more v after → S more (g v) after)
+    → ((more : List Token) (v : B) (after : List Token) → SameHead b more → S more v after → Follows may after → (w : C) × (v ≡ g w) × T more w after)
+    → Going R may room a T (λ w. f (g w)) left b
 turn {f = f} g r to from = record {
   front = r.front;
   cut = r.cut;
@@ -401,7 +410,10 @@ two_same t p b more same = (refl, same_append p b more same)
 
 module _ {A B : Type 0} {R : List Token → A → List Token → Type 0} {P : List Token → B → List Token → Type 0} {may : Kind → Bool} {room : ℕ} {a : List Token} (g : B → A) where
   -- what one choice reads is what the rule reads, where the other choices have another second token
-  pub through : {t : B} {b : List Token} (first : Kind → Bool) → ((x : List Token) (v : B) (y : List Token) → P x v y → Starts first x) → Read P may room a t b → ((more : List Token) (v : B) (after : List Token) → P more v after → R more (g v) after) → ((more : List Token) (u : A) (after : List Token) → SameTwo a more → R more u after → (v : B) × (u ≡ g v) × P more v after) → Read R may room a (g t) b
+  pub through : {t : B} {b : List Token} (first : Kind → Bool) → ((x : List Token) (v : B) (y : List Token) → P x v y → Starts first x)
+      → Read P may room a t b → ((more : List Token) (v : B) (after : List Token) → P more v after → R more (g v) after)
+      → ((more : List Token) (u : A) (after : List Token) → SameTwo a more → R more u after → (v : B) × (u ≡ g v) × P more v after)
+      → Read R may room a (g t) b
   through {t = t} {b = b} first begins r to from = record {
     front = r.front;
     cut = r.cut;
@@ -441,7 +453,13 @@ begins_at (is e) = e
 -- ---- what keeps the place of its first mark
 
 -- the mark is read, and its place kept for what is built
-pub behind_mark : {A B : Type 0} {R : List Token → A → List Token → Type 0} {may : Kind → Bool} {room : ℕ} {S : List Token → B → List Token → Type 0} (f : ℕ → B → A) {mark : Mark} {a c : List Token} {n : ℕ} → Is mark a c → room_by (k.Fixed mark) room ≡ Some n → ((t : Token) → t.kind ≡ k.Fixed mark → (more : List Token) (v : B) (after : List Token) → S more v after → R (t ∷ more) (f t.at v) after) → ((t : Token) → t.kind ≡ k.Fixed mark → (more : List Token) (u : A) (after : List Token) → R (t ∷ more) u after → Follows may after → (v : B) × (u ≡ f t.at v) × S more v after) → Going R may room a S (f (first_place a)) n c
+pub behind_mark : {A B : Type 0} {R : List Token → A → List Token → Type 0} {may : Kind → Bool} {room : ℕ} {S : List Token → B → List Token → Type 0}
+    (f : ℕ → B → A) {mark : Mark} {a c : List Token} {n : ℕ}
+    → Is mark a c → room_by (k.Fixed mark) room ≡ Some n
+    → ((t : Token) → t.kind ≡ k.Fixed mark → (more : List Token) (v : B) (after : List Token) → S more v after → R (t ∷ more) (f t.at v) after)
+    → ((t : Token) → t.kind ≡ k.Fixed mark → (more : List Token) (u : A) (after : List Token) → R (t ∷ more) u after → Follows may after
+    → (v : B) × (u ≡ f t.at v) × S more v after)
+    → Going R may room a S (f (first_place a)) n c
 behind_mark {room = room} f (is {t = t} e) level to from = record {
   front = t ∷ [];
   cut = refl;
@@ -464,7 +482,12 @@ deep_here opens more none (is {t = t} {ts = ts} e) = record {
 }
 
 -- nothing of the rule begins here, or its first bracket is one too many
-pub stop_here : {A : Type 0} {R : List Token → A → List Token → Type 0} (may : Kind → Bool) (room : ℕ) (a : List Token) (mark : Mark) (first : Kind → Bool) → ((x : List Token) (t : A) (y : List Token) → R x t y → Starts first x) → HasText R → (Lacks mark a → Starts first a → ⊥) → room_by (k.Fixed mark) 0 ≡ None → ((t : Token) → t.kind ≡ k.Fixed mark → (more : List Token) × (v : A) × ((after : List Token) → R (t ∷ (more ++ after)) v after)) → (e : Refusal) → CannotOpen mark room a e → Stops R may room a e
+pub stop_here : {A : Type 0} {R : List Token → A → List Token → Type 0} (may : Kind → Bool) (room : ℕ) (a : List Token) (mark : Mark)
+    (first : Kind → Bool)
+    → ((x : List Token) (t : A) (y : List Token) → R x t y → Starts first x) → HasText R → (Lacks mark a → Starts first a → ⊥)
+    → room_by (k.Fixed mark) 0 ≡ None
+    → ((t : Token) → t.kind ≡ k.Fixed mark → (more : List Token) × (v : A) × ((after : List Token) → R (t ∷ (more ++ after)) v after)) → (e : Refusal)
+    → CannotOpen mark room a e → Stops R may room a e
 stop_here may room a mark first begins some none opens more refusal.Memory x = absurd x
 stop_here {R = R} may room a mark first begins some none opens more (refusal.Syntax n) x = subst (λ y. Refused R may room a y) (sym x.0) (here first begins some (none x.1))
 stop_here {R = R} may room a mark first begins some none opens more (refusal.Deep n) x = subst (λ y. Deep R room a y) (sym x.0) (deep_here opens more x.1 (begun a x.2).1)

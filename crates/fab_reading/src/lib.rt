@@ -5,10 +5,12 @@ mod item;
 mod numbers;
 mod reading;
 mod refusal;
+mod room;
 mod rule;
 
 pub use item::{Item, separated};
 pub use numbers::{behind_least, numeral, positive};
 pub use reading::{behind, name, next, open, place, sign, starts_name};
 pub use refusal::Refusal;
+pub use room::{added, fitted};
 pub use rule::{Rule, repeated};

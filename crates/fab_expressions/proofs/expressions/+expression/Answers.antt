@@ -78,14 +78,14 @@ others-returns-in_err-value t c =
 
 pub others-list-preserved : goal.others-list-preserved
 others-list-preserved t c =
-    alike _ (part (part (others_more c.args.level c.list.invariant (operator_begins _ _ _ _ c.in-Some.ensures)) (operator_read c.in-Some.ensures) (λ more v after q h. any_follows more)) c.in_ok-value.ensures (others_meet c.args.level)) (one_more _ _ _ (rw c.place-at.ensures at c.in_ok-push.ensures.ok))
+    alike _ (part (part (others_more c.args.level c.list.invariant (operator_begins _ _ _ _ c.in-Some.ensures)) (operator_read c.in-Some.ensures) (λ more v after q h. any_follows more)) c.in_ok-value.ensures (others_meet c.args.level)) (one_more _ _ _ (rw c.place-at.ensures at c.in_ok-found.ensures))
 
 pub others-list-smaller : goal.others-list-smaller
 others-list-smaller t c = omega (arith, operator_shorter c.in-Some.ensures, read_shorter c.in_ok-value.ensures)
 
 pub others-returns : goal.others-returns
 others-returns t c =
-    whole (alike _ (others_end c.args.level c.list.invariant c.in_default.ensures) (λ v. append-nil _))
+    rw c.fitted.ensures (whole (alike _ (others_end c.args.level c.list.invariant c.in_default.ensures) (λ v. append-nil _)))
 
 pub operand-returns-in-Or : goal.operand-returns-in-Or
 operand-returns-in-Or t c =

@@ -29,10 +29,10 @@ numbered_form-returns-in_err-numbered_boxed-in-Compared t c =
 
 pub numbered_operands-returns-in_err-operand : goal.numbered_operands-returns-in_err-operand
 numbered_operands-returns-in_err-operand t c =
-    refused c.from_residual.result c.in_err-operand.field-0.0 c.numbered_expression.new.sites c.numbered_expression.new.sites
+    refused c.from_residual-in_err-operand.result c.in_err-operand.field-0.0 c.numbered_expression.new.sites c.numbered_expression.new.sites
     (expression_of c.args.scope.now.tables.now c.args.scope.now.locals c.other-item.result.operand c.loop-other.sites)
     (in_turn (map (operand_of c.args.scope.now.tables.now c.args.scope.now.locals) c.args.others.now) c.args.sites.now)
-    c.from_residual.ensures.1
+    c.from_residual-in_err-operand.ensures.1
     (operand_within c.args.scope.now.tables.now c.args.scope.now.locals c.other-item.result c.loop-other.sites (in_turn (map (operand_of c.args.scope.now.tables.now c.args.scope.now.locals) c.args.others.now) c.args.sites.now).1
     (ends_within (operand_of c.args.scope.now.tables.now c.args.scope.now.locals) c.args.others.now c.loop-other.other-index c.other-item.result c.loop-other-test.true c.other-item.is c.loop-other.sites (in_turn (map (operand_of c.args.scope.now.tables.now c.args.scope.now.locals) c.args.others.now) c.args.sites.now).1
     (λ ys m. grows (in_turn (map (operand_of c.args.scope.now.tables.now c.args.scope.now.locals) ys)) (length (flat_map in_operand ys)) (operands_take_all c.args.scope.now.tables.now c.args.scope.now.locals ys) m) c.loop-other.invariant.next))

@@ -17,10 +17,10 @@ numbered_block-numbered_statement-requires t c =
 
 pub numbered_block-returns-in_err-one : goal.numbered_block-returns-in_err-one
 numbered_block-returns-in_err-one t c =
-    refused c.from_residual.result c.in_err-one.field-0.0 c.numbered_statement.new.sites c.numbered_statement.new.sites
+    refused c.from_residual-in_err-one.result c.in_err-one.field-0.0 c.numbered_statement.new.sites c.numbered_statement.new.sites
     (statement_of c.args.scope.now.tables.now c.args.scope.now.locals c.statement-item.result c.loop-statement.sites)
     (block_of c.args.scope.now.tables.now c.args.scope.now.locals c.args.block.now c.args.sites.now)
-    c.from_residual.ensures.1
+    c.from_residual-in_err-one.ensures.1
     (ends_within (statement_of c.args.scope.now.tables.now c.args.scope.now.locals) c.args.block.now c.loop-statement.statement-index c.statement-item.result c.loop-statement-test.true c.statement-item.is c.loop-statement.sites (block_of c.args.scope.now.tables.now c.args.scope.now.locals c.args.block.now c.args.sites.now).1
     (λ ys m. grows (block_of c.args.scope.now.tables.now c.args.scope.now.locals ys) (length (flat_map in_statement ys)) (block_takes c.args.scope.now.tables.now c.args.scope.now.locals ys) m) c.loop-statement.invariant.next)
     c.in_err-one.ensures

@@ -31,18 +31,60 @@ returns-in_err-rest-3 c =
 pub returns-in_err-policies : goal.returns-in_err-policies
 returns-in_err-policies c =
     let p = err_from_is_err_and c.from_residual-in_err-policies.result c.from_residual-in_err-policies.ensures.1 in
-    rw (p.1, p.2) (stop_part behind_policies c.in_err-policies.field-0.0 (sign (sign (part (sign (label_start c.args.tokens.now) c.in_ok-rest.ensures refl) c.in_ok-name.ensures (λ more v after q h. any_follows more)) c.in_ok-rest-2.ensures refl) c.in_ok-rest-3.ensures.0 (opened m.LeftBrace (λ r. refl) c.in_ok-rest-3.ensures.1)) c.in_err-policies.ensures (λ more v after q h. sign_follows m.RightBrace behind_policies refl q.first) (sign_text m.RightBrace (sign_text m.Semicolon end_text)))
+    rw (p.1, p.2)
+    (stop_part behind_policies c.in_err-policies.field-0.0
+    (sign
+    (sign
+    (part (sign (label_start c.args.tokens.now) c.in_ok-rest.ensures refl) c.in_ok-name.ensures (λ more v after q h. any_follows more))
+    c.in_ok-rest-2.ensures refl)
+    c.in_ok-rest-3.ensures.0 (opened m.LeftBrace (λ r. refl) c.in_ok-rest-3.ensures.1))
+    c.in_err-policies.ensures (λ more v after q h. sign_follows m.RightBrace behind_policies refl q.first)
+    (sign_text m.RightBrace (sign_text m.Semicolon end_text)))
 
 pub returns-in_err-rest-4 : goal.returns-in_err-rest-4
 returns-in_err-rest-4 c =
     let p = err_from_is_err_and c.from_residual-in_err-rest-4.result c.from_residual-in_err-rest-4.ensures.1 in
-    rw (p.1, p.2) (stop_sign c.in_err-rest-4.field-0.0 (part (sign (sign (part (sign (label_start c.args.tokens.now) c.in_ok-rest.ensures refl) c.in_ok-name.ensures (λ more v after q h. any_follows more)) c.in_ok-rest-2.ensures refl) c.in_ok-rest-3.ensures.0 (opened m.LeftBrace (λ r. refl) c.in_ok-rest-3.ensures.1)) c.in_ok-policies.ensures (λ more v after q h. sign_follows m.RightBrace behind_policies refl q.first)) c.in_err-rest-4.ensures (sign_text m.Semicolon end_text))
+    rw (p.1, p.2)
+    (stop_sign c.in_err-rest-4.field-0.0
+    (part
+    (sign
+    (sign
+    (part (sign (label_start c.args.tokens.now) c.in_ok-rest.ensures refl) c.in_ok-name.ensures
+    (λ more v after q h. any_follows more))
+    c.in_ok-rest-2.ensures refl)
+    c.in_ok-rest-3.ensures.0 (opened m.LeftBrace (λ r. refl) c.in_ok-rest-3.ensures.1))
+    c.in_ok-policies.ensures (λ more v after q h. sign_follows m.RightBrace behind_policies refl q.first))
+    c.in_err-rest-4.ensures (sign_text m.Semicolon end_text))
 
 pub returns-in_err-rest-5 : goal.returns-in_err-rest-5
 returns-in_err-rest-5 c =
     let p = err_from_is_err_and c.from_residual-in_err-rest-5.result c.from_residual-in_err-rest-5.ensures.1 in
-    rw (p.1, p.2) (stop_sign c.in_err-rest-5.field-0.0 (sign (part (sign (sign (part (sign (label_start c.args.tokens.now) c.in_ok-rest.ensures refl) c.in_ok-name.ensures (λ more v after q h. any_follows more)) c.in_ok-rest-2.ensures refl) c.in_ok-rest-3.ensures.0 (opened m.LeftBrace (λ r. refl) c.in_ok-rest-3.ensures.1)) c.in_ok-policies.ensures (λ more v after q h. sign_follows m.RightBrace behind_policies refl q.first)) c.in_ok-rest-4.ensures (closed m.RightBrace _ (λ r. refl) c.in_ok-rest-3.ensures.1)) c.in_err-rest-5.ensures end_text)
+    rw (p.1, p.2)
+    (stop_sign c.in_err-rest-5.field-0.0
+    (sign
+    (part
+    (sign
+    (sign
+    (part (sign (label_start c.args.tokens.now) c.in_ok-rest.ensures refl) c.in_ok-name.ensures
+    (λ more v after q h. any_follows more))
+    c.in_ok-rest-2.ensures refl)
+    c.in_ok-rest-3.ensures.0 (opened m.LeftBrace (λ r. refl) c.in_ok-rest-3.ensures.1))
+    c.in_ok-policies.ensures (λ more v after q h. sign_follows m.RightBrace behind_policies refl q.first))
+    c.in_ok-rest-4.ensures (closed m.RightBrace _ (λ r. refl) c.in_ok-rest-3.ensures.1))
+    c.in_err-rest-5.ensures end_text)
 
 pub returns : goal.returns
 returns c =
-    whole (sign (sign (part (sign (sign (part (sign (label_start c.args.tokens.now) c.in_ok-rest.ensures refl) c.in_ok-name.ensures (λ more v after q h. any_follows more)) c.in_ok-rest-2.ensures refl) c.in_ok-rest-3.ensures.0 (opened m.LeftBrace (λ r. refl) c.in_ok-rest-3.ensures.1)) c.in_ok-policies.ensures (λ more v after q h. sign_follows m.RightBrace behind_policies refl q.first)) c.in_ok-rest-4.ensures (closed m.RightBrace _ (λ r. refl) c.in_ok-rest-3.ensures.1)) c.in_ok-rest-5.ensures refl)
+    whole
+    (sign
+    (sign
+    (part
+    (sign
+    (sign
+    (part (sign (label_start c.args.tokens.now) c.in_ok-rest.ensures refl) c.in_ok-name.ensures
+    (λ more v after q h. any_follows more))
+    c.in_ok-rest-2.ensures refl)
+    c.in_ok-rest-3.ensures.0 (opened m.LeftBrace (λ r. refl) c.in_ok-rest-3.ensures.1))
+    c.in_ok-policies.ensures (λ more v after q h. sign_follows m.RightBrace behind_policies refl q.first))
+    c.in_ok-rest-4.ensures (closed m.RightBrace _ (λ r. refl) c.in_ok-rest-3.ensures.1))
+    c.in_ok-rest-5.ensures refl)

@@ -104,7 +104,7 @@ statements-returns-in_err-item t c =
 
 pub statements-list-preserved : goal.statements-list-preserved
 statements-list-preserved t c =
-    alike _ (part (list_more begins_statement after_statement c.list.invariant (c.starts_statement.ensures.0 c.list-test.true)) c.in_ok-item.ensures statements_meet) (one_more _ _ _ c.in_ok-push.ensures.ok)
+    alike _ (part (list_more begins_statement after_statement c.list.invariant (c.starts_statement.ensures.0 c.list-test.true)) c.in_ok-item.ensures statements_meet) (one_more _ _ _ c.in_ok-found.ensures)
 
 pub statements-list-smaller : goal.statements-list-smaller
 statements-list-smaller t c =
@@ -112,7 +112,7 @@ statements-list-smaller t c =
 
 pub statements-returns : goal.statements-returns
 statements-returns t c =
-    whole (alike _ (list_end begins_statement statement_begins c.list.invariant (λ s. not_true c.list-test.false (c.starts_statement.ensures.1 s))) (λ v. append-nil _))
+    rw c.fitted.ensures (whole (alike _ (list_end begins_statement statement_begins c.list.invariant (λ s. not_true c.list-test.false (c.starts_statement.ensures.1 s))) (λ v. append-nil _)))
 
 pub statement-returns-in-Some : goal.statement-returns-in-Some
 statement-returns-in-Some t c = handed c.declared.result (λ x. x.0) (λ x. x.1.now) any (any_weak after_statement) (int_start c.place-at.ensures c.in-Some.ensures) c.declared.ensures

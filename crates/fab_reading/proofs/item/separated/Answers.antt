@@ -17,19 +17,38 @@ returns-in_err-item g c =
 
 pub list-init : goal.list-init
 list-init g c =
-    alike _ (part (first_item g.R.Item.first g.R.Item.parts g.R.Item.may g.R.Item.between c.args.tokens.now (c.starts.ensures.0 c.if-not-starts.false)) c.in_ok-item.ensures (items_meet g.R.Item.first g.R.Item.parts g.R.Item.may g.R.Item.between g.met.R.Item.is_part g.met.R.Item.follows)) (λ v. ap (λ z. z ++ (c.in_ok-item.item ∷ v)) (sym c.new-found.ensures) ∙ one_more c.new-found.result _ c.in_ok-item.item c.in_ok-push.ensures.ok v)
+    alike _
+    (part (first_item g.R.Item.first g.R.Item.parts g.R.Item.may g.R.Item.between c.args.tokens.now (c.starts.ensures.0 c.if-not-starts.false))
+    c.in_ok-item.ensures (items_meet g.R.Item.first g.R.Item.parts g.R.Item.may g.R.Item.between g.met.R.Item.is_part g.met.R.Item.follows))
+    (λ v.
+    ap (λ z. z ++ (c.in_ok-item.item ∷ v)) (sym c.new-found.ensures) ∙ one_more c.new-found.result _ c.in_ok-item.item c.in_ok-push.ensures.ok
+    v)
 
 pub returns-in_err-item-2 : goal.returns-in_err-item-2
 returns-in_err-item-2 g c =
     let p = err_from_is_err_and c.from_residual-in_err-item-2.result c.from_residual-in_err-item-2.ensures.1 in
-    rw (p.1, p.2) (stop_part g.R.Item.may c.in_err-item-2.field-0.0 (sign (next_item g.R.Item.first g.R.Item.parts g.R.Item.may g.R.Item.between g.met.R.Item.is_part c.list.invariant (subst (λ x. Is x c.list.rest.now c.in-Some.after.now) c.mark.ensures c.in-Some.ensures)) (subst (λ x. Is x c.list.rest.now c.in-Some.after.now) c.mark.ensures c.in-Some.ensures) (g.met.R.Item.level c.args.room)) c.in_err-item-2.ensures (items_meet g.R.Item.first g.R.Item.parts g.R.Item.may g.R.Item.between g.met.R.Item.is_part g.met.R.Item.follows) items_text)
+    rw (p.1, p.2)
+    (stop_part g.R.Item.may c.in_err-item-2.field-0.0
+    (sign
+    (next_item g.R.Item.first g.R.Item.parts g.R.Item.may g.R.Item.between g.met.R.Item.is_part c.list.invariant
+    (subst (λ x. Is x c.list.rest.now c.in-Some.after.now) c.mark.ensures c.in-Some.ensures))
+    (subst (λ x. Is x c.list.rest.now c.in-Some.after.now) c.mark.ensures c.in-Some.ensures) (g.met.R.Item.level c.args.room))
+    c.in_err-item-2.ensures (items_meet g.R.Item.first g.R.Item.parts g.R.Item.may g.R.Item.between g.met.R.Item.is_part g.met.R.Item.follows)
+    items_text)
 
 pub list-smaller : goal.list-smaller
 list-smaller g c = omega (arith, sign_shorter c.in-Some.ensures, read_shorter c.in_ok-item-2.ensures)
 
 pub list-preserved : goal.list-preserved
 list-preserved g c =
-    alike _ (part (sign (next_item g.R.Item.first g.R.Item.parts g.R.Item.may g.R.Item.between g.met.R.Item.is_part c.list.invariant (subst (λ x. Is x c.list.rest.now c.in-Some.after.now) c.mark.ensures c.in-Some.ensures)) (subst (λ x. Is x c.list.rest.now c.in-Some.after.now) c.mark.ensures c.in-Some.ensures) (g.met.R.Item.level c.args.room)) c.in_ok-item-2.ensures (items_meet g.R.Item.first g.R.Item.parts g.R.Item.may g.R.Item.between g.met.R.Item.is_part g.met.R.Item.follows)) (one_more _ _ _ c.in_ok-push-2.ensures.ok)
+    alike _
+    (part
+    (sign
+    (next_item g.R.Item.first g.R.Item.parts g.R.Item.may g.R.Item.between g.met.R.Item.is_part c.list.invariant
+    (subst (λ x. Is x c.list.rest.now c.in-Some.after.now) c.mark.ensures c.in-Some.ensures))
+    (subst (λ x. Is x c.list.rest.now c.in-Some.after.now) c.mark.ensures c.in-Some.ensures) (g.met.R.Item.level c.args.room))
+    c.in_ok-item-2.ensures (items_meet g.R.Item.first g.R.Item.parts g.R.Item.may g.R.Item.between g.met.R.Item.is_part g.met.R.Item.follows))
+    (one_more _ _ _ c.in_ok-push-2.ensures.ok)
 
 pub returns : goal.returns
 returns g c =
