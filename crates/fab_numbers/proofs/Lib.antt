@@ -4,5 +4,4 @@ pub mod FirstLemmas
 pub mod InTurn
 pub mod SitesInOrder
 pub mod SitesTaken
-pub mod Weights
 pub mod Within
