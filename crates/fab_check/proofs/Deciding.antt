@@ -200,7 +200,7 @@ Decides-may_hold d p label access =
     (Decides-and (acts_in_all d.pairs p label.conf) (acts_in_all d.pairs p access.conf && acts_in_all d.pairs p label.integ) (Decides-in_all d p label.conf)
     (Decides-and (acts_in_all d.pairs p access.conf) (acts_in_all d.pairs p label.integ) (Decides-in_all d p access.conf) (Decides-in_all d p label.integ)))
 
-is_store_is : (o : Option Role) → Decides (is_store_role o) (IsSomeAnd o (λ x. IsTrue (is_store x)))
+pub is_store_is : (o : Option Role) → Decides (is_store_role o) (IsSomeAnd o (λ x. IsTrue (is_store x)))
 is_store_is None = (λ e. absurd (false≢true e), λ h. absurd h)
 is_store_is (Some x) = (λ t. t, λ t. t)
 
@@ -305,3 +305,6 @@ module _ (r : Resolved) (x : Bool) (d : Delegations) (is_d : d ≡ delegations_o
   pub endorse_decided : (a b : ℕ) (ps : List ℕ) (set : ℕ) → IsMask ps set → (la lb : Label) → la ≡ label_at r a → lb ≡ label_at r b → IsTrue x ↔ EndorseOk d la lb set → x ≡ decided r (endorses a b ps)
   unfolding decided
   endorse_decided a b ps set mask la lb is_a is_b h = same_from_decides x (decided r (endorses a b ps)) (rw (← is_d, ← is_a, ← is_b) h) (Decides-endorse (delegations_of r) (label_at r a) (label_at r b) ps set (mask_is_set ps set mask))
+
+  pub placement_decided : (p a b : ℕ) (la lb : Label) → la ≡ label_at r a → lb ≡ label_at r b → IsTrue x ↔ MayHold d p la lb → x ≡ may_hold r.pairs p (label_at r a) (label_at r b)
+  placement_decided p a b la lb is_a is_b h = same_from_decides x (may_hold r.pairs p (label_at r a) (label_at r b)) (rw (← is_d, ← is_a, ← is_b) h) (Decides-may_hold (delegations_of r) p (label_at r a) (label_at r b))

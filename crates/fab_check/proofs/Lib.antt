@@ -7,3 +7,4 @@ pub mod Least
 pub mod Parts
 pub mod Sitings
 pub mod Walks
+pub mod Weights

@@ -1,37 +1,17 @@
 //! Which store may hold which class.
-ghost use Rattle.std.specs.Prelude.{◌≡◌, ◌≤◌, ◌∷◌, [], length, option_map, slice_get};
-ghost use Rattle.std.specs.List.{list_any};
+ghost use Rattle.std.specs.Prelude.{◌≡◌, ◌∷◌, []};
 ghost use Rattle.fab_labelling.specs.Obligations.{holds, owe};
 ghost use Rattle.fab_labelling.specs.Placement.{role_of};
-ghost use Rattle.fab_labelling.specs.Readers.{label_at, principal_of as place_of};
+ghost use Rattle.fab_labelling.specs.Readers.{label_at};
 ghost use Rattle.fab_labelling.specs.Refusals.{class_label};
 ghost use Rattle.fab_labelling.specs.declared.rule.LabelRule.TheVariants.{Placement as OfPlacement};
-ghost use Rattle.fab_check.specs.Decided.{acts_in_all, acts_within, decided, holds_class, is_store_role, may_hold, reaches};
+ghost use Rattle.fab_check.specs.Decided.{decided, holds_class, is_store_role, may_hold, reaches};
 ghost use Rattle.fab_check.specs.Noted.{all_noted};
 
 use crate::verdicts::Verdicts;
-use fab_base::Policy;
 use fab_labelling::{LabelRule, Side};
 use fab_principals::Acts;
-use fab_tree::Role;
-use fab_tree::resolved::{Class, Principal, Resolved};
-
-/// The place of the worker or store of this number among all principals.
-pub(crate) fn principal_of(start: &Resolved, number: u16) -> u16
-    requires { length start.now.nodes ≤ 64 }
-    ensures { result ≡ place_of start.now number }
-{
-    let mut place = 0;
-    let mut rest = start.nodes.as_slice();
-    'nodes: while let Some((principal, after)) = rest.split_first() {
-        if principal.node == Some(number) {
-            return place;
-        }
-        place += 1;
-        rest = after;
-    }
-    place
-}
+use fab_tree::resolved::{Class, Resolved};
 
 /// Whether the one acts for the other.
 pub(crate) fn acts_for(acts: &Acts, p: u16, q: u16) -> bool
@@ -40,57 +20,20 @@ pub(crate) fn acts_for(acts: &Acts, p: u16, q: u16) -> bool
     acts.acts(p, q)
 }
 
-/// Whether the one acts for one of the others.
-fn acts_for_one(acts: &Acts, p: u16, others: &[u16]) -> bool
-    ensures { result ≡ list_any (reaches acts.now.pairs p) others.now }
-{
-    let mut rest = others;
-    'others: while let Some((other, after)) = rest.split_first() {
-        if acts_for(acts, p, *other) {
-            return true;
-        }
-        rest = after;
-    }
-    false
-}
-
-/// Whether the principal acts within each of these policies.
-fn acts_in_all(acts: &Acts, p: u16, policies: &[Policy]) -> bool
-    ensures { result ≡ acts_in_all acts.now.pairs p policies.now }
-{
-    let mut rest = policies;
-    'policies: while let Some((policy, after)) = rest.split_first() {
-        if !acts_for(acts, p, policy.owner) && !acts_for_one(acts, p, policy.others.as_slice()) {
-            return false;
-        }
-        rest = after;
-    }
-    true
-}
-
 /// Whether the principal may hold objects of the class, as a store.
 fn may_hold(verdicts: &Verdicts<'_>, p: u16, class: &Class) -> bool
     ensures { result ≡ may_hold verdicts.now.start.pairs p (label_at verdicts.now.start class.now.label.number) (label_at verdicts.now.start class.now.access.number) }
 {
-    let acts = verdicts.acts();
     let label = verdicts.label(class.label.number);
     let access = verdicts.label(class.access.number);
-    acts_in_all(acts, p, label.conf.as_slice())
-        && acts_in_all(acts, p, access.conf.as_slice())
-        && acts_in_all(acts, p, label.integ.as_slice())
+    fab_places::may_hold(verdicts.acts(), p, label, access)
 }
 
-/// Whether the principal is a store.
-fn is_store(start: &Resolved, p: u16) -> bool
-    ensures { result ≡ is_store_role (option_map (λ x. x.role) (slice_get start.now.nodes p)) }
+/// Whether the node of this number is a store.
+fn is_store(start: &Resolved, number: u16) -> bool
+    ensures { result ≡ is_store_role (role_of start.now number) }
 {
-    match start.nodes.as_slice().get(usize::from(p)) {
-        None => false,
-        Some(principal) => match principal.role {
-            Role::Store { .. } => true,
-            Role::Principal | Role::Worker { .. } => false,
-        },
-    }
+    fab_places::is_store(start, number)
 }
 
 /// The label of the class of a number.
@@ -109,10 +52,10 @@ fn ask_holds(verdicts: &Verdicts<'_>, store: u16, class: u16) -> bool
     ensures { result ≡ decided verdicts.now.start (holds store class) }
 {
     let start = verdicts.start();
-    let p = verdicts.principal(store);
     match start.classes.as_slice().get(usize::from(class)) {
         None => false,
-        Some(found) => is_store(start, p) && may_hold(verdicts, p, found),
+        Some(found) => is_store(start, store)
+            && may_hold(verdicts, verdicts.principal(store), found),
     }
 }
 

@@ -1,6 +1,7 @@
 //! What statements owe.
 ghost use Rattle.std.specs.Prelude.{◌≡◌, ◌==◌, ◌∷◌, [], IfOk, OnOk};
 ghost use Rattle.std.specs.List.{list_any};
+ghost use Rattle.fab_tree.specs.declared.resolved.Statement.TheVariants.{If, While, Atomic as AtomicBlock};
 ghost use Rattle.fab_labelling.specs.Obligations.{all_flow, under as under_labels};
 ghost use Rattle.fab_labelling.specs.declared.rule.LabelRule.TheVariants.{Atomic as OfAtomic};
 ghost use Rattle.fab_check.specs.Noted.{all_noted};
@@ -130,44 +131,76 @@ fn note_statement(
             condition,
             block,
             otherwise,
-        } => {
-            let pc = note_condition(verdicts, scope, under, condition)?;
-            let inner = Under::of(&pc, under.failure);
-            note_block(verdicts, scope, &inner, block.as_slice())?;
-            note_block(verdicts, scope, &inner, otherwise.as_slice())
-        }
+        } => note_choice(verdicts, scope, under, condition, block, otherwise),
         Statement::While { condition, block } => {
-            let pc = note_condition(verdicts, scope, under, condition)?;
-            note_block(
-                verdicts,
-                scope,
-                &Under::of(&pc, under.failure),
-                block.as_slice(),
-            )
+            note_loop(verdicts, scope, under, condition, block)
         }
         Statement::Atomic {
             label,
             block,
             otherwise,
             at,
-        } => {
-            let pc = note_attempt(verdicts, under, *label, *at)?;
-            note_block(
-                verdicts,
-                scope,
-                &Under::of(&pc, Some(label.number)),
-                block.as_slice(),
-            )?;
-            note_block(
-                verdicts,
-                scope,
-                &Under::of(&pc, under.failure),
-                otherwise.as_slice(),
-            )
-        }
+        } => note_atomic(verdicts, scope, under, *label, block, otherwise, *at),
         Statement::Fail { at } => {
             note_failures(verdicts, *at, under.pc, under.failure);
             Ok(())
         }
     }
+}
+
+/// What a condition owes, and the blocks of which it decides which one runs.
+#[cycle(block)]
+#[tactic(auto, using(crate::proofs::Parts::in_parts))]
+fn note_choice(
+    verdicts: &mut Verdicts<'_>,
+    scope: &Scope<'_>,
+    under: &Under<'_>,
+    condition: &Expression,
+    block: &Seq<Statement>,
+    otherwise: &Seq<Statement>,
+) -> Result<(), NoMemory>
+    ensures { OnOk result (verdicts.new ≡ all_noted verdicts.old (statement_owes scope.now under.now (If condition.now block.now otherwise.now))) }
+{
+    let pc = note_condition(verdicts, scope, under, condition)?;
+    let inner = Under::of(&pc, under.failure);
+    note_block(verdicts, scope, &inner, block.as_slice())?;
+    note_block(verdicts, scope, &inner, otherwise.as_slice())
+}
+
+/// What a condition owes, and the block that runs as long as it is true.
+#[cycle(block)]
+#[tactic(auto, using(crate::proofs::Parts::in_parts))]
+fn note_loop(
+    verdicts: &mut Verdicts<'_>,
+    scope: &Scope<'_>,
+    under: &Under<'_>,
+    condition: &Expression,
+    block: &Seq<Statement>,
+) -> Result<(), NoMemory>
+    ensures { OnOk result (verdicts.new ≡ all_noted verdicts.old (statement_owes scope.now under.now (While condition.now block.now))) }
+{
+    let pc = note_condition(verdicts, scope, under, condition)?;
+    let inner = Under::of(&pc, under.failure);
+    note_block(verdicts, scope, &inner, block.as_slice())
+}
+
+/// What an `atomic` owes: its block may fail to its label, the other where it stands.
+#[cycle(block)]
+#[tactic(auto, using(crate::proofs::Parts::in_parts))]
+fn note_atomic(
+    verdicts: &mut Verdicts<'_>,
+    scope: &Scope<'_>,
+    under: &Under<'_>,
+    label: Use,
+    block: &Seq<Statement>,
+    otherwise: &Seq<Statement>,
+    at: u32,
+) -> Result<(), NoMemory>
+    ensures { OnOk result (verdicts.new ≡ all_noted verdicts.old (statement_owes scope.now under.now (AtomicBlock label block.now otherwise.now at))) }
+{
+    let pc = note_attempt(verdicts, under, label, at)?;
+    let inner = Under::of(&pc, Some(label.number));
+    note_block(verdicts, scope, &inner, block.as_slice())?;
+    let behind = Under::of(&pc, under.failure);
+    note_block(verdicts, scope, &behind, otherwise.as_slice())
 }

@@ -9,9 +9,9 @@ ghost use Rattle.fab_check.specs.Decided.{decided};
 ghost use Rattle.fab_check.specs.Noted.{all_noted, is_sooner, sooner, with_refusal};
 
 use crate::answers::Answers;
-use crate::placement::principal_of;
 use fab_base::{Label, Seq};
 use fab_labelling::{LabelRule, Refusal, Side};
+use fab_places::principal_of;
 use fab_principals::Acts;
 use fab_tree::resolved::Resolved;
 use std::alloc::Global;
@@ -135,7 +135,7 @@ impl<'a> Verdicts<'a> {
     pub(crate) fn principal(&self, number: u16) -> u16
         ensures { result ≡ principal_of self.now.start number }
     {
-        principal_of(self.start, number)
+        principal_of(self.start, number) as u16
     }
 
     /// Who acts for whom.

@@ -17,13 +17,13 @@ fn in_order(
     program: &Resolved,
     depth: u32,
     state: &mut State,
-    statements: &[Statement],
+    statements: &Seq<Statement>,
 ) -> Result<(), Halt>
     ensures gives { Gives result state.new (block state.old.base.tid (called program.now state.old.base.tid depth) statements.now state.old.state) }
     ensures keeps { Keeps result state.old.base state.new.base }
     ensures fuel { state.new.state.fuel ≤ state.old.state.fuel }
 {
-    for s in statements {
+    for s in statements.as_slice() {
         statement(program, depth, state, s)?;
     }
     Ok(())
@@ -59,32 +59,13 @@ fn statement(program: &Resolved, depth: u32, state: &mut State, s: &Statement) -
             condition,
             block,
             otherwise,
-        } => {
-            choice(
-                program,
-                depth,
-                state,
-                condition,
-                block.as_slice(),
-                otherwise.as_slice(),
-            )
-        }
-        Statement::While { condition, block } => {
-            repeat(program, depth, state, condition, block.as_slice())
-        }
+        } => { choice(program, depth, state, condition, block, otherwise) }
+        Statement::While { condition, block } => { repeat(program, depth, state, condition, block) }
         Statement::Atomic {
             block,
             otherwise,
             ..
-        } => {
-            atomic(
-                program,
-                depth,
-                state,
-                block.as_slice(),
-                otherwise.as_slice(),
-            )
-        }
+        } => { atomic(program, depth, state, block, otherwise) }
         Statement::Fail { .. } => {
             state.charge()?;
             Err(Halt::Ended(End::Failed))
@@ -170,8 +151,8 @@ fn choice(
     depth: u32,
     state: &mut State,
     condition: &Expression,
-    body: &[Statement],
-    otherwise: &[Statement],
+    body: &Seq<Statement>,
+    otherwise: &Seq<Statement>,
 ) -> Result<(), Halt>
     ensures gives { Gives result state.new (choice (value condition.now) (block state.old.base.tid (called program.now state.old.base.tid depth) body.now) (block state.old.base.tid (called program.now state.old.base.tid depth) otherwise.now) state.old.state) }
     ensures keeps { Keeps result state.old.base state.new.base }
@@ -193,7 +174,7 @@ fn repeat(
     depth: u32,
     state: &mut State,
     condition: &Expression,
-    body: &[Statement],
+    body: &Seq<Statement>,
 ) -> Result<(), Halt>
     ensures gives { Gives result state.new (loop (value condition.now) (block state.old.base.tid (called program.now state.old.base.tid depth) body.now) state.old.state) }
     ensures keeps { Keeps result state.old.base state.new.base }
@@ -215,8 +196,8 @@ fn atomic(
     program: &Resolved,
     depth: u32,
     state: &mut State,
-    body: &[Statement],
-    otherwise: &[Statement],
+    body: &Seq<Statement>,
+    otherwise: &Seq<Statement>,
 ) -> Result<(), Halt>
     ensures gives { Gives result state.new (attempt (block state.old.base.tid (called program.now state.old.base.tid depth) body.now) (block state.old.base.tid (called program.now state.old.base.tid depth) otherwise.now) state.old.state) }
     ensures keeps { Keeps result state.old.base state.new.base }
@@ -300,7 +281,7 @@ fn body_of(
     ensures keeps { Keeps result state.old.base state.new.base }
     ensures fuel { state.new.state.fuel ≤ state.old.state.fuel }
 {
-    in_order(program, depth, state, method.body.as_slice())?;
+    in_order(program, depth, state, &method.body)?;
     match &method.result {
         None => Ok(None),
         Some(returned) => Ok(Some(value(state, &returned.value)?)),

@@ -8,3 +8,4 @@ mod MeaningExamples
 mod MethodNumberExamples
 mod NumberExamples
 pub mod NumberedForms
+pub mod Weights

@@ -76,8 +76,8 @@ course_of r = in_turn r (map_at_start r) (requests_of r)
 
 -- ---- the text
 
--- `ended` and the result, `failed`, or `stopped` and the limit. No object is missing where requests run over all
--- objects, so that ending has no words.
+-- `ended` and the result, `failed`, or `stopped` and the limit. The ending with a missing object has no words: where
+-- each reference leads to an object, as in a bundle without faults, no object is missing and no request ends so.
 abbrev pub ending_words : Resolved → Ending → List (List ℕ)
 ending_words r (Ended result) = codes "ended" ∷ result_text r result ∷ []
 ending_words r Failed = codes "failed" ∷ []

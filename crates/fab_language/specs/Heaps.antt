@@ -66,7 +66,7 @@ changed h = length h.written + length h.made
 abbrev pub is_spent : Heap → Bool
 is_spent h = nat_le 256 (changed h)
 
--- how many objects this site has made
+-- how many objects that were made this site has in the heap; those that a failure took back don't count
 abbrev pub index_at : ℕ → Heap → ℕ
 index_at site h = count_by (λ o. o.site == site) h.made
 

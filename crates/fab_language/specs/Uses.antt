@@ -1,7 +1,8 @@
 -- Which number each name has where it is used.
 --
 -- A name has the number of what it stands for: how many of the same kind stand before it, from 0, in the order of
--- the text. A name that nothing has gets the number behind the last.
+-- the text. A name that nothing has gets the number behind the last. A plain principal has no number of its own among
+-- workers and stores: where one of these is wanted, it gets that of the next behind it, or the one behind the last.
 use Rattle.std.specs.Prelude.{ℕ, List, [], count_by, take, Option, Some, None}
 use Rattle.fab_tree.specs.declared.name.Name.{Name}
 use Rattle.fab_tree.specs.declared.declaration.Node.{Node}

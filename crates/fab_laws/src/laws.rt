@@ -22,16 +22,16 @@ ghost use Rattle.fab_laws.specs.Runs.{state_behind};
 ghost use Rattle.fab_laws.specs.Shapes.{AreShaped, IsFitting, KeepsShape, is_fitting};
 
 /// A request does over many objects what it does over few, if they agree on what it touched and
-/// lacked: so where the few are a part of the many, unless one was missing that is now there. What is
-/// missing isn't in the map.
+/// lacked and, where it was stopped for one read too many, on all of the few: so where the few are a
+/// part of the many, unless one was missing that is now there. What is missing isn't in the map.
 pub fn same_until_missing()
     ensures agreeing { (program : Resolved) (request : Request) (tid : Tid) (fuel : ℕ) (few many : FlatMap) → let over = λ (m : FlatMap). meaning program m request tid fuel in AgreesOn few many (over few) → IsSameOver many (over few) (over many) }
     ensures part { (program : Resolved) (request : Request) (tid : Tid) (fuel : ℕ) (few many : FlatMap) → let over = λ (m : FlatMap). meaning program m request tid fuel in IsPart few many → LacksToo many (over few) → IsSameOver many (over few) (over many) }
     ensures missing { (program : Resolved) (known : FlatMap) (request : Request) (tid : Tid) (fuel site : ℕ) (o : Oid) → (meaning program known request tid fuel).ending ≡ Missing site o → get known o ≡ None }
 {}
 
-/// Then the map behind it over the many is the many with what it wrote and made over the few put
-/// into them.
+/// If they agree so, and the names of both maps ascend, the map behind it over the many is the many
+/// with what it wrote and made over the few put into them.
 pub fn changes_carry_over()
     ensures { (program : Resolved) (request : Request) (tid : Tid) (fuel : ℕ) (few many : FlatMap) → let over = λ (m : FlatMap). meaning program m request tid fuel in AgreesOn few many (over few) → ascends few ≡ true → ascends many ≡ true → (over many).map ≡ with_changes (over few) many }
 {}

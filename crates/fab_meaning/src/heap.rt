@@ -87,7 +87,7 @@ impl Heap {
         self.written.len() + self.made.len() >= MAX_CHANGED
     }
 
-    /// How many objects this site has made.
+    /// How many objects that were made this site has in the heap.
     pub(crate) fn index_at(&self, site: u16) -> u16
         ensures { result ≡ index_at site self.now }
     {

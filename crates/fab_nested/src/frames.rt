@@ -146,7 +146,7 @@ impl Frames {
         self.touches.pairs()
     }
 
-    /// How many objects this site has made.
+    /// How many objects that were made this site has in the heap.
     pub fn made_at(&self, site: u16) -> u16
         ensures { result ≡ index_at site self.now.now }
     {

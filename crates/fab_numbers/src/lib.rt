@@ -16,5 +16,5 @@ mod sites;
 mod statements;
 mod whole;
 
-pub use laws::{numbers_have_names, sites_count_up};
+pub use laws::{labels_stand_at_their_sites, numbers_have_names, sites_count_up};
 pub use whole::numbered;

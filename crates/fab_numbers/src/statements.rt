@@ -1,5 +1,8 @@
 //! Statements with numbers for names.
-ghost use Rattle.fab_language.specs.MethodNumbers.{block_of, statement_of};
+ghost use Rattle.fab_language.specs.MethodNumbers.{block_of, expression_of, expressions_of, made_of, right_of, statement_of};
+ghost use Rattle.fab_language.specs.Uses.{local_number, method_use};
+ghost use Rattle.fab_tree.specs.declared.resolved.Right.TheVariants.{Plain};
+ghost use Rattle.fab_tree.specs.declared.resolved.Statement.TheVariants as numbered;
 ghost use Rattle.fab_tree.specs.declared.statement.Statement.TheVariants.{Write, If, While, Atomic};
 ghost use Rattle.fab_numbers.specs.Gives.{Gives};
 
@@ -10,7 +13,7 @@ use crate::scope::Scope;
 use crate::sites::{Refusal, next_site};
 use fab_base::Seq;
 use fab_tree::resolved::{Right as NumberedRight, Statement as NumberedStatement};
-use fab_tree::{Expression, Name, Statement};
+use fab_tree::{Expression, Name, Right, Statement};
 use std::alloc::Global;
 
 /// The statements of a block.
@@ -46,25 +49,16 @@ fn numbered_statement(
             value,
             at,
             ..
-        } => Ok(NumberedStatement::Assign {
-            local: scope.locals.number(name),
-            right: NumberedRight::Plain(numbered_expression(alloc, scope, sites, value)?),
-            at: *at,
-        }),
-        Statement::Assign { name, right } => Ok(NumberedStatement::Assign {
-            local: scope.locals.number(name),
-            right: numbered_right(alloc, scope, sites, right)?,
-            at: name.at,
-        }),
+        } => numbered_declaration(alloc, scope, sites, name, value, *at),
+        Statement::Assign { name, right } => numbered_assignment(alloc, scope, sites, name, right),
         Statement::Write {
             object,
             field,
             value,
         } => numbered_write(alloc, scope, sites, object, field, value),
-        Statement::Call { method, arguments } => Ok(NumberedStatement::Call {
-            method: method_use(scope.tables, method),
-            arguments: numbered_expressions(alloc, scope, sites, arguments.as_slice())?,
-        }),
+        Statement::Call { method, arguments } => {
+            numbered_call(alloc, scope, sites, method, arguments.as_slice())
+        }
         Statement::If {
             condition,
             block,
@@ -81,6 +75,57 @@ fn numbered_statement(
         } => numbered_atomic(alloc, scope, sites, label, block, otherwise, *at),
         Statement::Fail { at } => Ok(NumberedStatement::Fail { at: *at }),
     }
+}
+
+/// What a declared local gets.
+fn numbered_declaration(
+    alloc: Global,
+    scope: &Scope<'_, '_>,
+    sites: &mut u16,
+    name: &Name,
+    value: &Expression,
+    at: u32,
+) -> Result<NumberedStatement, Refusal>
+    ensures { Gives result sites.new (made_of (λ v. numbered.Assign (local_number scope.now.locals name.now) (Plain v) at) (expression_of scope.now.tables.now scope.now.locals value.now) sites.old) }
+{
+    Ok(NumberedStatement::Assign {
+        local: scope.locals.number(name),
+        right: NumberedRight::Plain(numbered_expression(alloc, scope, sites, value)?),
+        at,
+    })
+}
+
+/// What a local gets.
+fn numbered_assignment(
+    alloc: Global,
+    scope: &Scope<'_, '_>,
+    sites: &mut u16,
+    name: &Name,
+    right: &Right,
+) -> Result<NumberedStatement, Refusal>
+    ensures { Gives result sites.new (made_of (λ v. numbered.Assign (local_number scope.now.locals name.now) v name.now.at) (right_of scope.now.tables.now scope.now.locals right.now) sites.old) }
+{
+    Ok(NumberedStatement::Assign {
+        local: scope.locals.number(name),
+        right: numbered_right(alloc, scope, sites, right)?,
+        at: name.at,
+    })
+}
+
+/// A method is called for what it does.
+fn numbered_call(
+    alloc: Global,
+    scope: &Scope<'_, '_>,
+    sites: &mut u16,
+    method: &Name,
+    arguments: &[Expression],
+) -> Result<NumberedStatement, Refusal>
+    ensures { Gives result sites.new (made_of (numbered.Call (method_use scope.now.tables.now method.now)) (expressions_of scope.now.tables.now scope.now.locals arguments.now) sites.old) }
+{
+    Ok(NumberedStatement::Call {
+        method: method_use(scope.tables, method),
+        arguments: numbered_expressions(alloc, scope, sites, arguments)?,
+    })
 }
 
 /// What a field gets. The write takes its site before what is written takes its own.

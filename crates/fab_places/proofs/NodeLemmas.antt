@@ -31,6 +31,9 @@ place_is n p (x ∷ xs) = elim (cases_Bool (has_number n x)) [
 pub principal_is : (r : Resolved) (n : ℕ) → principal_of r n ≡ position_or_len (has_number n) r.nodes
 principal_is r n = omega (arith, place_is n 0 r.nodes)
 
+pub principal_within : (r : Resolved) (n : ℕ) → principal_of r n ≤ length r.nodes
+principal_within r n = let found = prefix_len-le-length (λ x. not (has_number n x)) r.nodes in omega (arith, principal_is r n, found)
+
 or_end : (k end : ℕ) → k ≤ end → unwrap_or (cond (ltb k end) (Some k) None) end ≡ k
 or_end k end within = elim (cases_Bool (ltb k end)) [ inl below ↦ rw below refl | inr past ↦ rw past (omega (arith, ltb-false k end past)) ]
 

@@ -13,5 +13,6 @@ mod tests;
 pub use classes::rights;
 pub use laws::{flows_narrow_readers, flows_widen_writers, outsiders_write_and_hold_nothing};
 pub use masks::Seen;
+pub use nodes::{is_store, principal_of};
 pub use policies::{may_hold, readers, writers};
 pub use sights::{excluding, seen};

@@ -25,8 +25,9 @@ fn is_numbered(principal: &Principal, number: u16) -> bool
 
 /// The number among the principals of the worker or store of this number; that of no principal,
 /// where there is none.
-fn principal_of(start: &Resolved, number: u16) -> usize
-    ensures { result ≡ principal_of start.now number }
+pub fn principal_of(start: &Resolved, number: u16) -> usize
+    ensures place { result ≡ principal_of start.now number }
+    ensures within { result ≤ length start.now.nodes }
 {
     let nodes = start.nodes.as_slice();
     nodes
@@ -51,8 +52,9 @@ fn is_worker(start: &Resolved, number: u16) -> bool
     matches!(role_of(start, number), Some(Role::Worker { .. }))
 }
 
-fn is_store(start: &Resolved, number: u16) -> bool
-    ensures { IsTrue result ↔ IsStore start.now number }
+/// Whether the node of this number is a store.
+pub fn is_store(start: &Resolved, number: u16) -> bool
+    ensures exact { IsTrue result ↔ IsStore start.now number }
 {
     matches!(role_of(start, number), Some(Role::Store { .. }))
 }

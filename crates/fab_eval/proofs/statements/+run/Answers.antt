@@ -11,15 +11,19 @@ pub in_order-returns-in_err-statement-clause-gives : goal.in_order-returns-in_er
 in_order-returns-in_err-statement-clause-gives t c =
     let p = err_from_is_err_and c.from_residual.result c.from_residual.ensures.1 in
     let b = c.args.state.now.base in
+    let le = rw c.as_slice-s-items.ensures at c.loop-s-test.true in
+    let is = rw c.as_slice-s-items.ensures at c.s-item.is in
     let g = in_same (Err c.in_err-statement.field-0.0) c.statement.new.state (λ (i : Tid). statement i (called c.args.program.now i c.args.depth) c.s-item.result c.loop-s.state.state) c.loop-s.state.base b c.loop-s.invariant.base c.in_err-statement.ensures.gives in
-    rw (p.1, p.2) (block_ends b.tid (called c.args.program.now b.tid c.args.depth) c.args.statements.now c.loop-s.s-index c.s-item.result c.loop-s.state.state c.statement.new.state c.in_err-statement.field-0.0 _ c.loop-s-test.true c.s-item.is g c.loop-s.invariant.same)
+    rw (p.1, p.2) (block_ends b.tid (called c.args.program.now b.tid c.args.depth) c.args.statements.now c.loop-s.s-index c.s-item.result c.loop-s.state.state c.statement.new.state c.in_err-statement.field-0.0 _ le is g c.loop-s.invariant.same)
 
 pub in_order-loop-s-preserved : goal.in_order-loop-s-preserved
 in_order-loop-s-preserved t c =
     let b = c.args.state.now.base in
+    let le = rw c.as_slice-s-items.ensures at c.loop-s-test.true in
+    let is = rw c.as_slice-s-items.ensures at c.s-item.is in
     let g = in_same (Ok c.in_ok-statement.field-0) c.statement.new.state (λ (i : Tid). statement i (called c.args.program.now i c.args.depth) c.s-item.result c.loop-s.state.state) c.loop-s.state.base b c.loop-s.invariant.base c.in_ok-statement.ensures.gives in
     record {
-      same = block_goes_on b.tid (called c.args.program.now b.tid c.args.depth) c.args.statements.now c.loop-s.s-index c.s-item.result c.loop-s.state.state c.statement.new.state.state _ c.loop-s-test.true c.s-item.is g c.loop-s.invariant.same;
+      same = block_goes_on b.tid (called c.args.program.now b.tid c.args.depth) c.args.statements.now c.loop-s.s-index c.s-item.result c.loop-s.state.state c.statement.new.state.state _ le is g c.loop-s.invariant.same;
       base = c.in_ok-statement.ensures.keeps ∙ c.loop-s.invariant.base;
       fuel = omega (arith, c.in_ok-statement.ensures.fuel);
     }
@@ -28,7 +32,7 @@ pub right-returns-in-New-clause-gives : goal.right-returns-in-New-clause-gives
 right-returns-in-New-clause-gives t c = rw (c.in-New.is, ← c.as_slice-in-New.ensures) c.making.ensures.gives
 
 pub statement-returns-in-If-clause-gives : goal.statement-returns-in-If-clause-gives
-statement-returns-in-If-clause-gives t c = rw (c.in-If.is, if_means, ← c.as_slice-in-If.ensures, ← c.as_slice-in-If-2.ensures) c.choice.ensures.gives
+statement-returns-in-If-clause-gives t c = rw (c.in-If.is, if_means) c.choice.ensures.gives
 
 pub choice-returns-then-holds-clause-gives : goal.choice-returns-then-holds-clause-gives
 choice-returns-then-holds-clause-gives t c =

@@ -1,9 +1,25 @@
-use Rattle.std.proofs.Common.{◌≡◌, ◌∷◌, ◌+◌, drop, sym, ap, ◌∙◌}
+use Rattle.std.proofs.Common.{◌≡◌, ◌∷◌, ◌+◌, ◌*◌, ◌<◌, arith, rules, drop, sym, ap, ◌∙◌, subst, Option, IfOk}
+use Rattle.fab_tree.specs.declared.statement.Statement.{Statement}
+use Rattle.fab_language.specs.declared.rule.Fault.{Fault}
 use Rattle.fab_language.specs.Heads.{heads_in, walk}
+use Rattle.fab_language.proofs.Weights.{weight, weight_within}
 use Rattle.fab_faults.specs.HeadFaults.{among}
 use Rattle.fab_rules.specs.First.{first_from}
-use Rattle.fab_faults.proofs.Walks.{found_next, kept_further, next_left}
+use Rattle.fab_faults.proofs.Walks.{found_atomic, found_next, kept_further, next_left}
 use Rattle.fab_faults.proofs.walk.+walk.Goals as goal
+
+pub in_row-in_statement-requires : goal.in_row-in_statement-requires
+in_row-in_statement-requires g t c =
+    let w = weight_within c.args.statements.now c.loop-statement.statement-index c.statement-item.result c.loop-statement-test.true c.statement-item.is in
+    let h : 4 * weight c.statement-item.result < t = omega (arith, w, c.decreases) in
+    λ κs lives. (h, search rules)
+
+pub in_statement-returns-in-Atomic-clause-first : goal.in_statement-returns-in-Atomic-clause-first
+in_statement-returns-in-Atomic-clause-first g t c =
+    let says = g.R.HeadRule.says c.args.rule.now in
+    let known = c.args.known.now in
+    let parts = ap (λ (x : Statement). first_from c.args.first (among says (walk x known).heads)) c.in-Atomic.is ∙ found_atomic says c.args.first known c.in-Atomic.label c.in-Atomic.block c.in-Atomic.otherwise c.in-Atomic.at in
+    subst (λ (f : Option Fault). IfOk c.in_attempt.result (λ r. r ≡ f)) (sym parts) c.in_attempt.ensures.first
 
 pub in_row-loop-statement-preserved : goal.in_row-loop-statement-preserved
 in_row-loop-statement-preserved g t c =

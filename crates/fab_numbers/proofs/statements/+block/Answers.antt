@@ -5,7 +5,7 @@ use Rattle.fab_tree.specs.declared.statement.Statement.TheVariants.{If, While, A
 use Rattle.fab_language.specs.MethodNumbers.{expression_of, statement_of, block_of}
 use Rattle.fab_numbers.proofs.InTurn.{refused, grows, ends_within, goes_on}
 use Rattle.fab_numbers.proofs.SitesTaken.{block_takes}
-use Rattle.fab_numbers.proofs.Weights.{weight, weight_within}
+use Rattle.fab_language.proofs.Weights.{weight, weight_within}
 use Rattle.fab_numbers.proofs.Within.{if_first, if_second, while_first, atomic_first}
 use Rattle.fab_numbers.proofs.statements.+block.Goals as goal
 

@@ -1,6 +1,6 @@
 use Rattle.std.proofs.Common.{◌≡◌, ◌+◌, ◌*◌, ◌++◌, drop}
 use Rattle.fab_language.specs.MethodNumbers.{block_of}
-use Rattle.fab_numbers.proofs.Weights.{weight, weights, other_weights}
+use Rattle.fab_language.proofs.Weights.{weight, weights, other_weights}
 use Rattle.fab_numbers.proofs.statements.+block.Given as goal
 
 abbrev pub decreases-numbered_statement : goal.decreases-numbered_statement

@@ -7,5 +7,5 @@ use Rattle.fab_places.proofs.nodes.is_among.Goals as goal
 pub returns-else-place-lt64 : goal.returns-else-place-lt64
 returns-else-place-lt64 c = (
   λ t. absurd (grind (arith, nat_tests)),
-  λ bit. let below = bit_below c.args.principals (principal_of c.args.start.now c.args.number) c.ranges.principals.fits bit in absurd (omega (arith, below, c.principal_of-place.ensures)),
+  λ bit. let below = bit_below c.args.principals (principal_of c.args.start.now c.args.number) c.ranges.principals.fits bit in absurd (omega (arith, below, c.principal_of-place.ensures.place)),
 )
