@@ -103,9 +103,3 @@ pub derived_is : (o p : Oid) → derived_cmp o p ≡ name_cmp o p
 derived_is o p =
     ap (λ r. ordering_then (nat_cmp o.store p.store) (ordering_then (nat_cmp o.class p.class) (ordering_then (nat_cmp o.worker p.worker)
     (ordering_then (nat_cmp o.boot p.boot) (ordering_then (nat_cmp o.number p.number) (ordering_then (nat_cmp o.site p.site) r)))))) (then_equal (nat_cmp o.index p.index))
-
-pub derived_equal : (o p : Oid) → derived_cmp o p ≡ Equal → o ≡ p
-derived_equal o p h = one_name o p (same_is o p ∙ ap is_eq (sym (derived_is o p) ∙ h))
-
-pub derived_itself : (o : Oid) → derived_cmp o o ≡ Equal
-derived_itself o = derived_is o o ∙ tied_itself name_cmp_total o

@@ -1,5 +1,5 @@
 -- Rows with versions: what is found at a place, and what a write there leaves.
-use Rattle.std.proofs.Common.{◌≡◌, ℕ, ◌<◌, ◌≤◌, Bool, true, false, [], ◌∷◌, get_or, set, Some, None, if◌then◌else◌, IsSome, is_some, refl, sym, ◌∙◌, ap, subst, arith}
+use Rattle.std.proofs.Common.{◌≡◌, ℕ, ◌<◌, ◌≤◌, Bool, true, false, [], ◌∷◌, get_or, set, Option, Some, None, if◌then◌else◌, IsSome, is_some, refl, sym, ◌∙◌, ap, arith}
 use Rattle.std.specs.List.{AllByRecursion}
 use Rattle.fab_base.specs.declared.object.Oid.{Oid}
 use Rattle.fab_base.specs.declared.object.Object.{Object}
@@ -7,22 +7,24 @@ use Rattle.fab_base.specs.FlatMap.{is_same}
 use Rattle.fab_protocol.specs.Tables.{row_of, placed, ascends}
 use Rattle.fab_protocol.specs.Versions.{Row, Rows, name_of, version_of, risen}
 use Rattle.fab_versions.specs.Places.{IsAt}
-use Rattle.fab_versions.proofs.Rows.{row_here, row_past}
+use Rattle.fab_versions.proofs.Rows.{row_here, row_past, row_of-placed_same, row_of-placed_other}
 use Rattle.fab_versions.proofs.Found.{row_at, placed_at}
 
--- the version of a name is that of the row that is found
-pub version_found : (rows : Rows) (o : Oid) (row : Row) → row_of name_of rows o ≡ Some row → version_of rows o ≡ row.1
-version_found [] o row h = let no : None ≡ Some row = h in cc
-version_found (first ∷ rows) o row h = by_test (version_found rows o row) (is_same first.0 o) refl
+-- the version of a name is that of its row, 0 where there is none
+abbrev pub version_in : Option Row → ℕ
+version_in None = 0
+version_in (Some row) = row.1
+
+pub version_by_row : (rows : Rows) (o : Oid) → version_of rows o ≡ version_in (row_of name_of rows o)
+version_by_row [] o = refl
+version_by_row (first ∷ rows) o = by_test (version_by_row rows o) (is_same first.0 o) refl
   where
-    by_test : (row_of name_of rows o ≡ Some row → version_of rows o ≡ row.1) → (b : Bool) → is_same first.0 o ≡ b → version_of (first ∷ rows) o ≡ row.1
-    by_test rest true e =
-        let one : Some first ≡ Some row = sym (row_here name_of first rows o e) ∙ h in
-        let same : first ≡ row = cc in
-        ap (λ b. if b then first.1 else version_of rows o) e ∙ ap (λ r. r.1) same
-    by_test rest false e =
-        ap (λ b. if b then first.1 else version_of rows o) e
-        ∙ rest (sym (row_past name_of first rows o e) ∙ h)
+    by_test : version_of rows o ≡ version_in (row_of name_of rows o) → (b : Bool) → is_same first.0 o ≡ b → version_of (first ∷ rows) o ≡ version_in (row_of name_of (first ∷ rows) o)
+    by_test rest true e = ap (λ b. if b then first.1 else version_of rows o) e ∙ sym (ap version_in (row_here name_of first rows o e))
+    by_test rest false e = ap (λ b. if b then first.1 else version_of rows o) e ∙ rest ∙ sym (ap version_in (row_past name_of first rows o e))
+
+pub version_found : (rows : Rows) (o : Oid) (row : Row) → row_of name_of rows o ≡ Some row → version_of rows o ≡ row.1
+version_found rows o row h = version_by_row rows o ∙ ap version_in h
 
 -- d is the row at a place
 module _ (rows : Rows) (h : ascends name_of rows ≡ true) (o : Oid) (i : ℕ) (at : IsAt name_of rows o i) (d : Row) (e : d ≡ get_or rows i d) where
@@ -36,14 +38,11 @@ module _ (rows : Rows) (h : ascends name_of rows ≡ true) (o : Oid) (i : ℕ) (
 
 -- ---- what a version says of its name
 pub present_from_version : (rows : Rows) (o : Oid) → 0 < version_of rows o → IsSome (row_of name_of rows o)
-present_from_version [] o h = absurd (omega arith)
-present_from_version (first ∷ rows) o h = by_test (present_from_version rows o) (is_same first.0 o) refl
+present_from_version rows o h = by_row (row_of name_of rows o) refl
   where
-    by_test : (0 < version_of rows o → IsSome (row_of name_of rows o)) → (b : Bool) → is_same first.0 o ≡ b → IsSome (row_of name_of (first ∷ rows) o)
-    by_test rest true e = ap is_some (row_here name_of first rows o e)
-    by_test rest false e =
-        ap is_some (row_past name_of first rows o e)
-        ∙ rest (subst (λ v. 0 < v) (ap (λ b. if b then first.1 else version_of rows o) e) h)
+    by_row : (found : Option Row) → row_of name_of rows o ≡ found → IsSome (row_of name_of rows o)
+    by_row None e = let none : version_of rows o ≡ 0 = version_by_row rows o ∙ ap version_in e in absurd (omega arith)
+    by_row (Some row) e = ap is_some e
 
 -- where versions begin at 1, a version of 0 is that of no row
 pub absent_from_version : (rows : Rows) (o : Oid) → AllByRecursion (λ row. 1 ≤ row.1) rows → version_of rows o ≡ 0 → row_of name_of rows o ≡ None
@@ -52,8 +51,16 @@ absent_from_version (first ∷ rows) o begun h = by_test (absent_from_version ro
   where
     by_test : (version_of rows o ≡ 0 → row_of name_of rows o ≡ None) → (b : Bool) → is_same first.0 o ≡ b → row_of name_of (first ∷ rows) o ≡ None
     by_test rest true e =
-        let here : first.1 ≡ 0 = sym (ap (λ b. if b then first.1 else version_of rows o) e) ∙ h in
+        let here : first.1 ≡ 0 = sym (version_found (first ∷ rows) o first (row_here name_of first rows o e)) ∙ h in
         absurd (omega (arith, begun.0))
     by_test rest false e =
         row_past name_of first rows o e
         ∙ rest (sym (ap (λ b. if b then first.1 else version_of rows o) e) ∙ h)
+
+-- ---- versions behind a write
+pub version_of-placed_same : (r : Row) (rows : Rows) → version_of (placed name_of r rows) r.0 ≡ r.1
+version_of-placed_same r rows = version_found (placed name_of r rows) r.0 r (row_of-placed_same name_of r rows)
+
+pub version_of-placed_other : (r : Row) (p : Oid) (rows : Rows) → is_same r.0 p ≡ false → version_of (placed name_of r rows) p ≡ version_of rows p
+version_of-placed_other r p rows h =
+    version_by_row (placed name_of r rows) p ∙ ap version_in (row_of-placed_other name_of r p rows h) ∙ sym (version_by_row rows p)
