@@ -17,7 +17,7 @@ use Rattle.std.proofs.lemmas.List.Elements.{All-from_recursion}
 use Rattle.fab_base.specs.FieldSpelling.{KeepsItems}
 use Rattle.fab_base.specs.Tids.{is_above}
 use Rattle.fab_protocol.specs.Versions.{risen}
-use Rattle.fab_protocol.specs.Stores.{Shelf, shelf_at_start, keeps, vote, says, asks, silent, replies, votes, start_of, last_of}
+use Rattle.fab_protocol.specs.Stores.{Shelf, shelf_at_start, keeps, vote, says, asks, silent, replies, records, votes, start_of, last_of}
 use Rattle.fab_protocol.specs.Shelves.{IsShelf}
 use Rattle.fab_protocol.specs.Tables.{row_of}
 use Rattle.fab_protocol.specs.Versions.{name_of}
@@ -355,3 +355,16 @@ commit_leaves = unchanged rights 1 P prepared_is_shelf t both_items (1, lit≤ t
 -- of a number past the nodes nothing is remembered, so its next attempt would be new again
 past_the_nodes : last_of (keeps (e.Refused (attempt 64 1 1)) S) 64 ≡ start_of 64 0
 past_the_nodes = refl
+
+-- a boot that is heard behind its first attempt frees that attempt, whose tid is new again
+abbrev late : Shelf
+late = keeps (e.BootSeen 0 1) P
+
+late_boot_frees : map (λ p. p.0) late.prepared ≡ other ∷ []
+late_boot_frees = refl
+
+late_boot_forgets : is_above t (last_of late 0) ≡ true
+late_boot_forgets = refl
+
+late_boot_is_heard : says rights 1 0 (Boot 1) P ≡ records (e.BootSeen 0 1) []
+late_boot_is_heard = refl

@@ -54,8 +54,8 @@ pub fn sender_in(senders: &[Sender], node: u16) -> Sender
 }
 
 /// The last tid of its worker is this one.
-pub fn set_last(senders: &mut [Sender], tid: Tid)
-    ensures { senders.new ≡ with_last tid senders.old }
+pub fn set_last(senders: &mut Vec<Sender>, tid: Tid)
+    ensures { senders.new.items ≡ with_last tid senders.old.items }
 {
     let at = usize::from(tid.worker);
     if at < senders.len() {
@@ -64,8 +64,8 @@ pub fn set_last(senders: &mut [Sender], tid: Tid)
 }
 
 /// A worker has begun this boot.
-pub fn set_boot(senders: &mut [Sender], worker: u16, boot: u32)
-    ensures { senders.new ≡ with_boot worker boot senders.old }
+pub fn set_boot(senders: &mut Vec<Sender>, worker: u16, boot: u32)
+    ensures { senders.new.items ≡ with_boot worker boot senders.old.items }
 {
     let at = usize::from(worker);
     if at < senders.len() {

@@ -134,16 +134,16 @@ impl Store {
         match entry {
             Entry::Prepared { tid, items } => {
                 let _ = self.locks.hold(tid, items);
-                set_last(self.senders.as_mut_slice(), tid);
+                set_last(&mut self.senders, tid);
             }
-            Entry::Refused { tid } => set_last(self.senders.as_mut_slice(), tid),
+            Entry::Refused { tid } => set_last(&mut self.senders, tid),
             Entry::Applied { tid } => apply(&mut self.table, &mut self.locks, tid),
             Entry::Released { tid } => {
                 let _ = self.locks.free(tid);
             }
             Entry::BootSeen { worker, boot } => {
                 self.locks.free_all(worker);
-                set_boot(self.senders.as_mut_slice(), worker, boot);
+                set_boot(&mut self.senders, worker, boot);
             }
             _ => {}
         }
