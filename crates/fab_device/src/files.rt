@@ -11,6 +11,9 @@ use std::io::{Read, Seek, SeekFrom, Write};
 use std::rt::Files;
 use std::{fs, io};
 
+#[cfg(test)]
+mod tests;
+
 /// A journal over an open file, with a copy of what was appended.
 #[derive(Drop)]
 pub struct FileJournal<F: Read + Write + Seek + OpenFile + Drop> {

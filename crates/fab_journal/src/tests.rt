@@ -187,3 +187,13 @@ fn a_failing_journal(rt: HostRuntime) -> Result<(), Fail> {
     assert_eq!(rt; journal.calls(), 5);
     Ok(())
 }
+
+/// A place is told.
+#[test]
+fn errors_as_they_are_shown(rt: HostRuntime) -> Result<(), Fail> {
+    let bad = format!(in rt.alloc(); "{}", RecordError::Bad { at: 12 })?;
+    assert_eq!(rt; bad.as_str(), "bad journal at byte 12");
+    let memory = format!(in rt.alloc(); "{}", RecordError::Memory)?;
+    assert_eq!(rt; memory.as_str(), "out of memory");
+    Ok(())
+}

@@ -52,6 +52,7 @@ fn reply<S: Source>(
     ensures taken { TakesAtMost 4194305 (S.left source.old) (S.left source.new) }
     ensures later { S.faults source.old ≤ S.faults source.new }
     ensures failed { IsErrOf result Fault → Rose (S.faults source.old) (S.faults source.new) }
+    ensures unfailed { (IsErrOf result Fault → ⊥) → S.faults source.new ≡ S.faults source.old }
     ensures was_asked { IsErrOf result Fault → asked ≢ Nothing }
 {
     match asked {
@@ -79,6 +80,8 @@ fn run<S: Source, K: Sink>(
     ensures write { result ≡ WriteFault → Rose (K.faults sink.old) (K.faults sink.new) }
     ensures source_faults { S.faults source.old ≤ S.faults source.new }
     ensures sink_faults { K.faults sink.old ≤ K.faults sink.new }
+    ensures source_unfailed { result ≢ ReadFault → S.faults source.new ≡ S.faults source.old }
+    ensures sink_unfailed { result ≢ WriteFault → K.faults sink.new ≡ K.faults sink.old }
 {
     let (status, text) = match reply(alloc, asked, source) {
         Ok(reply) => reply,
@@ -135,6 +138,10 @@ pub fn answer<S: Source, K: Sink>(
     ensures memory { result ≡ Memory → Keeps (K.written sink.old) (K.written sink.new) ⊎ RepliesInPart asked (S.left source.old) (S.left source.new) (K.written sink.old) (K.written sink.new) }
     ensures source_faults { S.faults source.old ≤ S.faults source.new }
     ensures sink_faults { K.faults sink.old ≤ K.faults sink.new }
+
+    // The counts stay at each other status, so a fault is told as one, and not as want of memory.
+    ensures source_unfailed { result ≢ ReadFault → S.faults source.new ≡ S.faults source.old }
+    ensures sink_unfailed { result ≢ WriteFault → K.faults sink.new ≡ K.faults sink.old }
 {
     run(alloc, asked, source, sink)
 }

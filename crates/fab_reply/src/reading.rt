@@ -1,5 +1,5 @@
 //! All of a source.
-ghost use Rattle.std.specs.Prelude.{◌≡◌, ◌⊎◌, ◌≤◌, ◌<◌, ◌-◌, IfOk, OnErr, IsErrOf, length, take};
+ghost use Rattle.std.specs.Prelude.{◌≡◌, ◌⊎◌, ◌≤◌, ◌<◌, ◌-◌, IfOk, OnOk, OnErr, IsErrOf, length, take};
 ghost use Rattle.std.specs.Io.KnownBytes.{Consumes, IsAtEnd, Keeps};
 ghost use Rattle.fab_base.specs.Faults.{Rose, HasCause};
 ghost use Rattle.fab_reply.specs.declared.reading.ReadError.TheVariants.{Memory, Fault};
@@ -51,6 +51,7 @@ pub fn read_all<S: Source>(alloc: Global, source: &mut S) -> Result<Vec<u8>, Rea
     ensures taken { TakesAtMost 4194305 (S.left source.old) (S.left source.new) }
     ensures later { S.faults source.old ≤ S.faults source.new }
     ensures failed { IsErrOf result Fault → Rose (S.faults source.old) (S.faults source.new) }
+    ensures unfailed { (IsErrOf result Fault → ⊥) → S.faults source.new ≡ S.faults source.old }
 {
     let mut buf = room(alloc, PIECE)?;
     read_by(alloc, source, &mut buf)
@@ -69,6 +70,7 @@ fn read_by<S: Source>(alloc: Global, source: &mut S, buf: &mut [u8]) -> Result<V
     ensures taken { TakesAtMost 4194305 (S.left source.old) (S.left source.new) }
     ensures later { S.faults source.old ≤ S.faults source.new }
     ensures failed { IsErrOf result Fault → Rose (S.faults source.old) (S.faults source.new) }
+    ensures unfailed { (IsErrOf result Fault → ⊥) → S.faults source.new ≡ S.faults source.old }
 {
     let mut bytes = Vec::new(alloc);
     'pieces: while bytes.len() < LIMIT {
@@ -91,6 +93,7 @@ fn read_piece<S: Source>(source: &mut S, buf: &mut [u8], most: usize) -> Result<
     ensures end { IfOk result (λ n. n ≡ 0 → IsAtEnd (S.left source.new)) }
     ensures kept { OnErr result (Keeps (S.left source.old) (S.left source.new)) }
     ensures cause { HasCause (S.faults source.old) (S.faults source.new) result }
+    ensures success { OnOk result (S.faults source.new ≡ S.faults source.old) }
 {
     let room = buf.len().min(most);
     source.read(&mut buf[..room])

@@ -13,6 +13,7 @@ pub fn write_all<K: Sink>(sink: &mut K, text: &[u8]) -> Result<(), SinkError>
     ensures front { OnErr result (WritesFront (K.written sink.old) (K.written sink.new) text.now) }
     ensures later { K.faults sink.old ≤ K.faults sink.new }
     ensures failed { IsErrOf result Failed → Rose (K.faults sink.old) (K.faults sink.new) }
+    ensures unfailed { (IsErrOf result Failed → ⊥) → K.faults sink.new ≡ K.faults sink.old }
 {
     let mut rest = text;
     while !rest.is_empty() {

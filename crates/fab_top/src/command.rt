@@ -54,6 +54,10 @@ pub fn fab<S: Source, K: Sink>(
     ensures memory { result ≡ Memory → Keeps (K.written sink.old) (K.written sink.new) ⊎ RepliesInPart (asked_by words.now) (S.left source.old) (S.left source.new) (K.written sink.old) (K.written sink.new) }
     ensures source_faults { S.faults source.old ≤ S.faults source.new }
     ensures sink_faults { K.faults sink.old ≤ K.faults sink.new }
+
+    // The counts stay at each other status, so a fault is told as one, and not as want of memory.
+    ensures source_unfailed { result ≢ ReadFault → S.faults source.new ≡ S.faults source.old }
+    ensures sink_unfailed { result ≢ WriteFault → K.faults sink.new ≡ K.faults sink.old }
 {
     match asked_command(alloc, words) {
         Ok(asked) => answer(alloc, asked, source, sink),

@@ -187,3 +187,13 @@ fn wrong_bytes(rt: HostRuntime) -> Result<(), Fail> {
     assert_eq!(rt; place(rt.alloc(), many)?, Some(13));
     Ok(())
 }
+
+/// A place is told.
+#[test]
+fn errors_as_they_are_shown(rt: HostRuntime) -> Result<(), Fail> {
+    let bad = format!(in rt.alloc(); "{}", DecodeError::Bad { at: 131_072 })?;
+    assert_eq!(rt; bad.as_str(), "no message: wrong at byte 131072");
+    let memory = format!(in rt.alloc(); "{}", DecodeError::Memory)?;
+    assert_eq!(rt; memory.as_str(), "out of memory");
+    Ok(())
+}

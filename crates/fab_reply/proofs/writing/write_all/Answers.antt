@@ -1,4 +1,4 @@
-use Rattle.std.proofs.Common.{◌++◌, take, arith, refl}
+use Rattle.std.proofs.Common.{◌++◌, take, arith, refl, ◌∙◌}
 use Rattle.std.proofs.KnownBytes.{Appends-trans}
 use Rattle.fab_reply.proofs.Bytes.{on_err, fails_front, stops_front, text_on}
 use Rattle.fab_reply.proofs.writing.write_all.Goals as goal
@@ -18,5 +18,5 @@ loop-rest-preserved g c =
     let d = c.loop-rest.invariant.done in
     record {
       done = (d.0 ++ take c.in_ok-count.count c.loop-rest.rest.now, text_on d.0 c.loop-rest.rest.now c.args.text.now c.in_ok-count.count _ (omega (arith, c.in_ok-count.ensures.bound)) refl d.1, Appends-trans (g.K.Sink.written c.args.sink.now) (g.K.Sink.written c.loop-rest.sink) (g.K.Sink.written c.write.new.self) d.0 _ d.2 c.in_ok-count.ensures.bytes);
-      later = omega (arith, c.loop-rest.invariant.later, c.in_ok-count.ensures.cause.later);
+      same = c.in_ok-count.ensures.cause.unfailed (λ f. omega (arith, f.0, c.if-count-eq0.false)) ∙ c.loop-rest.invariant.same;
     }
