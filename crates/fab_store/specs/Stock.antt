@@ -1,5 +1,5 @@
 -- A store as contracts see it, what it plans, and the room that a record needs.
-use Rattle.std.specs.Prelude.{◌≡◌, ℕ, ◌≤◌, Option, Some, None, List, [], ◌∷◌}
+use Rattle.std.specs.Prelude.{◌≡◌, ℕ, ◌≤◌, ◌<◌, ◌^◌, Option, Some, None, List, [], ◌∷◌}
 use Rattle.std.specs.List.{AllByRecursion}
 use Rattle.fab_base.specs.declared.entry.Entry.{Entry}
 use Rattle.fab_base.specs.declared.entry.Entry.TheVariants as e
@@ -9,7 +9,7 @@ use Rattle.fab_net.specs.declared.note.Step.{Step}
 use Rattle.fab_rights.specs.declared.rights.Rights.{Rights}
 use Rattle.fab_protocol.specs.declared.said.Said.{Said}
 use Rattle.fab_protocol.specs.Stores.{Shelf, step_of, keeps}
-use Rattle.fab_protocol.specs.Shelves.{CanKeep}
+use Rattle.fab_protocol.specs.Shelves.{CanKeep, IsShelf}
 
 -- The store's number, what it knows of nodes and classes, its shelf, for how many objects more there is room, and
 -- for how many prepared transactions.
@@ -19,6 +19,11 @@ pub record Stock : Type 0 where
   pub shelf : Shelf
   pub spare_rows : ℕ
   pub spare_locks : ℕ
+
+-- what holds of every store: its shelf is one, over a mask of workers that has 64 bits
+pub record IsStore (rights : Rights) (s : ℕ) (shelf : Shelf) : Type 0 where
+  pub mask : rights.workers < 2 ^ 64
+  pub shelf : IsShelf rights s shelf
 
 -- a plan: the record that is to be kept, and the step
 pub record Plan : Type 0 where

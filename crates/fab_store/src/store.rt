@@ -1,6 +1,6 @@
 //! A store's node: what it holds, and what it does at a message.
 
-ghost use Rattle.std.specs.Prelude.{◌≡◌, ◌≤◌, Option, None, Some, IfOk, OnOk, OnErr, IsTrue, length};
+ghost use Rattle.std.specs.Prelude.{◌≡◌, ◌≤◌, ◌<◌, ◌^◌, Option, None, Some, IfOk, OnOk, OnErr, IsTrue, length};
 ghost use Rattle.std.specs.List.{AllByRecursion};
 ghost use Rattle.fab_base.specs.FlatMap.{ascends as roots_ascend};
 ghost use Rattle.fab_wire.specs.Reading.{read_message};
@@ -36,8 +36,7 @@ pub struct Store {
 }
 
 impl Model for Store {
-    ghost use Rattle.fab_store.specs.Stock.{Stock};
-    ghost use Rattle.fab_protocol.specs.Shelves.{IsShelf};
+    ghost use Rattle.fab_store.specs.Stock.{IsStore, Stock};
 
     ghost Value = { Stock };
 
@@ -49,7 +48,13 @@ impl Model for Store {
       spare_locks = s.locks.spare;
     } };
 
-    ghost invariant = { λ s. IsShelf s.rights s.node (record { rows = s.table.rows; prepared = s.locks.held; senders = s.senders.items }) };
+    ghost invariant = { λ s. IsStore s.rights s.node (record { rows = s.table.rows; prepared = s.locks.held; senders = s.senders.items }) };
+}
+
+/// Does nothing: it is there for what its contract says of a mask.
+fn has_64_bits(_mask: u64)
+    ensures { _mask < 2 ^ 64 }
+{
 }
 
 impl Store {
@@ -72,6 +77,7 @@ impl Store {
                 table.put(root.0, 1, root.1.copy(alloc)?)?;
             }
         }
+        has_64_bits(rights.workers);
         Ok(Store {
             alloc,
             node,

@@ -1,12 +1,9 @@
-use Rattle.std.proofs.Common.{◌≡◌, ℕ, refl, ◌++◌, ◌∷◌, [], List, sym, subst, ap, arith}
+use Rattle.std.proofs.Common.{◌≡◌, ◌++◌, ◌∷◌, [], List, sym, subst, ap, arith}
 use Rattle.fab_base.specs.declared.entry.Entry.TheVariants as e
 use Rattle.fab_protocol.specs.Stores.{Prepared, Shelf}
 use Rattle.fab_protocol.specs.Shelves.{CanKeep}
-use Rattle.fab_store.proofs.Keeping.{kept_shelf, can_keep, when_ok}
+use Rattle.fab_store.proofs.Keeping.{kept_store, can_keep, when_ok}
 use Rattle.fab_store.proofs.store.Store.keep.Goals as goal
-
-probe : (n : ℕ) → n ≡ n
-probe n = refl
 
 pub hold-requires : goal.hold-requires
 hold-requires c = ?
@@ -17,8 +14,9 @@ invariant_of-self c =
     let old : Shelf = record { rows = x.table.rows; prepared = x.locks.held; senders = x.senders.items } in
     let entry = e.Prepared c.in-Prepared.tid c.in-Prepared.items in
     let can : CanKeep x.rights x.node entry old = can_keep c.args.entry entry _ _ c.in-Prepared.is c.self.view_is c.requires.can in
-    let held : c.hold.new.self.held ≡ x.locks.held ++ (c.in-Prepared.tid, c.in-Prepared.items) ∷ [] = ? in
-    kept_shelf x.rights x.node entry old _ (probe c.self.ranges) can c.self.invariant
+    let held : c.hold.new.self.held ≡ x.locks.held ++ (c.in-Prepared.tid, c.in-Prepared.items) ∷ [] =
+        when_ok c.hold.result (c.hold.ensures.sure ?) c.hold.ensures.ok in
+    kept_store x.rights x.node entry old _ can c.self.invariant
     (λ i. record { rows = x.table.rows; prepared = held i; senders = c.set_last.ensures i })
 
 pub invariant_of-self-in-Refused : goal.invariant_of-self-in-Refused
@@ -27,7 +25,7 @@ invariant_of-self-in-Refused c =
     let old : Shelf = record { rows = x.table.rows; prepared = x.locks.held; senders = x.senders.items } in
     let entry = e.Refused c.in-Refused.tid in
     let can : CanKeep x.rights x.node entry old = can_keep c.args.entry entry _ _ c.in-Refused.is c.self.view_is c.requires.can in
-    kept_shelf x.rights x.node entry old _ (probe c.self.ranges) can c.self.invariant
+    kept_store x.rights x.node entry old _ can c.self.invariant
     (λ i. record { rows = x.table.rows; prepared = x.locks.held; senders = c.set_last-in-Refused.ensures i })
 
 pub invariant_of-self-in-Applied : goal.invariant_of-self-in-Applied
@@ -36,7 +34,7 @@ invariant_of-self-in-Applied c =
     let old : Shelf = record { rows = x.table.rows; prepared = x.locks.held; senders = x.senders.items } in
     let entry = e.Applied c.in-Applied.tid in
     let can : CanKeep x.rights x.node entry old = can_keep c.args.entry entry _ _ c.in-Applied.is c.self.view_is c.requires.can in
-    kept_shelf x.rights x.node entry old _ (probe c.self.ranges) can c.self.invariant
+    kept_store x.rights x.node entry old _ can c.self.invariant
     (λ i. record { rows = c.apply.ensures.rows i; prepared = c.apply.ensures.held i; senders = x.senders.items })
 
 pub invariant_of-self-in-Released : goal.invariant_of-self-in-Released
@@ -45,7 +43,7 @@ invariant_of-self-in-Released c =
     let old : Shelf = record { rows = x.table.rows; prepared = x.locks.held; senders = x.senders.items } in
     let entry = e.Released c.in-Released.tid in
     let can : CanKeep x.rights x.node entry old = can_keep c.args.entry entry _ _ c.in-Released.is c.self.view_is c.requires.can in
-    kept_shelf x.rights x.node entry old _ (probe c.self.ranges) can c.self.invariant
+    kept_store x.rights x.node entry old _ can c.self.invariant
     (λ i. record { rows = x.table.rows; prepared = c.free.ensures.held i; senders = x.senders.items })
 
 pub invariant_of-self-in-BootSeen : goal.invariant_of-self-in-BootSeen
@@ -54,5 +52,5 @@ invariant_of-self-in-BootSeen c =
     let old : Shelf = record { rows = x.table.rows; prepared = x.locks.held; senders = x.senders.items } in
     let entry = e.BootSeen c.in-BootSeen.worker c.in-BootSeen.boot in
     let can : CanKeep x.rights x.node entry old = can_keep c.args.entry entry _ _ c.in-BootSeen.is c.self.view_is c.requires.can in
-    kept_shelf x.rights x.node entry old _ (probe c.self.ranges) can c.self.invariant
+    kept_store x.rights x.node entry old _ can c.self.invariant
     (λ i. record { rows = x.table.rows; prepared = c.free_all.ensures.held i; senders = c.set_boot.ensures i })
