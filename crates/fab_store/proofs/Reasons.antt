@@ -1,0 +1,104 @@
+-- Reasons to refuse, one after the other: which of them is the first that holds, and what a list of items comes to.
+use Rattle.std.proofs.Common.{◌≡◌, ℕ, suc, ◌+◌, ◌<◌, Bool, true, false, ◌||◌, if◌then◌else◌, List, [], ◌∷◌, ◌++◌, map, length, get_or, drop, append_assoc, append-nil, drop-cons, add-one}
+use Rattle.std.proofs.Common.{Option, Some, None, refl, sym, ap, ◌∙◌, subst}
+use Rattle.std.specs.List.{list_any}
+use Rattle.std.specs.Option.{option_map}
+use Rattle.fab_base.specs.declared.object.Oid.{Oid}
+use Rattle.fab_base.specs.declared.object.Object.{Object}
+use Rattle.fab_base.specs.declared.object.Tid.{Tid}
+use Rattle.fab_base.specs.declared.message.Items.{Items}
+use Rattle.fab_base.specs.declared.message.Answer.{Answer}
+use Rattle.fab_base.specs.declared.message.Answer.TheVariants.{Yes, Locked}
+use Rattle.fab_base.specs.FlatMap.{is_same, is_among}
+use Rattle.fab_rights.specs.declared.rights.Rights.{Rights}
+use Rattle.fab_protocol.specs.Stores.{Shelf, Prepared, Item, item_name, reads_in, writes_in, reasons_of, reasons_in, first_of}
+use Rattle.fab_protocol.proofs.Locks.{among_both}
+use Rattle.fab_locks.specs.Conflicts.{bars, first_barring}
+use Rattle.fab_locks.proofs.Barring.{list_any-map}
+use Rattle.fab_store.specs.Refusals.{IsFirstOf, or_else, barred}
+
+-- ---- names of earlier lists
+
+by_names : (o : Oid) (is : List Item) → is_among o (map item_name is) ≡ list_any (λ i. is_same (item_name i) o) is
+by_names o is = list_any-map (λ p. is_same p o) item_name is
+
+pub among_reads : (o : Oid) (items : Items) → is_among o (map item_name (reads_in items)) ≡ list_any (λ r. is_same r.0 o) items.reads
+among_reads o items = by_names o (reads_in items) ∙ list_any-map (λ i. is_same (item_name i) o) _ items.reads
+
+among_writes : (o : Oid) (items : Items) → is_among o (map item_name (writes_in items)) ≡ list_any (λ w. is_same w.0 o) items.writes
+among_writes o items = by_names o (writes_in items) ∙ list_any-map (λ i. is_same (item_name i) o) _ items.writes
+
+pub among_old : (o : Oid) (items : Items) → is_among o (map item_name (reads_in items ++ writes_in items)) ≡ (list_any (λ r. is_same r.0 o) items.reads || list_any (λ w. is_same w.0 o) items.writes)
+among_old o items = among_both o (reads_in items) (writes_in items) ∙ (λ i. among_reads o items i || among_writes o items i)
+
+-- ---- the first reason
+
+abbrev Reason : Type 0
+Reason = Bool × Answer
+
+pub first_here : (b : Bool) (answer : Answer) (rest : List Reason) → b ≡ true → IsFirstOf ((b, answer) ∷ rest) (Some answer)
+first_here b answer rest e = λ more. ap (λ x. if x then answer else first_of (rest ++ more)) e
+
+pub first_behind : (b : Bool) (answer : Answer) (rest : List Reason) (r : Option Answer) → b ≡ false → IsFirstOf rest r → IsFirstOf ((b, answer) ∷ rest) r
+first_behind b answer rest r e h = λ more. ap (λ x. if x then answer else first_of (rest ++ more)) e ∙ h more
+
+-- the first transaction that bars a name
+pub first_barred : (o : Oid) (writing : Bool) (ps : List Prepared) → IsFirstOf (barred o writing ps) (option_map Locked (first_barring o writing ps))
+first_barred o writing [] = λ more. refl
+first_barred o writing (p ∷ ps) = by_test (first_barred o writing ps) (bars o writing p.1) refl
+  where
+    by_test : IsFirstOf (barred o writing ps) (option_map Locked (first_barring o writing ps)) → (b : Bool) → bars o writing p.1 ≡ b
+        → IsFirstOf (barred o writing (p ∷ ps)) (option_map Locked (first_barring o writing (p ∷ ps)))
+    by_test rest true e = λ more. rw e refl
+    by_test rest false e = λ more. rw e (rest more)
+
+pub nothing_more : (b : Bool) → ((b || false) || false) ≡ b
+nothing_more true = refl
+nothing_more false = refl
+
+-- ---- item by item
+
+-- before whatever follows, all come to what is left
+pub record Left (all rest : List Reason) : Type 0 where
+  pub same : (more : List Reason) → first_of (all ++ more) ≡ first_of (rest ++ more)
+
+pub all_left : (all : List Reason) → Left all all
+all_left all = record { same = λ more. refl }
+
+pub none_left : (all : List Reason) → Left all [] → IsFirstOf all None
+none_left all h = λ more. h.same more
+
+behind_first : (all xs rest : List Reason) (r : Option Answer) → Left all (xs ++ rest) → IsFirstOf xs r → (more : List Reason)
+    → first_of (all ++ more) ≡ or_else r (first_of (rest ++ more))
+behind_first all xs rest r h first more = h.same more ∙ ap first_of (append_assoc xs rest more) ∙ first (rest ++ more)
+
+front : {X : Type 0} (xs : List X) (i : ℕ) (x : X) → i < length xs → x ≡ get_or xs i x → drop i xs ≡ x ∷ drop (i + 1) xs
+front xs i x within is = drop-cons xs i x within ∙ ap (λ y. y ∷ drop (suc i) xs) (sym is) ∙ rw add-one refl
+
+module _ (rights : Rights) (s n : ℕ) (t : Tid) (shelf : Shelf) (earlier : List Oid) {X : Type 0} (item : X → Item) (xs : List X) (all : List Reason) where
+  abbrev reasons_from : Option Oid → List X → List Reason
+  reasons_from before rest = reasons_in rights s n t shelf earlier before (map item rest)
+
+  abbrev reasons_at : Option Oid → X → List Reason
+  reasons_at before x = reasons_of rights s n t shelf earlier before (item x)
+
+  module _ (i : ℕ) (x : X) (within : i < length xs) (is : x ≡ get_or xs i x) (before : Option Oid) (h : Left all (reasons_from before (drop i xs))) where
+    split : Left all (reasons_at before x ++ reasons_from (Some (item_name (item x))) (drop (i + 1) xs))
+    split = subst (λ rest. Left all (reasons_from before rest)) (front xs i x within is) h
+
+    pub one_passes : IsFirstOf (reasons_at before x) None → Left all (reasons_from (Some (item_name (item x))) (drop (i + 1) xs))
+    one_passes first = record { same = behind_first all (reasons_at before x) (reasons_from (Some (item_name (item x))) (drop (i + 1) xs)) None split first }
+
+    pub one_refuses : (answer : Answer) → IsFirstOf (reasons_at before x) (Some answer) → IsFirstOf all (Some answer)
+    one_refuses answer first = behind_first all (reasons_at before x) (reasons_from (Some (item_name (item x))) (drop (i + 1) xs)) (Some answer) split first
+
+-- ---- list by list
+
+pub in_three : (xs ys zs : List Reason) (a b c : Option Answer) → IsFirstOf xs a → IsFirstOf ys b → IsFirstOf zs c
+    → first_of ((xs ++ ys) ++ zs) ≡ or_else a (or_else b (or_else c Yes))
+in_three xs ys zs a b c f g h =
+    ap first_of (append_assoc xs ys zs)
+    ∙ f (ys ++ zs)
+    ∙ ap (or_else a) (g zs)
+    ∙ ap (λ l. or_else a (or_else b (first_of l))) (sym (append-nil zs))
+    ∙ ap (λ w. or_else a (or_else b w)) (h [])
