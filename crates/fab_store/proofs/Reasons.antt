@@ -8,10 +8,13 @@ use Rattle.fab_base.specs.declared.object.Object.{Object}
 use Rattle.fab_base.specs.declared.object.Tid.{Tid}
 use Rattle.fab_base.specs.declared.message.Items.{Items}
 use Rattle.fab_base.specs.declared.message.Answer.{Answer}
-use Rattle.fab_base.specs.declared.message.Answer.TheVariants.{Yes, Locked}
+use Rattle.fab_base.specs.declared.message.Answer.TheVariants.{Yes, Locked, Stale}
 use Rattle.fab_base.specs.FlatMap.{is_same, is_among}
 use Rattle.fab_rights.specs.declared.rights.Rights.{Rights}
-use Rattle.fab_protocol.specs.Stores.{Shelf, Prepared, Item, item_name, reads_in, writes_in, reasons_of, reasons_in, first_of}
+use Rattle.fab_protocol.specs.Stores.{Shelf, Prepared, Item, Read, is_stale, item_name, out_of_date, reads_in, writes_in, reasons_of, reasons_in, first_of}
+use Rattle.fab_protocol.specs.Tables.{row_of}
+use Rattle.fab_protocol.specs.Versions.{Rows, name_of, version_of}
+use Rattle.fab_versions.proofs.Rows.{row_here, row_past}
 use Rattle.fab_protocol.proofs.Locks.{among_both}
 use Rattle.fab_locks.specs.Conflicts.{bars, first_barring}
 use Rattle.fab_locks.proofs.Barring.{list_any-map}
@@ -102,3 +105,25 @@ in_three xs ys zs a b c f g h =
     ∙ ap (or_else a) (g zs)
     ∙ ap (λ l. or_else a (or_else b (first_of l))) (sym (append-nil zs))
     ∙ ap (λ w. or_else a (or_else b w)) (h [])
+
+-- ---- of a store
+
+-- an object that isn't there has no version
+pub version_absent : (rows : Rows) (o : Oid) → row_of name_of rows o ≡ None → version_of rows o ≡ 0
+version_absent [] o h = refl
+version_absent (first ∷ rows) o h = by_test (version_absent rows o) (is_same first.0 o) refl
+  where
+    by_test : (row_of name_of rows o ≡ None → version_of rows o ≡ 0) → (b : Bool) → is_same first.0 o ≡ b → version_of (first ∷ rows) o ≡ 0
+    by_test rest true e = let no : Some first ≡ None = sym (row_here name_of first rows o e) ∙ h in cc
+    by_test rest false e = ap (λ b. if b then first.1 else version_of rows o) e ∙ rest (sym (row_past name_of first rows o e) ∙ h)
+
+pub barred_where : (o : Oid) (writing : Bool) (ps qs : List Prepared) (r : Option Tid) → ps ≡ qs → r ≡ first_barring o writing ps
+    → IsFirstOf (barred o writing qs) (option_map Locked r)
+barred_where o writing ps qs r same is = subst (λ l. IsFirstOf (barred o writing l) (option_map Locked r)) same
+    (subst (λ t. IsFirstOf (barred o writing ps) (option_map Locked t)) (sym is) (first_barred o writing ps))
+
+pub stale_first : (rows : Rows) (o : Oid) (version current : ℕ) (rest : List Reason) → current ≡ version_of rows o → is_stale current version ≡ true
+    → IsFirstOf (out_of_date rows (Read o version) ∷ rest) (Some (Stale o current))
+stale_first rows o version current rest is h =
+    subst (λ v. IsFirstOf (out_of_date rows (Read o version) ∷ rest) (Some (Stale o v))) (sym is)
+    (first_here (is_stale (version_of rows o) version) (Stale o (version_of rows o)) rest (ap (λ v. is_stale v version) (sym is) ∙ h))
