@@ -1,17 +1,15 @@
 -- Reasons to refuse, one after the other: which of them is the first that holds, and what a list of items comes to.
-use Rattle.std.proofs.Common.{◌≡◌, ℕ, suc, ◌+◌, ◌<◌, Bool, true, false, ◌||◌, if◌then◌else◌, List, [], ◌∷◌, ◌++◌, map, length, get_or, drop, append_assoc, append-nil, drop-cons, add-one}
+use Rattle.std.proofs.Common.{◌≡◌, Bool, true, false, ◌||◌, if◌then◌else◌, List, [], ◌∷◌, ◌++◌, map, append_assoc, append-nil}
 use Rattle.std.proofs.Common.{Option, Some, None, refl, sym, ap, ◌∙◌, subst}
 use Rattle.std.specs.List.{list_any}
 use Rattle.std.specs.Option.{option_map}
 use Rattle.fab_base.specs.declared.object.Oid.{Oid}
-use Rattle.fab_base.specs.declared.object.Object.{Object}
 use Rattle.fab_base.specs.declared.object.Tid.{Tid}
 use Rattle.fab_base.specs.declared.message.Items.{Items}
 use Rattle.fab_base.specs.declared.message.Answer.{Answer}
-use Rattle.fab_base.specs.declared.message.Answer.TheVariants.{Yes, Locked, Stale}
+use Rattle.fab_base.specs.declared.message.Answer.TheVariants.{Yes, Locked}
 use Rattle.fab_base.specs.FlatMap.{is_same, is_among}
-use Rattle.fab_rights.specs.declared.rights.Rights.{Rights}
-use Rattle.fab_protocol.specs.Stores.{Shelf, Prepared, Item, Read, is_stale, item_name, out_of_date, reads_in, writes_in, reasons_of, reasons_in, first_of}
+use Rattle.fab_protocol.specs.Stores.{Prepared, Item, item_name, reads_in, writes_in, first_of}
 use Rattle.fab_protocol.specs.Tables.{row_of}
 use Rattle.fab_protocol.specs.Versions.{Rows, name_of, version_of}
 use Rattle.fab_versions.proofs.Rows.{row_here, row_past}
@@ -31,19 +29,13 @@ among_reads o items = by_names o (reads_in items) ∙ list_any-map (λ i. is_sam
 among_writes : (o : Oid) (items : Items) → is_among o (map item_name (writes_in items)) ≡ list_any (λ w. is_same w.0 o) items.writes
 among_writes o items = by_names o (writes_in items) ∙ list_any-map (λ i. is_same (item_name i) o) _ items.writes
 
-pub among_old : (o : Oid) (items : Items) → is_among o (map item_name (reads_in items ++ writes_in items)) ≡ (list_any (λ r. is_same r.0 o) items.reads || list_any (λ w. is_same w.0 o) items.writes)
-among_old o items = among_both o (reads_in items) (writes_in items) ∙ (λ i. among_reads o items i || among_writes o items i)
+pub among_either : (o : Oid) (items : Items) → is_among o (map item_name (reads_in items ++ writes_in items)) ≡ (list_any (λ r. is_same r.0 o) items.reads || list_any (λ w. is_same w.0 o) items.writes)
+among_either o items = among_both o (reads_in items) (writes_in items) ∙ (λ i. among_reads o items i || among_writes o items i)
 
 -- ---- the first reason
 
 abbrev Reason : Type 0
 Reason = Bool × Answer
-
-pub first_here : (b : Bool) (answer : Answer) (rest : List Reason) → b ≡ true → IsFirstOf ((b, answer) ∷ rest) (Some answer)
-first_here b answer rest e = λ more. ap (λ x. if x then answer else first_of (rest ++ more)) e
-
-pub first_behind : (b : Bool) (answer : Answer) (rest : List Reason) (r : Option Answer) → b ≡ false → IsFirstOf rest r → IsFirstOf ((b, answer) ∷ rest) r
-first_behind b answer rest r e h = λ more. ap (λ x. if x then answer else first_of (rest ++ more)) e ∙ h more
 
 -- the first transaction that bars a name
 pub first_barred : (o : Oid) (writing : Bool) (ps : List Prepared) → IsFirstOf (barred o writing ps) (option_map Locked (first_barring o writing ps))
@@ -55,45 +47,11 @@ first_barred o writing (p ∷ ps) = by_test (first_barred o writing ps) (bars o 
     by_test rest true e = λ more. rw e refl
     by_test rest false e = λ more. rw e (rest more)
 
-pub nothing_more : (b : Bool) → ((b || false) || false) ≡ b
-nothing_more true = refl
-nothing_more false = refl
-
 -- ---- item by item
 
 -- before whatever follows, all come to what is left
 pub record Left (all rest : List Reason) : Type 0 where
   pub same : (more : List Reason) → first_of (all ++ more) ≡ first_of (rest ++ more)
-
-pub all_left : (all : List Reason) → Left all all
-all_left all = record { same = λ more. refl }
-
-pub none_left : (all : List Reason) → Left all [] → IsFirstOf all None
-none_left all h = λ more. h.same more
-
-behind_first : (all xs rest : List Reason) (r : Option Answer) → Left all (xs ++ rest) → IsFirstOf xs r → (more : List Reason)
-    → first_of (all ++ more) ≡ or_else r (first_of (rest ++ more))
-behind_first all xs rest r h first more = h.same more ∙ ap first_of (append_assoc xs rest more) ∙ first (rest ++ more)
-
-front : {X : Type 0} (xs : List X) (i : ℕ) (x : X) → i < length xs → x ≡ get_or xs i x → drop i xs ≡ x ∷ drop (i + 1) xs
-front xs i x within is = drop-cons xs i x within ∙ ap (λ y. y ∷ drop (suc i) xs) (sym is) ∙ rw add-one refl
-
-module _ (rights : Rights) (s n : ℕ) (t : Tid) (shelf : Shelf) (earlier : List Oid) {X : Type 0} (item : X → Item) (xs : List X) (all : List Reason) where
-  abbrev reasons_from : Option Oid → List X → List Reason
-  reasons_from before rest = reasons_in rights s n t shelf earlier before (map item rest)
-
-  abbrev reasons_at : Option Oid → X → List Reason
-  reasons_at before x = reasons_of rights s n t shelf earlier before (item x)
-
-  module _ (i : ℕ) (x : X) (within : i < length xs) (is : x ≡ get_or xs i x) (before : Option Oid) (h : Left all (reasons_from before (drop i xs))) where
-    split : Left all (reasons_at before x ++ reasons_from (Some (item_name (item x))) (drop (i + 1) xs))
-    split = subst (λ rest. Left all (reasons_from before rest)) (front xs i x within is) h
-
-    pub one_passes : IsFirstOf (reasons_at before x) None → Left all (reasons_from (Some (item_name (item x))) (drop (i + 1) xs))
-    one_passes first = record { same = behind_first all (reasons_at before x) (reasons_from (Some (item_name (item x))) (drop (i + 1) xs)) None split first }
-
-    pub one_refuses : (answer : Answer) → IsFirstOf (reasons_at before x) (Some answer) → IsFirstOf all (Some answer)
-    one_refuses answer first = behind_first all (reasons_at before x) (reasons_from (Some (item_name (item x))) (drop (i + 1) xs)) (Some answer) split first
 
 -- ---- list by list
 
@@ -121,9 +79,3 @@ pub barred_where : (o : Oid) (writing : Bool) (ps qs : List Prepared) (r : Optio
     → IsFirstOf (barred o writing qs) (option_map Locked r)
 barred_where o writing ps qs r same is = subst (λ l. IsFirstOf (barred o writing l) (option_map Locked r)) same
     (subst (λ t. IsFirstOf (barred o writing ps) (option_map Locked t)) (sym is) (first_barred o writing ps))
-
-pub stale_first : (rows : Rows) (o : Oid) (version current : ℕ) (rest : List Reason) → current ≡ version_of rows o → is_stale current version ≡ true
-    → IsFirstOf (out_of_date rows (Read o version) ∷ rest) (Some (Stale o current))
-stale_first rows o version current rest is h =
-    subst (λ v. IsFirstOf (out_of_date rows (Read o version) ∷ rest) (Some (Stale o v))) (sym is)
-    (first_here (is_stale (version_of rows o) version) (Stale o (version_of rows o)) rest (ap (λ v. is_stale v version) (sym is) ∙ h))

@@ -5,7 +5,7 @@ ghost use Rattle.std.specs.List.{list_any};
 ghost use Rattle.fab_base.specs.FlatMap.{is_among, is_same};
 ghost use Rattle.fab_rights.specs.Computed.{knows, suits};
 ghost use Rattle.fab_protocol.specs.Versions.{is_made_in, version_of};
-ghost use Rattle.fab_protocol.specs.Stores.{Read, Write, Create, creates_in, is_ill_formed, is_out_of_order, is_stale, item_name, out_of_date, reads_in, reasons_in, reasons_of, vote, writes_in};
+ghost use Rattle.fab_protocol.specs.Stores.{Read, Write, Create, creates_in, is_out_of_order, item_name, out_of_date, reads_in, reasons_in, reasons_of, vote, writes_in};
 ghost use Rattle.fab_store.specs.Refusals.{IsFirstOf, barred};
 
 use crate::store::Store;
@@ -20,8 +20,8 @@ fn is_read(items: &Items, oid: Oid) -> bool
 }
 
 /// Whether an object of this name was read or written.
-#[tactic(auto, using(crate::proofs::Reasons::among_old))]
-fn is_old(items: &Items, oid: Oid) -> bool
+#[tactic(auto, using(crate::proofs::Reasons::among_either))]
+fn is_read_or_written(items: &Items, oid: Oid) -> bool
     ensures { result ≡ is_among oid (map item_name (reads_in items.now ++ writes_in items.now)) }
 {
     reads_name(items.reads.as_slice(), oid) || writes_name(items.writes.as_slice(), oid)
@@ -43,13 +43,6 @@ fn is_one_name(one: Oid, other: Oid) -> bool
     ensures { result ≡ is_same one other }
 {
     one == other
-}
-
-/// Whether a version isn't the current one, which is 0 where there is none.
-fn is_stale(current: u32, version: u32) -> bool
-    ensures { result ≡ is_stale current version }
-{
-    current == 0 || version != current
 }
 
 /// Whether a name isn't above the one before it in its list.
@@ -87,12 +80,12 @@ impl Store {
         }
     }
 
-    /// That an object isn't at the version that was read, if it isn't, or else what bars it.
-    fn staleness(&self, oid: Oid, version: u32, writing: bool) -> Option<Answer>
+    /// The refusal of an object at a version: it isn't the current one, or another transaction bars it.
+    fn version_refusal(&self, oid: Oid, version: u32, writing: bool) -> Option<Answer>
         ensures { IsFirstOf (out_of_date self.now.shelf.rows (Read oid version) ∷ barred oid writing self.now.shelf.prepared) result }
     {
         let current = self.version_of(oid);
-        if is_stale(current, version) {
+        if current == 0 || version != current {
             return Some(Answer::Stale(oid, current));
         }
         self.lock(oid, writing)
@@ -106,32 +99,6 @@ impl Store {
             Some(tid) => Some(Answer::Locked(tid)),
             None => None,
         }
-    }
-
-    fn is_write_ill_formed(
-        &self,
-        items: &Items,
-        before: Option<Oid>,
-        write: &(Oid, u32, Object),
-    ) -> bool
-        ensures { result ≡ (not (write.now.0.store == self.now.node) || not (knows self.now.rights write.now.0.class) || is_out_of_order before write.now.0 || is_among write.now.0 (map item_name (reads_in items.now)) || not (suits self.now.rights write.now.0 write.now.2)) }
-    {
-        self.is_misplaced(before, write.0)
-            || is_read(items, write.0)
-            || !self.suits(write.0, &write.2)
-    }
-
-    fn is_create_ill_formed(
-        &self,
-        tid: Tid,
-        items: &Items,
-        before: Option<Oid>,
-        create: &(Oid, Object),
-    ) -> bool
-        ensures { result ≡ is_ill_formed self.now.rights self.now.node tid (map item_name (reads_in items.now ++ writes_in items.now)) before (Create create.now.0 create.now.1) }
-    {
-        let suited = self.suits(create.0, &create.1) && is_made_in(tid, create.0);
-        self.is_misplaced(before, create.0) || is_old(items, create.0) || !suited
     }
 
     fn read_refusal(
@@ -150,7 +117,7 @@ impl Store {
         if !self.rights.may_fetch(sender, oid.class) {
             return Some(Answer::Rights(oid));
         }
-        self.staleness(oid, version, false)
+        self.version_refusal(oid, version, false)
     }
 
     fn write_refusal(
@@ -164,13 +131,13 @@ impl Store {
         ensures { IsFirstOf (reasons_of self.now.rights self.now.node sender tid self.now.shelf (map item_name (reads_in items.now)) before (Write write.now.0 write.now.1 write.now.2)) result }
     {
         let (oid, version) = (write.0, write.1);
-        if self.is_write_ill_formed(items, before, write) {
+        if self.is_misplaced(before, oid) || is_read(items, oid) || !self.suits(oid, &write.2) {
             return Some(Answer::IllFormed(oid));
         }
         if !self.rights.may_write(sender, oid.class) {
             return Some(Answer::Rights(oid));
         }
-        self.staleness(oid, version, true)
+        self.version_refusal(oid, version, true)
     }
 
     fn create_refusal(
@@ -184,7 +151,8 @@ impl Store {
         ensures { IsFirstOf (reasons_of self.now.rights self.now.node sender tid self.now.shelf (map item_name (reads_in items.now ++ writes_in items.now)) before (Create create.now.0 create.now.1)) result }
     {
         let oid = create.0;
-        if self.is_create_ill_formed(tid, items, before, create) {
+        let suited = self.suits(oid, &create.1) && is_made_in(tid, oid);
+        if self.is_misplaced(before, oid) || is_read_or_written(items, oid) || !suited {
             return Some(Answer::IllFormed(oid));
         }
         if !self.rights.may_write(sender, oid.class) {
