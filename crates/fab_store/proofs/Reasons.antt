@@ -1,4 +1,4 @@
--- Reasons to refuse, one after the other: which of them is the first that holds, and what a list of items comes to.
+-- Reasons to refuse: names of earlier lists, transactions that bar a name, and three lists of reasons in a row.
 use Rattle.std.proofs.Common.{◌≡◌, Bool, true, false, ◌||◌, if◌then◌else◌, List, [], ◌∷◌, ◌++◌, map, append_assoc, append-nil}
 use Rattle.std.proofs.Common.{Option, Some, None, refl, sym, ap, ◌∙◌, subst}
 use Rattle.std.specs.List.{list_any}
@@ -47,13 +47,13 @@ first_barred o writing (p ∷ ps) = by_test (first_barred o writing ps) (bars o 
     by_test rest true e = λ more. rw e refl
     by_test rest false e = λ more. rw e (rest more)
 
--- ---- item by item
+-- ---- lists of reasons
 
 -- before whatever follows, all come to what is left
 pub record Left (all rest : List Reason) : Type 0 where
   pub same : (more : List Reason) → first_of (all ++ more) ≡ first_of (rest ++ more)
 
--- ---- list by list
+-- three lists, one behind the other
 
 pub in_three : (xs ys zs : List Reason) (a b c : Option Answer) → IsFirstOf xs a → IsFirstOf ys b → IsFirstOf zs c
     → first_of ((xs ++ ys) ++ zs) ≡ or_else a (or_else b (or_else c Yes))
