@@ -54,7 +54,6 @@ pub record Left (all rest : List Reason) : Type 0 where
   pub same : (more : List Reason) → first_of (all ++ more) ≡ first_of (rest ++ more)
 
 -- three lists, one behind the other
-
 pub in_three : (xs ys zs : List Reason) (a b c : Option Answer) → IsFirstOf xs a → IsFirstOf ys b → IsFirstOf zs c
     → first_of ((xs ++ ys) ++ zs) ≡ or_else a (or_else b (or_else c Yes))
 in_three xs ys zs a b c f g h =
