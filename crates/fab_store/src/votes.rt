@@ -1,28 +1,48 @@
 //! How a store votes on a Prepare: each item is tried for the same reasons, in the same order.
 
-ghost use Rattle.std.specs.Prelude.{◌≡◌, Some, None, [], ◌++◌, ◌||◌, ◌==◌, not, map, if◌then◌else◌};
-ghost use Rattle.fab_base.specs.FlatMap.{is_among};
-ghost use Rattle.fab_base.specs.declared.message.Answer.TheVariants as answers;
+ghost use Rattle.std.specs.Prelude.{◌≡◌, Some, None, [], ◌∷◌, ◌++◌, ◌||◌, ◌==◌, not, map};
+ghost use Rattle.std.specs.List.{list_any};
+ghost use Rattle.fab_base.specs.FlatMap.{is_among, is_same};
 ghost use Rattle.fab_rights.specs.Computed.{knows, suits};
 ghost use Rattle.fab_protocol.specs.Versions.{is_made_in, version_of};
-ghost use Rattle.fab_protocol.specs.Stores.{Read, Write, Create, creates_in, is_out_of_order, is_stale, item_name, locked, reads_in, reasons_in, reasons_of, vote, writes_in};
+ghost use Rattle.fab_protocol.specs.Stores.{Read, Write, Create, creates_in, is_out_of_order, item_name, out_of_date, reads_in, reasons_in, reasons_of, vote, writes_in};
 ghost use Rattle.fab_store.specs.Refusals.{IsFirstOf, barred};
 
 use crate::store::Store;
 use fab_base::{Answer, Items, Object, Oid, Tid};
 
 /// Whether an object of this name was read.
+#[tactic(auto, using(crate::proofs::Reasons::among_reads))]
 fn is_read(items: &Items, oid: Oid) -> bool
     ensures { result ≡ is_among oid (map item_name (reads_in items.now)) }
 {
-    items.reads.as_slice().iter().any(|read| read.0 == oid)
+    reads_name(items.reads.as_slice(), oid)
 }
 
-/// Whether an object of this name was written.
-fn is_written(items: &Items, oid: Oid) -> bool
-    ensures { result ≡ is_among oid (map item_name (writes_in items.now)) }
+/// Whether an object of this name was read or written.
+#[tactic(auto, using(crate::proofs::Reasons::among_either))]
+fn is_read_or_written(items: &Items, oid: Oid) -> bool
+    ensures { result ≡ is_among oid (map item_name (reads_in items.now ++ writes_in items.now)) }
 {
-    items.writes.as_slice().iter().any(|write| write.0 == oid)
+    reads_name(items.reads.as_slice(), oid) || writes_name(items.writes.as_slice(), oid)
+}
+
+fn reads_name(reads: &[(Oid, u32)], oid: Oid) -> bool
+    ensures { result ≡ list_any (λ read. is_same read.0 oid) reads.now }
+{
+    reads.iter().any(|read| is_one_name(read.0, oid))
+}
+
+fn writes_name(writes: &[(Oid, u32, Object)], oid: Oid) -> bool
+    ensures { result ≡ list_any (λ write. is_same write.0 oid) writes.now }
+{
+    writes.iter().any(|write| is_one_name(write.0, oid))
+}
+
+fn is_one_name(one: Oid, other: Oid) -> bool
+    ensures { result ≡ is_same one other }
+{
+    one == other
 }
 
 /// Whether a name isn't above the one before it in its list.
@@ -60,16 +80,15 @@ impl Store {
         }
     }
 
-    /// That an object isn't at the version that was read, if it isn't.
-    fn staleness(&self, oid: Oid, version: u32) -> Option<Answer>
-        ensures { result ≡ (if is_stale (version_of self.now.shelf.rows oid) version then Some (answers.Stale oid (version_of self.now.shelf.rows oid)) else None) }
+    /// The refusal of an object at a version: it isn't the current one, or another transaction bars it.
+    fn version_refusal(&self, oid: Oid, version: u32, writing: bool) -> Option<Answer>
+        ensures { IsFirstOf (out_of_date self.now.shelf.rows (Read oid version) ∷ barred oid writing self.now.shelf.prepared) result }
     {
         let current = self.version_of(oid);
         if current == 0 || version != current {
-            Some(Answer::Stale(oid, current))
-        } else {
-            None
+            return Some(Answer::Stale(oid, current));
         }
+        self.lock(oid, writing)
     }
 
     /// The first prepared transaction that bars an object, if there is one.
@@ -98,10 +117,7 @@ impl Store {
         if !self.rights.may_fetch(sender, oid.class) {
             return Some(Answer::Rights(oid));
         }
-        match self.staleness(oid, version) {
-            Some(stale) => Some(stale),
-            None => self.lock(oid, false),
-        }
+        self.version_refusal(oid, version, false)
     }
 
     fn write_refusal(
@@ -121,10 +137,7 @@ impl Store {
         if !self.rights.may_write(sender, oid.class) {
             return Some(Answer::Rights(oid));
         }
-        match self.staleness(oid, version) {
-            Some(stale) => Some(stale),
-            None => self.lock(oid, true),
-        }
+        self.version_refusal(oid, version, true)
     }
 
     fn create_refusal(
@@ -138,9 +151,8 @@ impl Store {
         ensures { IsFirstOf (reasons_of self.now.rights self.now.node sender tid self.now.shelf (map item_name (reads_in items.now ++ writes_in items.now)) before (Create create.now.0 create.now.1)) result }
     {
         let oid = create.0;
-        let earlier = is_read(items, oid) || is_written(items, oid);
         let suited = self.suits(oid, &create.1) && is_made_in(tid, oid);
-        if self.is_misplaced(before, oid) || earlier || !suited {
+        if self.is_misplaced(before, oid) || is_read_or_written(items, oid) || !suited {
             return Some(Answer::IllFormed(oid));
         }
         if !self.rights.may_write(sender, oid.class) {
