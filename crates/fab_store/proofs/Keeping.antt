@@ -1,12 +1,18 @@
 -- What a record makes of a shelf is one.
-use Rattle.std.proofs.Common.{◌≡◌, ◌<◌, ◌^◌, ℕ, sym, subst, Result, Ok, Err, IsOk, OnOk}
+use Rattle.std.proofs.Common.{◌≡◌, ◌<◌, ◌^◌, ◌++◌, ◌∷◌, [], List, ℕ, false, IsFalse, refl, sym, subst, Result, Ok, Err, IsOk, OnOk}
 use Rattle.std.proofs.lemmas.Bool.{false≢true}
+use Rattle.std.specs.List.{list_any}
+use Rattle.fab_base.specs.declared.object.Tid.{Tid}
+use Rattle.fab_base.specs.declared.message.Items.{Items}
 use Rattle.fab_base.specs.declared.entry.Entry.{Entry}
+use Rattle.fab_base.specs.declared.entry.Entry.TheVariants as e
 use Rattle.fab_rights.specs.declared.rights.Rights.{Rights}
-use Rattle.fab_protocol.specs.Stores.{Shelf, keeps}
-use Rattle.fab_protocol.specs.Shelves.{CanKeep, IsShelf}
+use Rattle.fab_protocol.specs.Stores.{Prepared, Shelf, keeps}
+use Rattle.fab_protocol.specs.Shelves.{AreApart, CanKeep, IsApart, IsShelf}
+use Rattle.fab_protocol.specs.Versions.{is_tid}
+use Rattle.fab_protocol.proofs.Lists.{all_split}
 use Rattle.fab_protocol.proofs.ShelfKept.{shelf_keeps}
-use Rattle.fab_store.specs.Stock.{IsStore, Stock}
+use Rattle.fab_store.specs.Stock.{HasRoomFor, IsStore, Stock}
 
 pub kept_store : (rights : Rights) (s : ℕ) (entry : Entry) (old new : Shelf) → CanKeep rights s entry old → IsStore rights s old
     → new ≡ keeps entry old → IsStore rights s new
@@ -23,3 +29,17 @@ can_keep entry found x y is view can =
 pub when_ok : {T E : Type 0} {P : Type 0} (r : Result T E) → IsOk r → OnOk r P → P
 when_ok (Ok x) ok p = p
 when_ok (Err e) ok p = absurd (false≢true ok)
+
+-- what is prepared anew has a tid that wasn't prepared
+apart_end : (ps : List Prepared) (q : Prepared) → AreApart (ps ++ q ∷ []) → list_any (λ p. is_tid p.0 q.0) ps ≡ false
+apart_end [] q h = refl
+apart_end (p ∷ ps) q h = rw ((all_split (IsApart p) ps (q ∷ []) h.0).1.0.0, apart_end ps q h.1) refl
+
+pub not_held : (rights : Rights) (s : ℕ) (t : Tid) (items : Items) (old : Shelf) → CanKeep rights s (e.Prepared t items) old → IsStore rights s old
+    → IsFalse (list_any (λ p. is_tid p.0 t) old.prepared)
+not_held rights s t items old can is = apart_end old.prepared (t, items) (shelf_keeps rights s (e.Prepared t items) old is.mask can is.shelf).apart
+
+-- the room for a record, as a pattern found it
+pub room_for : (entry found : Entry) (x y : Stock) → entry ≡ found → x ≡ y → HasRoomFor entry y → HasRoomFor found x
+room_for entry found x y is view room =
+    subst (λ (z : Stock). HasRoomFor found z) (sym view) (subst (λ (en : Entry). HasRoomFor en y) is room)

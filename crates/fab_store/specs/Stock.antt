@@ -21,9 +21,9 @@ pub record Stock : Type 0 where
   pub spare_locks : ℕ
 
 -- what holds of every store: its shelf is one, over a mask of workers that has 64 bits
-pub record IsStore (rights : Rights) (s : ℕ) (shelf : Shelf) : Type 0 where
+pub record IsStore (rights : Rights) (s : ℕ) (x : Shelf) : Type 0 where
   pub mask : rights.workers < 2 ^ 64
-  pub shelf : IsShelf rights s shelf
+  pub shelf : IsShelf rights s x
 
 -- a plan: the record that is to be kept, and the step
 pub record Plan : Type 0 where

@@ -1,9 +1,11 @@
 //! A store's node: what it holds, and what it does at a message.
 
-ghost use Rattle.std.specs.Prelude.{◌≡◌, ◌≤◌, ◌<◌, ◌^◌, Option, None, Some, IfOk, OnOk, OnErr, IsTrue, length};
+ghost use Rattle.std.specs.Prelude.{◌≡◌, ◌≤◌, ◌<◌, ◌^◌, ◌==◌, if◌then◌else◌, Option, None, Some, IfOk, OnOk, OnErr, IsTrue, length};
 ghost use Rattle.std.specs.List.{AllByRecursion};
 ghost use Rattle.fab_base.specs.FlatMap.{ascends as roots_ascend};
 ghost use Rattle.fab_wire.specs.Reading.{read_message};
+ghost use Rattle.fab_protocol.specs.Tables.{placed};
+ghost use Rattle.fab_protocol.specs.Versions.{begun, name_of};
 ghost use Rattle.fab_protocol.specs.Stores.{hears, keeps, keeps_said, shelf_at_start, step_of};
 ghost use Rattle.fab_store.specs.Stock.{CanKeepSaid, HasRoom, HasRoomFor, OnlyGainsRoom, plan_of};
 ghost use Rattle.fab_protocol.specs.Shelves.{CanKeep};
@@ -51,6 +53,21 @@ impl Model for Store {
     ghost invariant = { λ s. IsStore s.rights s.node (record { rows = s.table.rows; prepared = s.locks.held; senders = s.senders.items }) };
 }
 
+/// Puts a root at version 1, if it is of this store.
+fn put_root(
+    alloc: Global,
+    table: &mut Table,
+    node: u16,
+    root: &(Oid, Object),
+) -> Result<(), NoMemory>
+    ensures { OnOk result (table.new.rows ≡ (if root.now.0.store == node then placed name_of (begun root.now) table.old.rows else table.old.rows)) }
+{
+    if root.0.store == node {
+        table.put(root.0, 1, root.1.copy(alloc)?)?;
+    }
+    Ok(())
+}
+
 /// Does nothing: it is there for what its contract says of a mask.
 fn has_64_bits(_mask: u64)
     ensures { _mask < 2 ^ 64 }
@@ -73,9 +90,7 @@ impl Store {
     {
         let mut table = Table::new(alloc);
         for root in roots {
-            if root.0.store == node {
-                table.put(root.0, 1, root.1.copy(alloc)?)?;
-            }
+            put_root(alloc, &mut table, node, root)?;
         }
         has_64_bits(rights.workers);
         Ok(Store {
