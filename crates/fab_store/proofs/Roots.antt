@@ -1,5 +1,5 @@
 -- Roots, put one after the other into a table.
-use Rattle.std.proofs.Common.{◌≡◌, ◌==◌, ◌&&◌, ℕ, suc, ◌+◌, ◌<◌, Bool, true, false, List, [], ◌∷◌, ◌++◌, length, map, take, drop, get_or, refl, sym, ap, ◌∙◌, subst, arith, IsTrue, if◌then◌else◌}
+use Rattle.std.proofs.Common.{◌≡◌, ◌==◌, ◌&&◌, ℕ, suc, ◌+◌, ◌<◌, Bool, true, false, List, [], ◌∷◌, ◌++◌, length, map, take, drop, get_or, refl, sym, ap, ◌∙◌, subst, IsTrue, if◌then◌else◌}
 use Rattle.std.specs.List.{AllByRecursion, filter}
 use Rattle.std.proofs.lemmas.List.{append-nil, map-append, take_more}
 use Rattle.std.proofs.lemmas.List.Elements.{filter-append}
@@ -46,13 +46,13 @@ module _ (s : ℕ) (roots : FlatMap) (i : ℕ) (root : Root) (within : i < lengt
   put_behind ascending same =
       let rows : List Row = map begun (filter (here s) (take i roots)) in
       let parts : roots ≡ take i roots ++ root ∷ drop (suc i) roots =
-          split_at roots i root within ∙ ap (λ (r : Root). take i roots ++ r ∷ drop (suc i) roots) (sym at) in
+      split_at roots i root within ∙ ap (λ (r : Root). take i roots ++ r ∷ drop (suc i) roots) (sym at) in
       let whole : IsTrue (ascends root_name (take i roots ++ root ∷ drop (suc i) roots)) =
-          subst (λ (rs : FlatMap). IsTrue (ascends root_name rs)) parts (as_table roots ∙ ascending) in
+      subst (λ (rs : FlatMap). IsTrue (ascends root_name rs)) parts (as_table roots ∙ ascending) in
       let before : AllByRecursion (λ (r : Root). IsTrue (is_before r.0 root.0)) (take i roots) = (ascends_parts root_name (take i roots) (drop (suc i) roots) root whole).0 in
       let all : AllByRecursion (λ (r : Row). IsTrue (is_before r.0 root.0)) rows =
-          all_map (λ (r : Row). IsTrue (is_before r.0 root.0)) begun (filter (here s) (take i roots))
-          (all_filter (λ (r : Root). IsTrue (is_before r.0 root.0)) (here s) (take i roots) before) in
+      all_map (λ (r : Row). IsTrue (is_before r.0 root.0)) begun (filter (here s) (take i roots))
+      (all_filter (λ (r : Root). IsTrue (is_before r.0 root.0)) (here s) (take i roots) before) in
       let one : filter (here s) (root ∷ []) ≡ root ∷ [] = rw same refl in
       ap (placed name_of (begun root)) (sym (append-nil rows))
       ∙ placed_behind name_of (begun root) rows [] all

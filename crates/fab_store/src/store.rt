@@ -71,8 +71,7 @@ fn put_root(
 /// Does nothing: it is there for what its contract says of a mask.
 fn has_64_bits(_mask: u64)
     ensures { _mask < 2 ^ 64 }
-{
-}
+{}
 
 impl Store {
     /// A store of these objects, each at version 1, of which nobody has asked anything.

@@ -1,6 +1,5 @@
 use Rattle.std.proofs.Common.{◌≡◌, map, take, [], None}
 use Rattle.fab_base.specs.declared.message.Message.TheVariants.{Inquire}
-use Rattle.fab_protocol.specs.Stores.{asks}
 use Rattle.fab_store.proofs.store.Store.asks.Given as goal
 
 abbrev pub invariant-loop-tid : goal.invariant-loop-tid

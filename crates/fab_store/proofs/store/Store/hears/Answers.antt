@@ -15,7 +15,7 @@ returns-in-Ok-clause-spelled c =
     let x = c.args.self.now in
     let counts : KeepsCounts c.in-Ok.message = can_be_encoded c.in-Ok.ensures.found.spelled.0 c.in-Ok.message c.in-Ok.ensures.found.spelled.1 in
     let few : AllByRecursion (λ (row : Row). length row.2.fields ≤ 16) x.shelf.rows =
-        subst (λ (v : Stock). AllByRecursion (λ (row : Row). length row.2.fields ≤ 16) v.shelf.rows) c.self.view_is c.self.invariant.shelf.fields in
+    subst (λ (v : Stock). AllByRecursion (λ (row : Row). length row.2.fields ≤ 16) v.shelf.rows) c.self.view_is c.self.invariant.shelf.fields in
     if_ok_along c.says.result (λ said. said ≡ says x.rights x.node c.args.sender c.in-Ok.message x.shelf) CanSpell
     (λ said is. subst CanSpell (sym is) (says_spells x.rights x.node c.args.sender x.shelf few c.in-Ok.message counts)) c.says.ensures
 

@@ -1,6 +1,6 @@
-use Rattle.std.proofs.Common.{◌≡◌, ◌++◌, ◌∷◌, [], List, sym, subst, ap, arith}
+use Rattle.std.proofs.Common.{◌≡◌, ◌++◌, ◌∷◌, []}
 use Rattle.fab_base.specs.declared.entry.Entry.TheVariants as e
-use Rattle.fab_protocol.specs.Stores.{Prepared, Shelf}
+use Rattle.fab_protocol.specs.Stores.{Shelf}
 use Rattle.fab_protocol.specs.Shelves.{CanKeep}
 use Rattle.fab_store.proofs.Keeping.{can_keep, kept_store, not_held, room_for, when_ok}
 use Rattle.fab_store.proofs.store.Store.keep.Goals as goal
@@ -20,7 +20,7 @@ invariant_of-self c =
     let entry = e.Prepared c.in-Prepared.tid c.in-Prepared.items in
     let can : CanKeep x.rights x.node entry old = can_keep c.args.entry entry _ _ c.in-Prepared.is c.self.view_is c.requires.can in
     let held : c.hold.new.self.held ≡ x.locks.held ++ (c.in-Prepared.tid, c.in-Prepared.items) ∷ [] =
-        when_ok c.hold.result (c.hold.ensures.sure (room_for c.args.entry entry _ _ c.in-Prepared.is c.self.view_is c.requires.room)) c.hold.ensures.ok in
+    when_ok c.hold.result (c.hold.ensures.sure (room_for c.args.entry entry _ _ c.in-Prepared.is c.self.view_is c.requires.room)) c.hold.ensures.ok in
     kept_store x.rights x.node entry old _ can c.self.invariant
     (λ i. record { rows = x.table.rows; prepared = held i; senders = c.set_last.ensures i })
 

@@ -1,11 +1,10 @@
-use Rattle.std.proofs.Common.{◌≡◌, ◌+◌, ◌<◌, ◌^◌, ◌==◌, ◌≤◌, [], ap, sym, subst, ◌∙◌, take, map, arith, length, List}
+use Rattle.std.proofs.Common.{◌≡◌, ◌≤◌, [], ap, sym, subst, ◌∙◌, map, arith, length}
 use Rattle.std.specs.List.{filter, range_with_len}
 use Rattle.std.proofs.lemmas.List.{take_all}
 use Rattle.fab_base.specs.FlatMap.{FlatMap}
 use Rattle.fab_rights.specs.declared.rights.Rights.{Rights}
 use Rattle.fab_protocol.specs.Versions.{begun}
 use Rattle.fab_protocol.specs.Stores.{Shelf, shelf_at_start, unheard}
-use Rattle.fab_protocol.specs.Shelves.{IsShelf}
 use Rattle.fab_protocol.proofs.ShelfKept.{start_is}
 use Rattle.fab_store.specs.Stock.{IsStore}
 use Rattle.fab_store.proofs.Roots.{here, next_root}
@@ -22,7 +21,7 @@ invariant_of-result-2 c =
     let roots = c.args.roots.now in
     let past : length roots ≤ c.loop-root.root-index = omega (arith, c.loop-root-test.false) in
     let rows : c.table-2.inside.rows.items ≡ map begun (filter (here s) roots) =
-        ap (λ h. h.rows) c.table-2.view_is ∙ c.loop-root.invariant ∙ ap (λ (rs : FlatMap). map begun (filter (here s) rs)) (take_all c.loop-root.root-index roots past) in
+    ap (λ h. h.rows) c.table-2.view_is ∙ c.loop-root.invariant ∙ ap (λ (rs : FlatMap). map begun (filter (here s) rs)) (take_all c.loop-root.root-index roots past) in
     let held : c.new.result.held ≡ [] = ap (λ h. h.held) c.new.ensures in
     let senders : c.in_ok-none_heard.field-0.items ≡ map unheard (range_with_len 0 64) = c.in_ok-none_heard.ensures in
     let start : IsStore c.args.rights.now s (shelf_at_start roots s) = record {

@@ -1,8 +1,4 @@
-use Rattle.std.proofs.Common.{◌≡◌, ◌≤◌, List, length, take, ap, ◌∙◌, sym, subst, arith}
-use Rattle.std.proofs.lemmas.List.{take_all}
-use Rattle.fab_base.specs.declared.entry.Entry.{Entry}
-use Rattle.fab_protocol.specs.declared.said.Said.{Said}
-use Rattle.fab_protocol.specs.Stores.{shelf_of}
+use Rattle.std.proofs.Common.{sym, subst, arith}
 use Rattle.fab_store.specs.Stock.{CanSpell}
 use Rattle.fab_store.proofs.Again.{can_next, has_none, kept_next}
 use Rattle.fab_store.proofs.Spelling.{asks_spells}
