@@ -10,6 +10,8 @@ mod recovery;
 mod senders;
 mod steps;
 mod store;
+#[cfg(test)]
+mod tests;
 mod votes;
 
 pub use plan::StorePlan;
