@@ -134,7 +134,8 @@ impl Store {
         if self.is_misplaced(before, oid) || is_read(items, oid) || !self.suits(oid, &write.2) {
             return Some(Answer::IllFormed(oid));
         }
-        if !self.rights.may_write(sender, oid.class) {
+        let is_writer = self.rights.may_write(sender, oid.class);
+        if !is_writer {
             return Some(Answer::Rights(oid));
         }
         self.version_refusal(oid, version, true)
