@@ -1,2 +1,3 @@
-pub mod Stock
+pub mod Histories
 pub mod Refusals
+pub mod Stock

@@ -5,6 +5,7 @@
 mod changes;
 mod fetches;
 mod heard;
+mod laws;
 mod plan;
 mod recovery;
 mod senders;
@@ -14,5 +15,6 @@ mod store;
 mod tests;
 mod votes;
 
+pub use laws::recovery_gives_the_store;
 pub use plan::StorePlan;
 pub use store::Store;
