@@ -231,8 +231,10 @@ impl Sink for Full {
 
     ghost faults = { λ s. s.faults };
 
-    fn write(&mut self, _piece: &[u8]) -> Result<usize, SinkError> {
-        self.faults = self.faults.saturating_add(1);
+    fn write(&mut self, piece: &[u8]) -> Result<usize, SinkError> {
+        if !piece.is_empty() {
+            self.faults = self.faults.saturating_add(1);
+        }
         Ok(0)
     }
 }
