@@ -1,23 +1,25 @@
 -- The laws of an evaluation hold of one that says what it reads, and don't hold of one that hides it.
 use Rattle.std.proofs.Common.{◌≡◌, ℕ, List, [], ◌∷◌, pos, Option, Some, None}
-use Rattle.std.proofs.Common.{refl, sym, ap, ◌∙◌, subst, true, false, true≢false}
-use Rattle.std.proofs.Common.{if◌then◌else◌, IsTrue, nat_abs, arith, length, ◌+◌, ◌≤◌, lit<, lit≤}
+use Rattle.std.proofs.Common.{refl, sym, ap, subst, true, false, true≢false}
+use Rattle.std.proofs.Common.{if◌then◌else◌, IsTrue, unwrap_or, nat_abs, arith, length, ◌+◌, ◌≤◌, lit<, lit≤}
 use Rattle.std.specs.List.{AllByRecursion}
+use Rattle.std.specs.Int.{w32, int_wrap}
+use Rattle.std.proofs.lemmas.Int.{SFits-int_wrap}
 use Rattle.fab_base.specs.declared.object.Object.{Object}
 use Rattle.fab_base.specs.declared.object.Oid.{Oid}
-use Rattle.fab_base.specs.declared.object.Tid.{Tid}
 use Rattle.fab_base.specs.declared.object.Value.{Value}
-use Rattle.fab_base.specs.declared.object.Value.TheVariants.{Int}
-use Rattle.fab_base.specs.FlatMap.{FlatMap, get, ascends, is_among}
+use Rattle.fab_base.specs.declared.object.Value.TheVariants.{Int, Null, Ref}
+use Rattle.fab_base.specs.FieldSpelling.{IsObject, IsValue}
+use Rattle.fab_base.specs.FlatMap.{FlatMap, get, ascends, is_among, is_same}
 use Rattle.fab_language.specs.declared.ending.Ending.{Ending}
 use Rattle.fab_language.specs.declared.ending.Ending.TheVariants.{Ended, Missing}
 use Rattle.fab_language.specs.Heaps.{touched}
 use Rattle.fab_language.specs.Meaning.{Meant}
 use Rattle.fab_protocol.specs.Versions.{is_made_in}
 use Rattle.fab_world.specs.Machine.{Setting}
-use Rattle.fab_world.specs.Serial.{IsEvaluation, AreAlike, NoneMadeIn, SameOn, AreFit, IsFitName}
+use Rattle.fab_world.specs.Serial.{IsEvaluation, AreAlike, SameOn, AreFit, IsFitName}
 use Rattle.fab_protocol.proofs.Toy.{account, accounts, attempt}
-use Rattle.fab_world.proofs.Toy.{amount, lacks, setting, no_posts}
+use Rattle.fab_world.proofs.Toy.{amount, amount_in, lacks, setting, no_posts}
 
 abbrev read : List (ℕ × Oid) → Object → FlatMap → Meant
 read touches x N = record { ending = Ended (Some (Int (amount x))); map = N; written = []; made = []; touches = touches; downs = [] }
@@ -72,6 +74,36 @@ account_fits = record {
   spelled = record { store = lit< tt; class = lit< tt; worker = lit< tt; boot = lit< tt; number = lit< tt; site = lit< tt; index = lit< tt };
 }
 
+abbrev value_in : Ending → Value
+value_in (Ended (Some v)) = v
+value_in _ = Int (pos 0)
+
+zero_fits : IsValue 1 (Int (pos 0))
+unfolding int_wrap
+zero_fits = SFits-int_wrap w32 (pos 0)
+
+-- what is read of a fitting object can be spelled
+amount_fits : (fields : List Value) → AllByRecursion (IsValue 1) fields → IsValue 1 (Int (amount_in fields))
+amount_fits [] h = zero_fits
+amount_fits (Int n ∷ vs) h = h.0
+amount_fits (Null ∷ vs) h = zero_fits
+amount_fits (Ref o ∷ vs) h = zero_fits
+
+there_fits : (N : FlatMap) (o : Oid) (x : Object) → AreFit honest N → get N o ≡ Some x → IsObject 1 x
+there_fits [] o x h e = let no : None ≡ Some x = e in cc
+there_fits (row ∷ rows) o x h e =
+    elim (is_same row.0 o) as (λ b. (if b then Some row.1 else get rows o) ≡ Some x → IsObject 1 x) [
+      | true ↦ λ g. subst (λ y. IsObject 1 y) (ap (λ y. unwrap_or y x) g) h.0.spelled
+      | false ↦ λ g. there_fits rows o x h.1 g
+    ] e
+
+value_fits : (N : FlatMap) (v : Value) (x : Option Object) → get N (account 0) ≡ x → AreFit honest N
+    → (peeked ((0, account 0) ∷ []) x N).ending ≡ Ended (Some v) → IsValue 1 v
+value_fits N v None there h e = let no : Missing 0 (account 0) ≡ Ended (Some v) = e in cc
+value_fits N v (Some x) there h e =
+    let same : Int (amount x) ≡ v = ap value_in e in
+    subst (λ u. IsValue 1 u) same (amount_fits x.fields (there_fits N (account 0) x h there).fields)
+
 honest_is_evaluation : IsEvaluation honest
 honest_is_evaluation = record {
   local = λ w r t N M v old other ended same.
@@ -92,7 +124,7 @@ honest_is_evaluation = record {
         | Some x ↦ (account_fits, tt)
       ];
   missing = λ w r t N site o numbers h e. subst (λ p. IsFitName honest p) (missed_there N site o (get N (account 0)) e) account_fits;
-  value = λ w r t N v numbers h e. ?;
+  value = λ w r t N v numbers h e. value_fits N v (get N (account 0)) refl h e;
   few_touched = λ w r t N.
       elim (get N (account 0)) as (λ x. length (touched (peeked ((0, account 0) ∷ []) x N).touches) ≤ 1024) [ None ↦ lit≤ tt | Some x ↦ lit≤ tt ];
   few_changed = λ w r t N.

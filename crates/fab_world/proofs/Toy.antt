@@ -24,7 +24,7 @@ is_hostile n = (n == 2) || (n == 4)
 
 -- ---- what requests mean
 
-abbrev amount_in : List Value → ℤ
+abbrev pub amount_in : List Value → ℤ
 amount_in [] = pos 0
 amount_in (Int n ∷ vs) = n
 amount_in (Null ∷ vs) = pos 0

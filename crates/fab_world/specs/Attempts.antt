@@ -1,5 +1,5 @@
 -- An attempt of a request: its parts, what each store is asked to prepare, and what a cache takes of it.
-use Rattle.std.specs.Prelude.{ℕ, suc, Bool, not, ◌&&◌, ◌||◌, ◌==◌, nat_lt, nat_le}
+use Rattle.std.specs.Prelude.{ℕ, Bool, not, ◌&&◌, ◌||◌, ◌==◌, nat_lt, nat_le}
 use Rattle.std.specs.Prelude.{if◌then◌else◌, List, [], ◌∷◌, ◌++◌, map, length, Option, None, fold}
 use Rattle.std.specs.List.{filter, filter_map}
 use Rattle.fab_base.specs.declared.object.Oid.{Oid}

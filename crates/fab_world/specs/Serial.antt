@@ -1,5 +1,5 @@
 -- What a run comes to: its commits replayed one after the other, what is held, and that the two are the same for every set of distrusted nodes.
-use Rattle.std.specs.Prelude.{◌≡◌, ◌↔◌, ◌⊎◌, ℕ, ◌+◌, ◌<◌, ◌≤◌, ◌^◌, ◌||◌, Bool, true, not, IsTrue, IsFalse, List, [], ◌∷◌, ◌++◌, length, Option, Some}
+use Rattle.std.specs.Prelude.{◌≡◌, ◌↔◌, ℕ, ◌+◌, ◌<◌, ◌≤◌, ◌^◌, ◌||◌, Bool, true, not, IsTrue, IsFalse, List, [], ◌∷◌, ◌++◌, length, Option, Some}
 use Rattle.std.specs.List.{filter, flat_map, fold, AllByRecursion}
 use Rattle.fab_base.specs.declared.object.Oid.{Oid}
 use Rattle.fab_base.specs.declared.object.Object.{Object}
