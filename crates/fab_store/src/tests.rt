@@ -414,49 +414,6 @@ fn boots_and_last_tids(rt: HostRuntime) -> Result<(), Fail> {
 }
 
 #[test]
-fn an_object_is_made_once(rt: HostRuntime) -> Result<(), Fail> {
-    let alloc = rt.alloc();
-    let mut store = store(alloc)?;
-    let bytes = prepare(alloc, tid(0, 1), &[], &[], &[(made(1), 0)])?;
-    store.handle(0, bytes.as_slice())?;
-    store.handle(0, b"\x01\x06\x00\x00\x00\x00\x00\x01\x00\x00\x00\x01")?;
-    assert_eq!(rt; store.rows().len(), 4);
-    // Behind a new boot the attempt is new again, and its object is there.
-    store.handle(0, b"\x01\x08\x00\x00\x00\x01")?;
-    let step = store.handle(0, bytes.as_slice())?;
-    assert!(rt;
-        matches!(
-            decode(alloc, sent(&step)),
-            Ok(Message::Vote {
-                answer: Answer::Exists(_),
-                ..
-            })
-        )
-    );
-    Ok(())
-}
-
-#[test]
-fn no_items_and_many_fetches(rt: HostRuntime) -> Result<(), Fail> {
-    let alloc = rt.alloc();
-    let mut store = store(alloc)?;
-    assert!(rt; is_taken(&mut store, alloc, tid(0, 1), &[])?);
-    let commit = b"\x01\x06\x00\x00\x00\x00\x00\x01\x00\x00\x00\x01";
-    assert!(rt; store.handle(0, commit)?.entry.is_some());
-    assert!(rt; store.handle(0, commit)?.entry.is_none());
-    assert_eq!(rt; versions(&store), (1, 1, 1));
-    let mut fetch = Seq::from_slice(alloc, b"\x01\x01")?;
-    put_tid(&mut fetch, tid(0, 2))?;
-    put_oid(&mut fetch, SECOND)?;
-    for _ in 0..10_000 {
-        let step = store.handle(0, fetch.as_slice())?;
-        assert_eq!(rt; sent(&step).len(), 42);
-    }
-    assert_eq!(rt; versions(&store), (1, 1, 1));
-    Ok(())
-}
-
-#[test]
 fn recovery(rt: HostRuntime) -> Result<(), Fail> {
     let alloc = rt.alloc();
     let rights = rights(alloc)?;
