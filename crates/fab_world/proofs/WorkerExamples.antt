@@ -16,8 +16,11 @@ use Rattle.fab_net.specs.declared.outcome.Denial.TheVariants.{Rights, IllFormed}
 use Rattle.fab_base.specs.declared.object.Stop.TheVariants as stop
 use Rattle.fab_net.specs.declared.note.Note.TheVariants as note
 use Rattle.fab_protocol.specs.Versions.{Rows}
-use Rattle.fab_world.specs.Attempts.{Parts, parts_of, stores_of, items_at, puts_of, last_distinct}
-use Rattle.fab_world.specs.Workers.{Kept, Attempt, Act, Evaluating, Fetching, Preparing, kept_of, fresh, stays, cached, takes, gives_up, wakes, closed}
+use Rattle.fab_protocol.specs.declared.parts.Parts.{Parts}
+use Rattle.fab_protocol.specs.Parts.{stores_of, items_at, puts_of}
+use Rattle.fab_protocol.specs.Caches.{cached, last_distinct}
+use Rattle.fab_world.specs.Attempts.{parts_of}
+use Rattle.fab_world.specs.Workers.{Kept, Attempt, Act, Evaluating, Fetching, Preparing, kept_of, fresh, stays, takes, gives_up, wakes, closed}
 use Rattle.fab_protocol.proofs.Toy.{account, box, holding, attempt, made, rights}
 
 abbrev t : Tid
@@ -40,14 +43,14 @@ stores_take_part : stores_of P ≡ 1 ∷ 4 ∷ []
 stores_take_part = refl
 
 -- each store is told of its own objects
-at_one : items_at answers P 1 ≡ record { reads = (account 0, 7) ∷ []; writes = []; creates = (made t, holding (pos 1)) ∷ [] }
+at_one : items_at P 1 ≡ record { reads = (account 0, 7) ∷ []; writes = []; creates = (made t, holding (pos 1)) ∷ [] }
 at_one = refl
 
-at_four : items_at answers P 4 ≡ record { reads = []; writes = (box, 4, holding (pos 9)) ∷ []; creates = [] }
+at_four : items_at P 4 ≡ record { reads = []; writes = (box, 4, holding (pos 9)) ∷ []; creates = [] }
 at_four = refl
 
 -- reads stand in the order of names, whatever was touched first
-in_order : (items_at [] (record P { touched = account 1 ∷ account 0 ∷ []; writes = [] }) 1).reads ≡ (account 0, 0) ∷ (account 1, 0) ∷ []
+in_order : (items_at (record P { touched = (account 1, 0) ∷ (account 0, 0) ∷ []; writes = [] }) 1).reads ≡ (account 0, 0) ∷ (account 1, 0) ∷ []
 in_order = refl
 
 -- in the order of first touches, as behind the commit; what was made isn't among them
@@ -82,7 +85,7 @@ fetching = record A { phase = Fetching (account 1) }
 
 -- worker 0 in attempt a hears a message of store s
 abbrev on : Attempt → ℕ → Message → Act
-on a s message = takes rights 0 0 K s message a meant
+on a s message = takes rights 0 0 K s message a P
 
 -- without a commit nothing is left of the answers and the caches
 abbrev idle : ℕ → Attempt
@@ -106,7 +109,7 @@ from_a_worker : on (preparing (1 ∷ [])) 3 (Vote t Yes) ≡ stays (preparing (1
 from_a_worker = refl
 
 -- an attempt without a part at store 4
-only_at_one : takes rights 0 0 K 4 (Vote t (Locked t)) (preparing (1 ∷ [])) (record meant { map = []; touches = (3, account 0) ∷ [] }) ≡ stays (preparing (1 ∷ []))
+only_at_one : takes rights 0 0 K 4 (Vote t (Locked t)) (preparing (1 ∷ [])) (record P { touched = (account 0, 7) ∷ []; writes = []; creates = [] }) ≡ stays (preparing (1 ∷ []))
 only_at_one = refl
 
 of_another_attempt : on (preparing (1 ∷ [])) 1 (Vote (attempt 0 1 2) Yes) ≡ stays (preparing (1 ∷ []))
@@ -168,7 +171,7 @@ of_another_worker = refl
 
 -- ---- silence and recovery
 
-gives_up_preparing : gives_up rights 0 0 K 1 (preparing (1 ∷ [])) meant ≡ record {
+gives_up_preparing : gives_up rights 0 0 K 1 (preparing (1 ∷ [])) P ≡ record {
   entry = Some (e.Closed 1 3 1);
   attempt = idle 0;
   sends = (1, Abort t) ∷ (4, Abort t) ∷ [];

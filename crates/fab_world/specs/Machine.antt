@@ -24,6 +24,8 @@ use Rattle.fab_rights.specs.Computed.{is_node, is_worker, nodes_in}
 use Rattle.fab_protocol.specs.Versions.{Rows, objects_of, is_tid}
 use Rattle.fab_protocol.specs.declared.said.Said.{Said}
 use Rattle.fab_protocol.specs.Stores.{Shelf, shelf_of, says, asks, behind}
+use Rattle.fab_protocol.specs.declared.parts.Parts.{Parts}
+use Rattle.fab_world.specs.Attempts.{parts_of}
 use Rattle.fab_world.specs.Workers as workers
 use Rattle.fab_world.specs.Workers.{is_in, Kept, Phase, Attempt, Act, kept_of, fresh, stays, begins, resumes, takes, gives_up, wakes, request_of, tid_of}
 
@@ -182,6 +184,9 @@ module _ (S : Setting) where
   meant w n =
       S.means n (request_of (kept w n)) (tid_of n (kept w n) (w.node n).attempt) (map_of (objects_of (w.node n).attempt.answers))
 
+  abbrev pub parts : World → ℕ → Parts
+  parts w n = parts_of (w.node n).attempt.answers (meant w n)
+
   abbrev pub of_store : Attempt → Said → Act
   of_store a said = record { entry = said.entry; attempt = a; sends = said.sends; notes = said.notes }
 
@@ -189,14 +194,14 @@ module _ (S : Setting) where
   abbrev pub hears : World → ℕ → ℕ → Option Message → Act
   hears w a b None = stays (w.node b).attempt
   hears w a b (Some message) =
-      if is_worker S.rights b then takes S.rights S.cache b (kept w b) a message (w.node b).attempt (meant w b)
+      if is_worker S.rights b then takes S.rights S.cache b (kept w b) a message (w.node b).attempt (parts w b)
       else of_store (w.node b).attempt (says S.rights b a message (shelf w b))
 
   abbrev pub act : World → Inner → Act
   act w (i.Begin n) = begins S.rights S.cache n (kept w n) (w.node n).attempt
   act w (i.Resume n) = resumes S.rights S.cache n (kept w n) (w.node n).attempt (meant w n)
   act w (i.Deliver a b) = hears w a b (S.read (front_of (w.queue a b)))
-  act w (i.Idle n s) = gives_up S.rights S.cache n (kept w n) s (w.node n).attempt (meant w n)
+  act w (i.Idle n s) = gives_up S.rights S.cache n (kept w n) s (w.node n).attempt (parts w n)
   act w (i.Recover n) =
       if is_worker S.rights n then wakes S.rights S.cache n (kept w n) else of_store (w.node n).attempt (asks (shelf w n))
 

@@ -21,7 +21,8 @@ use Rattle.fab_net.specs.declared.note.Note.TheVariants as note
 use Rattle.fab_net.specs.declared.note.Logged.{Logged}
 use Rattle.fab_rights.specs.Computed.{is_store, is_worker, may_hold, may_write, stores_in, suits}
 use Rattle.fab_protocol.specs.Versions.{objects_of, is_made_in}
-use Rattle.fab_world.specs.Attempts.{parts_of, Parts}
+use Rattle.fab_protocol.specs.declared.parts.Parts.{Parts}
+use Rattle.fab_world.specs.Attempts.{parts_of}
 use Rattle.fab_world.specs.Machine.{Setting, World, Move, Form, Does, Cuts, Fails, form_of, at_start, held_at, runs, logs, are_enabled}
 
 -- ---- the commit list: the decisions whose records stand, of workers that aren't distrusted

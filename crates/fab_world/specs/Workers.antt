@@ -28,21 +28,18 @@ use Rattle.fab_net.specs.declared.note.Note.{Note}
 use Rattle.fab_net.specs.declared.note.Note.TheVariants as note
 use Rattle.fab_rights.specs.declared.rights.Rights.{Rights}
 use Rattle.fab_rights.specs.Computed.{is_store, stores_in, suits}
-use Rattle.fab_protocol.specs.Tables.{row_of}
-use Rattle.fab_protocol.specs.Versions.{Row, Rows, name_of, version_of, is_tid, maker_of}
-use Rattle.fab_world.specs.Attempts.{parts_of, Parts, stores_of, items_at, puts_of, last_distinct}
+use Rattle.fab_protocol.specs.Versions.{Row, Rows, version_of, is_tid, maker_of}
+use Rattle.fab_protocol.specs.declared.parts.Decision.{Decision}
+use Rattle.fab_protocol.specs.declared.parts.Parts.{Parts}
+use Rattle.fab_protocol.specs.Parts.{stores_of, items_at, puts_of}
+use Rattle.fab_protocol.specs.Caches.{cached, cached_row}
+use Rattle.fab_world.specs.Attempts.{parts_of}
 
 -- a number is among these
 abbrev pub is_in : ℕ → List ℕ → Bool
 is_in n ns = list_any (λ m. m == n) ns
 
 -- ---- what lasts: the fold of the records
-
-pub record Decision : Type 0 where
-  pub tid : Tid
-  pub request : ℕ
-  pub stores : List ℕ
-  pub value : Option Value
 
 -- the boot, which is 1 and one more per Boot record, whatever its number; the decisions; the outcomes of requests 1, 2, ..
 pub record Kept : Type 0 where
@@ -134,14 +131,6 @@ sending sends act = record act { sends = sends ++ act.sends }
 abbrev pub to_all : List ℕ → Message → List (ℕ × Message)
 to_all ss message = map (λ s. (s, message)) ss
 
--- the objects of each store among these puts into its cache, which keeps the last k distinct
-abbrev pub cached : ℕ → Rows → ℕ → List Rows → List Rows
-cached k puts s [] = []
-cached k puts s (cache ∷ caches) = last_distinct k (cache ++ filter (λ row. row.0.store == s) puts) ∷ cached k puts (suc s) caches
-
-abbrev pub look_up : Attempt → Oid → Option Row
-look_up a o = row_of name_of (unwrap_or (slice_get a.caches o.store) []) o
-
 abbrev pub tid_of : ℕ → Kept → Attempt → Tid
 tid_of n kept a = record { worker = n; boot = kept.boot; number = a.number }
 
@@ -152,9 +141,6 @@ module _ (rights : Rights) (k n : ℕ) (kept : Kept) where
 
   abbrev pub tid : Attempt → Tid
   tid a = tid_of n kept a
-
-  abbrev pub parts : Attempt → Meant → Parts
-  parts a meant = parts_of a.answers meant
 
   -- what an evaluation touched and downgraded since the last one
   abbrev pub new_touches : Attempt → Meant → List (ℕ × Oid × ℕ)
@@ -175,12 +161,12 @@ module _ (rights : Rights) (k n : ℕ) (kept : Kept) where
   abbrev pub dropped : Attempt → Attempt
   dropped a = over (map (λ cache. []) a.caches) a
 
-  abbrev pub decides : Attempt → Meant → Act
-  decides a meant = record {
-    entry = Some (e.Decided (tid a) request (parts a meant).value (stores_of (parts a meant)));
-    attempt = record (over (cached k (puts_of a.answers (parts a meant)) 0 a.caches) a) { tries = 0 };
-    sends = to_all (stores_of (parts a meant)) (m.Commit (tid a));
-    notes = note.Decided (tid a) request true a.answers ∷ note.Closed request (Committed (tid a) (parts a meant).value) ∷ [];
+  abbrev pub decides : Attempt → Parts → Act
+  decides a parts = record {
+    entry = Some (e.Decided (tid a) request parts.value (stores_of parts));
+    attempt = record (over (cached k (puts_of a.answers parts) 0 a.caches) a) { tries = 0 };
+    sends = to_all (stores_of parts) (m.Commit (tid a));
+    notes = note.Decided (tid a) request true a.answers ∷ note.Closed request (Committed (tid a) parts.value) ∷ [];
   }
 
   abbrev pub closes : ReqOutcome → Attempt → Act
@@ -222,17 +208,19 @@ module _ (rights : Rights) (k n : ℕ) (kept : Kept) where
       (sending ((o.store, m.Fetch (tid a) o) ∷ []) (stays (record (telling a meant) { phase = Fetching o })))
 
   -- without a participant it is decided
-  abbrev pub asks_all : List ℕ → Attempt → Meant → Act
-  asks_all [] a meant = decides a meant
-  asks_all (s ∷ ss) a meant =
-      sending (map (λ s. (s, m.Prepare (tid a) (items_at a.answers (parts a meant) s))) (s ∷ ss))
-      (stays (record (telling a meant) { phase = Preparing (s ∷ ss) }))
+  abbrev pub asks_all : List ℕ → Attempt → Parts → Act
+  asks_all [] a parts = decides a parts
+  asks_all (s ∷ ss) a parts =
+      sending (map (λ s. (s, m.Prepare (tid a) (items_at parts s))) (s ∷ ss)) (stays (record a { phase = Preparing (s ∷ ss) }))
+
+  abbrev pub ends : Option Value → Attempt → Meant → Parts → Act
+  ends value a meant parts =
+      noting (note.Ended (tid a) value (new_touches a meant) (new_downs a meant) parts.writes parts.creates ∷ [])
+      (asks_all (stores_of parts) (telling a meant) parts)
 
   abbrev pub resumes_at : Ending → Attempt → Meant → Act
-  resumes_at (endings.Missing site o) a meant = needs site o (look_up a o) a meant
-  resumes_at (endings.Ended value) a meant =
-      noting (note.Ended (tid a) value (new_touches a meant) (new_downs a meant) (parts a meant).writes (parts a meant).creates ∷ [])
-      (asks_all (stores_of (parts a meant)) a meant)
+  resumes_at (endings.Missing site o) a meant = needs site o (cached_row a.caches o) a meant
+  resumes_at (endings.Ended value) a meant = ends value a meant (parts_of a.answers meant)
   resumes_at endings.Failed a meant = noting (note.Failed (tid a) (new_touches a meant) (new_downs a meant) ∷ []) (closes Failed a)
   resumes_at (endings.Stopped limit) a meant = noting (note.Stopped (tid a) limit (new_touches a meant) (new_downs a meant) ∷ []) (closes (Stopped limit) a)
 
@@ -247,9 +235,9 @@ module _ (rights : Rights) (k n : ℕ) (kept : Kept) where
   awaits_object s t o a _ = false
 
   -- the tid is being prepared, and s takes part
-  abbrev pub awaits_vote : ℕ → Tid → Attempt → Meant → Phase → Bool
-  awaits_vote s t a meant (Preparing ls) = is_tid t (tid a) && is_in s (stores_of (parts a meant))
-  awaits_vote s t a meant _ = false
+  abbrev pub awaits_vote : ℕ → Tid → Attempt → Parts → Phase → Bool
+  awaits_vote s t a parts (Preparing ls) = is_tid t (tid a) && is_in s (stores_of parts)
+  awaits_vote s t a parts _ = false
 
   -- not of this worker at or above this attempt
   abbrev pub is_made_before : Oid → Attempt → Bool
@@ -265,52 +253,52 @@ module _ (rights : Rights) (k n : ℕ) (kept : Kept) where
   denied s why.Missing a = try_ends a
   denied s why.Rights a = gives (Denied s NoRights) a
 
-  abbrev pub waits_for : List ℕ → Attempt → Meant → Act
-  waits_for [] a meant = decides a meant
-  waits_for (l ∷ ls) a meant = stays (record a { phase = Preparing (l ∷ ls) })
+  abbrev pub waits_for : List ℕ → Attempt → Parts → Act
+  waits_for [] a parts = decides a parts
+  waits_for (l ∷ ls) a parts = stays (record a { phase = Preparing (l ∷ ls) })
 
   abbrev pub not_voted : Phase → List ℕ
   not_voted (Preparing ls) = ls
   not_voted _ = []
 
-  abbrev pub yes_from : ℕ → Attempt → Meant → Act
-  yes_from s a meant = waits_for (filter (λ l. not (l == s)) (not_voted a.phase)) a meant
+  abbrev pub yes_from : ℕ → Attempt → Parts → Act
+  yes_from s a parts = waits_for (filter (λ l. not (l == s)) (not_voted a.phase)) a parts
 
-  abbrev pub aborts : Attempt → Meant → List (ℕ × Message)
-  aborts a meant = to_all (stores_of (parts a meant)) (m.Abort (tid a))
+  abbrev pub aborts : Attempt → Parts → List (ℕ × Message)
+  aborts a parts = to_all (stores_of parts) (m.Abort (tid a))
 
-  abbrev pub voted_by : ℕ → Answer → Attempt → Meant → Act
-  voted_by s Yes a meant = yes_from s a meant
-  voted_by s _ a meant = sending (aborts a meant) (try_ends a)
+  abbrev pub voted_by : ℕ → Answer → Attempt → Parts → Act
+  voted_by s Yes a parts = yes_from s a parts
+  voted_by s _ a parts = sending (aborts a parts) (try_ends a)
 
   abbrev pub has_decided : Tid → ℕ → Bool
   has_decided t s = list_any (λ d. is_tid d.tid t && is_in s d.stores) kept.decided
 
-  abbrev pub inquired : ℕ → Tid → Attempt → Meant → Act
-  inquired s t a meant =
+  abbrev pub inquired : ℕ → Tid → Attempt → Parts → Act
+  inquired s t a parts =
       if has_decided t s then sending ((s, m.Commit t) ∷ []) (stays a)
-      else (if awaits_vote s t a meant a.phase then yes_from s a meant
+      else (if awaits_vote s t a parts a.phase then yes_from s a parts
       else sending ((s, m.Abort t) ∷ []) (stays a))
 
   -- a message that fits nothing is dropped
-  abbrev pub takes_any : ℕ → Message → Attempt → Meant → Act
-  takes_any s (m.Object t o version x) a meant = if awaits_object s t o a a.phase then got s o version x a else stays a
-  takes_any s (m.Deny t o reason) a meant = if awaits_object s t o a a.phase then denied s reason a else stays a
-  takes_any s (m.Vote t answer) a meant = if awaits_vote s t a meant a.phase then voted_by s answer a meant else stays a
-  takes_any s (m.Inquire t) a meant = if t.worker == n then inquired s t a meant else stays a
-  takes_any s _ a meant = stays a
+  abbrev pub takes_any : ℕ → Message → Attempt → Parts → Act
+  takes_any s (m.Object t o version x) a parts = if awaits_object s t o a a.phase then got s o version x a else stays a
+  takes_any s (m.Deny t o reason) a parts = if awaits_object s t o a a.phase then denied s reason a else stays a
+  takes_any s (m.Vote t answer) a parts = if awaits_vote s t a parts a.phase then voted_by s answer a parts else stays a
+  takes_any s (m.Inquire t) a parts = if t.worker == n then inquired s t a parts else stays a
+  takes_any s _ a parts = stays a
 
-  abbrev pub takes : ℕ → Message → Attempt → Meant → Act
-  takes s message a meant = if is_store rights s then takes_any s message a meant else stays a
+  abbrev pub takes : ℕ → Message → Attempt → Parts → Act
+  takes s message a parts = if is_store rights s then takes_any s message a parts else stays a
 
   -- ---- Idle: store s was silent
 
-  abbrev pub aborts_in : Phase → Attempt → Meant → List (ℕ × Message)
-  aborts_in (Preparing ls) a meant = aborts a meant
-  aborts_in _ a meant = []
+  abbrev pub aborts_in : Phase → Attempt → Parts → List (ℕ × Message)
+  aborts_in (Preparing ls) a parts = aborts a parts
+  aborts_in _ a parts = []
 
-  abbrev pub gives_up : ℕ → Attempt → Meant → Act
-  gives_up s a meant = sending (aborts_in a.phase a meant) (gives (Silent s) a)
+  abbrev pub gives_up : ℕ → Attempt → Parts → Act
+  gives_up s a parts = sending (aborts_in a.phase a parts) (gives (Silent s) a)
 
   -- ---- Recover
 
