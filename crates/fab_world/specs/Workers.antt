@@ -112,6 +112,35 @@ pub record Attempt : Type 0 where
 abbrev pub fresh : Attempt
 fresh = record { number = 0; tries = 0; phase = Idle; answers = []; caches = map (λ s. []) (range_with_len 0 64); told = (0, 0) }
 
+-- what an evaluation touched and downgraded since the last one
+abbrev pub new_touches : Attempt → Meant → List (ℕ × Oid × ℕ)
+new_touches a meant = map (λ t. (t.0, t.1, version_of a.answers t.1)) (drop a.told.0 meant.touches)
+
+abbrev pub new_downs : Attempt → Meant → List (ℕ × Value)
+new_downs a meant = drop a.told.1 meant.downs
+
+abbrev pub telling : Attempt → Meant → Attempt
+telling a meant = record a { told = (length meant.touches, length meant.downs) }
+
+-- ---- what becomes of an attempt
+
+-- its end: nothing is left but the caches
+abbrev pub over : List Rows → Attempt → Attempt
+over caches a = record a { phase = Idle; answers = []; caches = caches; told = (0, 0) }
+
+-- without a commit: the caches are emptied
+abbrev pub dropped : Attempt → Attempt
+dropped a = over (map (λ cache. []) a.caches) a
+
+-- the next one
+abbrev pub next : Attempt → Attempt
+next a = record a { number = suc a.number; phase = Evaluating; answers = []; told = (0, 0) }
+
+-- the participants that haven't voted
+abbrev pub not_voted : Phase → List ℕ
+not_voted (Preparing ls) = ls
+not_voted _ = []
+
 -- what a worker does: its record, its next attempt, what it sends to whom, in order, the notes
 pub record Act : Type 0 where
   pub entry : Option Entry
@@ -142,24 +171,7 @@ module _ (rights : Rights) (k n : ℕ) (kept : Kept) where
   abbrev pub tid : Attempt → Tid
   tid a = tid_of n kept a
 
-  -- what an evaluation touched and downgraded since the last one
-  abbrev pub new_touches : Attempt → Meant → List (ℕ × Oid × ℕ)
-  new_touches a meant = map (λ t. (t.0, t.1, version_of a.answers t.1)) (drop a.told.0 meant.touches)
-
-  abbrev pub new_downs : Attempt → Meant → List (ℕ × Value)
-  new_downs a meant = drop a.told.1 meant.downs
-
-  abbrev pub telling : Attempt → Meant → Attempt
-  telling a meant = record a { told = (length meant.touches, length meant.downs) }
-
   -- ---- ends of an attempt
-
-  abbrev pub over : List Rows → Attempt → Attempt
-  over caches a = record a { phase = Idle; answers = []; caches = caches; told = (0, 0) }
-
-  -- without a commit: the caches are emptied
-  abbrev pub dropped : Attempt → Attempt
-  dropped a = over (map (λ cache. []) a.caches) a
 
   abbrev pub decides : Attempt → Parts → Act
   decides a parts = record {
@@ -190,9 +202,6 @@ module _ (rights : Rights) (k n : ℕ) (kept : Kept) where
       noting (undecided a) (if suc a.tries == 8 then closes Conflict a else stays (record (dropped a) { tries = suc a.tries }))
 
   -- ---- Begin
-
-  abbrev pub next : Attempt → Attempt
-  next a = record a { number = suc a.number; phase = Evaluating; answers = []; told = (0, 0) }
 
   abbrev pub begins : Attempt → Act
   begins a = noting (note.Begun (tid (next a)) request ∷ []) (stays (next a))
@@ -256,10 +265,6 @@ module _ (rights : Rights) (k n : ℕ) (kept : Kept) where
   abbrev pub waits_for : List ℕ → Attempt → Parts → Act
   waits_for [] a parts = decides a parts
   waits_for (l ∷ ls) a parts = stays (record a { phase = Preparing (l ∷ ls) })
-
-  abbrev pub not_voted : Phase → List ℕ
-  not_voted (Preparing ls) = ls
-  not_voted _ = []
 
   abbrev pub yes_from : ℕ → Attempt → Parts → Act
   yes_from s a parts = waits_for (filter (λ l. not (l == s)) (not_voted a.phase)) a parts
