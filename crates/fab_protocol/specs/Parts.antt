@@ -1,6 +1,6 @@
 -- The parts of an attempt: what each store is asked to prepare, and what a cache takes of it behind a commit.
-use Rattle.std.specs.Prelude.{ℕ, Bool, not, ◌&&◌, ◌==◌, nat_lt, if◌then◌else◌, List, [], ◌∷◌, ◌++◌, map, fold}
-use Rattle.std.specs.List.{filter, filter_map}
+use Rattle.std.specs.Prelude.{ℕ, ◌≤◌, Bool, not, ◌&&◌, ◌==◌, nat_lt, if◌then◌else◌, List, [], ◌∷◌, ◌++◌, map, length, fold}
+use Rattle.std.specs.List.{AllByRecursion, filter, filter_map}
 use Rattle.fab_base.specs.declared.object.Oid.{Oid}
 use Rattle.fab_base.specs.declared.message.Items.{Items}
 use Rattle.fab_base.specs.FlatMap.{is_among}
@@ -34,3 +34,11 @@ items_at parts s = record {
 -- the touched objects, in the order of first touches, as they are behind the commit: from the writes or else from the answers
 abbrev pub puts_of : Rows → Parts → Rows
 puts_of answers parts = filter_map (row_of name_of (map raised parts.writes ++ answers)) (touched_names parts)
+
+-- no more than one attempt may touch, write and make, each object of at most 16 fields
+pub record KeepsParts (parts : Parts) : Type 0 where
+  pub touched : length parts.touched ≤ 1024
+  pub writes : length parts.writes ≤ 256
+  pub written : AllByRecursion (λ w. length w.2.fields ≤ 16) parts.writes
+  pub creates : length parts.creates ≤ 256
+  pub created : AllByRecursion (λ c. length c.1.fields ≤ 16) parts.creates
