@@ -1,5 +1,6 @@
 mod CommitExamples
 mod LawExamples
 mod RefusalExamples
+mod ResumeExamples
 pub mod Toy
 mod WorkerExamples

@@ -169,9 +169,9 @@ module _ (S : Setting) where
   outcome_of None true = NodeDown
   outcome_of None false = Unfinished
 
-  -- of a worker's request of this number, from 1
+  -- of a worker's request of this number, from 1; there is none of number 0
   abbrev pub outcome : World → ℕ → ℕ → ReqOutcome
-  outcome w n request = outcome_of (slice_get (kept w n).outcomes (request - 1)) (w.node n).failed
+  outcome w n request = outcome_of (if request == 0 then None else slice_get (kept w n).outcomes (request - 1)) (w.node n).failed
 
   -- the bytes of a node's journal
   abbrev pub content : World → ℕ → List ℕ

@@ -1,5 +1,5 @@
 -- A worker: what lasts of it, its attempt, and what it does at each event.
-use Rattle.std.specs.Prelude.{◌≡◌, ℕ, suc, ◌≤◌, IsTrue, ◌-◌, Bool, true, false, not, ◌&&◌, ◌||◌, ◌==◌, nat_lt}
+use Rattle.std.specs.Prelude.{◌≡◌, ℕ, suc, ◌≤◌, IsTrue, Bool, true, false, not, ◌&&◌, ◌||◌, ◌==◌, nat_lt}
 use Rattle.std.specs.Prelude.{if◌then◌else◌, List, [], ◌∷◌, ◌++◌, map, length, drop, Option, Some, None, fold, slice_get, unwrap_or}
 use Rattle.std.specs.List.{filter, flat_map, list_any, range_with_len, AllByRecursion}
 use Rattle.fab_base.specs.declared.object.Oid.{Oid}
@@ -51,10 +51,10 @@ pub record Kept : Type 0 where
 abbrev pub request_of : Kept → ℕ
 request_of kept = suc (length kept.outcomes)
 
--- the outcomes that a Closed record numbers from 1, at the node that it names
+-- the outcomes that a Closed record numbers, at the node that it names; number 0 is none
 abbrev pub closings : ℕ → List ReqOutcome
 closings n =
-    Failed ∷ Conflict ∷ Silent n ∷ Denied n NoRights ∷ Denied n IllFormed
+    Unfinished ∷ Failed ∷ Conflict ∷ Silent n ∷ Denied n NoRights ∷ Denied n IllFormed
     ∷ Stopped stop.Fuel ∷ Stopped stop.Depth ∷ Stopped stop.Reads ∷ Stopped stop.Writes ∷ []
 
 abbrev pub worker_keeps : Entry → Kept → Kept
@@ -62,7 +62,7 @@ worker_keeps (e.Decided t request value stores) kept = record kept {
   decided = kept.decided ++ record { tid = t; request = request; stores = stores; value = value } ∷ [];
   outcomes = kept.outcomes ++ Committed t value ∷ [];
 }
-worker_keeps (e.Closed request code node) kept = record kept { outcomes = kept.outcomes ++ unwrap_or (slice_get (closings node) (code - 1)) Unfinished ∷ [] }
+worker_keeps (e.Closed request code node) kept = record kept { outcomes = kept.outcomes ++ unwrap_or (slice_get (closings node) code) Unfinished ∷ [] }
 worker_keeps (e.Boot b) kept = record kept { boot = suc kept.boot }
 worker_keeps _ kept = kept
 
@@ -83,7 +83,8 @@ closed request (Stopped stop.Writes) = e.Closed request 9 65535
 -- the others have no such record
 closed request _ = e.Closed request 0 65535
 
--- the record is one that the rules give to a worker whose session has so many requests
+-- What recovery asks of a record, of a worker whose session has so many requests: that requests end in turn, one record
+-- each, and that a decision names stores. Whose attempt it decides, and which number a boot has, it doesn't ask.
 abbrev pub WorkerCanKeep : Rights → ℕ → Entry → Kept → Type 0
 WorkerCanKeep rights requests (e.Decided t request value stores) kept =
     (request ≡ request_of kept) × (request ≤ requests) × AllByRecursion (λ s. IsTrue (is_store rights s)) stores × AreStores stores
