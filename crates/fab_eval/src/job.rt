@@ -1,7 +1,9 @@
 //! What is evaluated, and what that may come to.
+ghost use Rattle.std.specs.Prelude.{◌≡◌, IfOk};
 
-use fab_base::{Object, Oid, Seq, Stop, Tid, Value};
+use fab_base::{NoMemory, Object, Oid, Seq, Stop, Tid, Value};
 use fab_tree::resolved::{Request, Resolved};
+use std::alloc::Global;
 use std::sync::Arc;
 
 /// A request in a program, the attempt that runs it, and the objects that were answered so far,
@@ -12,6 +14,18 @@ pub struct Job {
     pub request: Request,
     pub tid: Tid,
     pub answers: Seq<(Oid, u32, Object)>,
+}
+
+/// An equal request, for one more attempt at it.
+pub fn copy_of_request(alloc: Global, request: &Request) -> Result<Request, NoMemory>
+    ensures { IfOk result (λ r. r ≡ request.now) }
+{
+    Ok(Request {
+        worker: request.worker,
+        number: request.number,
+        method: request.method,
+        args: Seq::from_slice(alloc, request.args.as_slice())?,
+    })
 }
 
 /// What a request comes to over its answers: one object more is needed, at a site, for it to go on;

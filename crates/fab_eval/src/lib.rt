@@ -10,5 +10,5 @@ mod statements;
 mod whole;
 
 pub use done::Done;
-pub use job::{EvalRefused, Job, Outcome};
+pub use job::{EvalRefused, Job, Outcome, copy_of_request};
 pub use whole::evaluate;

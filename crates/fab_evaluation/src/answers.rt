@@ -159,7 +159,7 @@ fn answer(
     let Some(object) = objects.get(oid) else {
         return Ok(false);
     };
-    let copy = copy_of(alloc, object)?;
+    let copy = object.copy(alloc)?;
     answers.add(oid, copy)?;
     Ok(true)
 }
@@ -202,13 +202,4 @@ fn answer_fields(
         None => Ok(()),
         Some(object) => answer_values(alloc, objects, object.fields.as_slice(), answers),
     }
-}
-
-fn copy_of(alloc: Global, object: &Object) -> Result<Object, NoMemory>
-    ensures { IfOk result (λ x. x ≡ object.now) }
-{
-    Ok(Object {
-        class: object.class,
-        fields: Seq::from_slice(alloc, object.fields.as_slice())?,
-    })
 }

@@ -7,6 +7,7 @@ ghost use Rattle.fab_evaluation.specs.Attempts.{IsOld};
 
 use crate::single::{Single, run_one};
 use fab_base::{NoMemory, Object, Oid, Seq};
+use fab_eval::copy_of_request;
 use fab_language::Ending;
 use fab_map::ObjectMap;
 use fab_tree::resolved::{Asked, Request, Resolved, Session};
@@ -35,7 +36,7 @@ pub(crate) fn run(
     let mut endings = Seq::new(alloc);
     let mut rest = requests;
     'requests: while let Some((request, after)) = rest.split_first() {
-        let request = copy_of(alloc, request)?;
+        let request = copy_of_request(alloc, request)?;
         let Single {
             ending,
             writes,
@@ -47,18 +48,6 @@ pub(crate) fn run(
         rest = after;
     }
     Ok(Ran { endings, map })
-}
-
-/// The same request again.
-fn copy_of(alloc: Global, request: &Request) -> Result<Request, NoMemory>
-    ensures { IfOk result (λ r. r ≡ request.now) }
-{
-    Ok(Request {
-        worker: request.worker,
-        number: request.number,
-        method: request.method,
-        args: Seq::from_slice(alloc, request.args.as_slice())?,
-    })
 }
 
 /// Puts what a request wrote into the map.
@@ -134,7 +123,7 @@ fn add_all(alloc: Global, requests: &mut Seq<Request>, more: &[Asked]) -> Result
 {
     let mut rest = more;
     'more: while let Some((asked, after)) = rest.split_first() {
-        let request = copy_of(alloc, &asked.request)?;
+        let request = copy_of_request(alloc, &asked.request)?;
         requests.push(request)?;
         rest = after;
     }

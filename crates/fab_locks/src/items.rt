@@ -6,6 +6,7 @@ ghost use Rattle.fab_protocol.specs.Stores.{changed_by, named_by};
 ghost use Rattle.fab_locks.specs.Conflicts as conflicts;
 
 use fab_base::{Items, Object, Oid};
+use fab_protocol::is_same_name;
 
 /// Whether the items bar a name: they have it, and one of the two, they or who asks, writes or
 /// creates it.
@@ -38,23 +39,17 @@ fn changes(items: &Items, oid: Oid) -> bool
 fn is_read(reads: &[(Oid, u32)], oid: Oid) -> bool
     ensures { result ≡ list_any (λ read. is_same read.0 oid) reads.now }
 {
-    reads.iter().any(|read| is_one_name(read.0, oid))
+    reads.iter().any(|read| is_same_name(read.0, oid))
 }
 
 fn is_written(writes: &[(Oid, u32, Object)], oid: Oid) -> bool
     ensures { result ≡ list_any (λ write. is_same write.0 oid) writes.now }
 {
-    writes.iter().any(|write| is_one_name(write.0, oid))
+    writes.iter().any(|write| is_same_name(write.0, oid))
 }
 
 fn is_created(creates: &[(Oid, Object)], oid: Oid) -> bool
     ensures { result ≡ list_any (λ create. is_same create.0 oid) creates.now }
 {
-    creates.iter().any(|create| is_one_name(create.0, oid))
-}
-
-fn is_one_name(one: Oid, other: Oid) -> bool
-    ensures { result ≡ is_same one other }
-{
-    one == other
+    creates.iter().any(|create| is_same_name(create.0, oid))
 }

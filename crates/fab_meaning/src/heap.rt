@@ -7,7 +7,6 @@ ghost use Rattle.fab_meaning.specs.Points.{Settles};
 
 use fab_base::{NoMemory, Object, Oid, Seq};
 use fab_map::ObjectMap;
-use fab_nested::copy_of;
 use std::alloc::Global;
 use std::marker::Model;
 
@@ -61,7 +60,7 @@ impl Heap {
         ensures { IfOk result (λ r. r ≡ get self.now.rows oid) }
     {
         match self.rows.get(oid) {
-            Some(object) => Ok(Some(copy_of(alloc, object)?)),
+            Some(object) => Ok(Some(object.copy(alloc)?)),
             None => Ok(None),
         }
     }
@@ -150,7 +149,7 @@ fn rows_copy(alloc: Global, rows: &[(Oid, Object)]) -> Result<Vec<(Oid, Object)>
 {
     let mut copies = Vec::new(alloc);
     for row in rows {
-        copies.push((row.0, copy_of(alloc, &row.1)?))?;
+        copies.push((row.0, row.1.copy(alloc)?))?;
     }
     Ok(copies)
 }

@@ -5,7 +5,7 @@ ghost use Rattle.fab_base.specs.FlatMap.{is_same};
 ghost use Rattle.fab_language.specs.Meaning.{field_of};
 ghost use Rattle.fab_nested.specs.Nested.{names_of, objects_of, version_of, versions_of};
 
-use fab_base::{NoMemory, Object, Oid, Seq, Value};
+use fab_base::{NoMemory, Object, Oid, Value};
 use indexmap::IndexMap;
 use std::alloc::Global;
 
@@ -18,20 +18,9 @@ pub(crate) fn copies(
 {
     let mut rows = Vec::new(alloc);
     for answer in answers {
-        let object = copy_of(alloc, &answer.2)?;
-        rows.push((answer.0, object))?;
+        rows.push((answer.0, answer.2.copy(alloc)?))?;
     }
     Ok(rows)
-}
-
-/// A copy of an object.
-pub fn copy_of(alloc: Global, object: &Object) -> Result<Object, NoMemory>
-    ensures { IfOk result (λ x. x ≡ object.now) }
-{
-    Ok(Object {
-        class: object.class,
-        fields: Seq::from_slice(alloc, object.fields.as_slice())?,
-    })
 }
 
 /// The versions of the objects, by name.

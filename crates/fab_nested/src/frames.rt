@@ -8,7 +8,7 @@ ghost use Rattle.fab_language.specs.Heaps.{found, full, index_at, reach_in};
 ghost use Rattle.fab_nested.specs.Calls.{Gives};
 ghost use Rattle.fab_nested.specs.Nested.{aborted, create, creates_in, entered, merged, names_of, nested_of, read, write, writes_in};
 
-use crate::answers::{copies, copy_of, field_of, version_of, versions_of};
+use crate::answers::{copies, field_of, version_of, versions_of};
 use crate::frame_error::FrameError;
 use crate::log::{Change, note, undo_to};
 use crate::objects::{Objects, is_in};
@@ -166,10 +166,10 @@ impl Frames {
         for row in self.objects.map.rows() {
             if is_in(&self.objects.written, row.0) {
                 let version = version_of(&self.versions, row.0);
-                writes.push((row.0, version, copy_of(alloc, &row.1)?))?;
+                writes.push((row.0, version, row.1.copy(alloc)?))?;
             }
             if is_in(&self.objects.made, row.0) {
-                creates.push((row.0, copy_of(alloc, &row.1)?))?;
+                creates.push((row.0, row.1.copy(alloc)?))?;
             }
         }
         Ok((writes, creates))

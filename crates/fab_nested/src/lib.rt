@@ -10,7 +10,7 @@ mod objects;
 mod tests;
 mod touches;
 
-pub use answers::{copy_of, field_of};
+pub use answers::field_of;
 pub use frame_error::FrameError;
 pub use frames::Frames;
 pub use touches::Touches;

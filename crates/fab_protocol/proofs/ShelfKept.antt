@@ -1,8 +1,9 @@
 -- What holds of a shelf: at the start, behind each record that a store may keep, and behind whatever is heard.
-use Rattle.std.proofs.Common.{◌≡◌, ◌<◌, ◌≤◌, ◌^◌, ℕ, ◌&&◌, ◌==◌, IsTrue, List, [], ◌∷◌, length}
+use Rattle.std.proofs.Common.{◌≡◌, ◌<◌, ◌≤◌, ◌^◌, ℕ, ◌&&◌, ◌==◌, IsTrue, List, [], ◌∷◌, ◌++◌, length}
 use Rattle.std.proofs.Common.{Option, Some, None, IfSome, refl, ap, ◌∙◌, lit≤}
 use Rattle.std.specs.List.{filter, AllByRecursion}
 use Rattle.std.proofs.lemmas.Bool.{eqb-true}
+use Rattle.std.proofs.lemmas.List.Sums.{fold-append}
 use Rattle.fab_base.specs.declared.entry.Entry.{Entry}
 use Rattle.fab_base.specs.declared.entry.Entry.TheVariants as e
 use Rattle.fab_base.specs.declared.message.Message.{Message}
@@ -13,7 +14,7 @@ use Rattle.fab_base.specs.MessageSpelling.{KeepsCounts}
 use Rattle.fab_rights.specs.declared.rights.Rights.{Rights}
 use Rattle.fab_protocol.specs.Tables.{ascends}
 use Rattle.fab_protocol.specs.Versions.{Row, name_of, begun}
-use Rattle.fab_protocol.specs.Stores.{Shelf, keeps, keeps_said, says, hears, shelf_at_start}
+use Rattle.fab_protocol.specs.Stores.{Shelf, keeps, keeps_said, says, hears, shelf_at_start, shelf_of}
 use Rattle.fab_protocol.specs.Shelves.{IsShelf, CanKeep}
 use Rattle.fab_protocol.proofs.Applied.{applied_keeps}
 use Rattle.fab_protocol.proofs.Kept.{says_can_keep}
@@ -34,13 +35,14 @@ shelf_keeps rights s (e.Boot b) shelf fits can h = h
 
 -- ---- at the start
 
-abbrev Root : Type 0
+abbrev pub Root : Type 0
 Root = Oid × Object
 
-abbrev root_name : Root → Oid
+abbrev pub root_name : Root → Oid
 root_name root = root.0
 
-as_table : (roots : FlatMap) → ascends root_name roots ≡ flat_ascends roots
+-- a map is a table of its objects
+pub as_table : (roots : FlatMap) → ascends root_name roots ≡ flat_ascends roots
 as_table [] = refl
 as_table (x ∷ []) = refl
 as_table (x ∷ y ∷ rows) = ap (λ b. is_before x.0 y.0 && b) (as_table (y ∷ rows))
@@ -67,6 +69,14 @@ start_is rights roots s order few =
       counts = tt;
       remembered = refl;
     }
+
+-- ---- records, one after the other
+
+-- one record more is kept behind the others
+pub shelf_goes_on : (roots : FlatMap) (s : ℕ) (entries : List Entry) (entry : Entry)
+    → shelf_of roots s (entries ++ entry ∷ []) ≡ keeps entry (shelf_of roots s entries)
+unfolding shelf_of
+shelf_goes_on roots s entries entry = fold-append (λ shelf kept. keeps kept shelf) (shelf_at_start roots s) entries (entry ∷ [])
 
 -- ---- whatever is heard
 

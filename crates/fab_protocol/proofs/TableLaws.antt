@@ -84,6 +84,13 @@ leads name o (x ∷ xs) = is_before o (name x)
 module _ {R : Type 0} (name : R → Oid) where
   -- ---- the first row of a name
 
+  -- it is the first row, or one behind it
+  pub row_here : (x : R) (xs : List R) (o : Oid) → is_same (name x) o ≡ true → row_of name (x ∷ xs) o ≡ Some x
+  row_here x xs o h = ap (λ b. cond b (Some x) (row_of name xs o)) h
+
+  pub row_past : (x : R) (xs : List R) (o : Oid) → is_same (name x) o ≡ false → row_of name (x ∷ xs) o ≡ row_of name xs o
+  row_past x xs o h = ap (λ b. cond b (Some x) (row_of name xs o)) h
+
   pub row_of_name : (rows : List R) (o : Oid) (r : R) → row_of name rows o ≡ Some r → name r ≡ o
   row_of_name [] o r h = let no : None ≡ Some r = h in cc
   row_of_name (x ∷ xs) o r h =
@@ -105,11 +112,11 @@ module _ {R : Type 0} (name : R → Oid) where
   pub row_of_others : (xs ys : List R) (o : Oid) → AllByRecursion (λ x. IsFalse (is_same (name x) o)) xs
       → row_of name (xs ++ ys) o ≡ row_of name ys o
   row_of_others [] ys o h = refl
-  row_of_others (x ∷ xs) ys o h = ap (λ b. cond b (Some x) (row_of name (xs ++ ys) o)) h.0 ∙ row_of_others xs ys o h.1
+  row_of_others (x ∷ xs) ys o h = row_past x (xs ++ ys) o h.0 ∙ row_of_others xs ys o h.1
 
   pub row_of_none : (xs : List R) (o : Oid) → AllByRecursion (λ x. IsFalse (is_same (name x) o)) xs → row_of name xs o ≡ None
   row_of_none [] o h = refl
-  row_of_none (x ∷ xs) o h = ap (λ b. cond b (Some x) (row_of name xs o)) h.0 ∙ row_of_none xs o h.1
+  row_of_none (x ∷ xs) o h = row_past x xs o h.0 ∙ row_of_none xs o h.1
 
   -- ---- one row placed
 
@@ -319,5 +326,4 @@ module _ {R : Type 0} (name : R → Oid) where
   -- so each of ascending rows is the row of its name
   pub row_of_part : (xs ys : List R) (y : R) → IsTrue (ascends name (xs ++ y ∷ ys)) → row_of name (xs ++ y ∷ ys) (name y) ≡ Some y
   row_of_part xs ys y h =
-      row_of_behind xs (y ∷ ys) (name y) (ascends_parts xs ys y h).0
-      ∙ ap (λ b. cond b (Some y) (row_of name ys (name y))) (same_self (name y))
+      row_of_behind xs (y ∷ ys) (name y) (ascends_parts xs ys y h).0 ∙ row_here y ys (name y) (same_self (name y))

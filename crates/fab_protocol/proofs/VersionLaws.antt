@@ -1,5 +1,5 @@
 -- Versions of rows, and what a commit leaves of items.
-use Rattle.std.proofs.Common.{◌≡◌, ℕ, suc, ◌≤◌, true, false, cond, ◌==◌, if◌then◌else◌, IsFalse}
+use Rattle.std.proofs.Common.{◌≡◌, ℕ, suc, ◌<◌, ◌≤◌, true, false, cond, ◌==◌, if◌then◌else◌, IsFalse, IsSome}
 use Rattle.std.proofs.Common.{List, [], ◌∷◌, ◌++◌, map, length, Option, Some, None, unwrap_or, refl, sym, subst, ap, ◌∙◌, arith, lit≤, append_assoc}
 use Rattle.std.specs.List.{AllByRecursion}
 use Rattle.std.proofs.lemmas.Bool.{eqb-true}
@@ -9,11 +9,12 @@ use Rattle.fab_base.specs.declared.object.Object.{Object}
 use Rattle.fab_base.specs.declared.message.Items.{Items}
 use Rattle.fab_base.specs.FieldSpelling.{KeepsItems}
 use Rattle.fab_base.specs.FlatMap.{is_among, is_same}
-use Rattle.fab_protocol.specs.Tables.{row_of, OnlyOnce}
+use Rattle.fab_protocol.specs.Tables.{row_of, placed, OnlyOnce}
 use Rattle.fab_protocol.specs.Versions.{Row, Rows, name_of, version_of, risen, raised, begun, left_by}
 use Rattle.fab_protocol.specs.Stores.{Write, Create, item_name, reads_in, writes_in, creates_in, changed_by, named_by}
 use Rattle.fab_protocol.proofs.Lists.{all_append, all_map, all_of_map, all_by_recursion, all_always}
 use Rattle.fab_protocol.proofs.NameLists.{none_among, once_parts}
+use Rattle.fab_protocol.proofs.TableLaws.{row_of_placed}
 
 -- ---- versions are those of the rows of names
 
@@ -36,6 +37,24 @@ version_by_row (x ∷ xs) o =
     elim (is_same x.0 o) as (λ b. (if b then x.1 else version_of xs o) ≡ version_in (cond b (Some x) (row_of name_of xs o))) [
       | true ↦ refl
       | false ↦ version_by_row xs o
+    ]
+
+-- a name that has a version has a row
+pub row_from_version : (rows : Rows) (o : Oid) → 0 < version_of rows o → IsSome (row_of name_of rows o)
+row_from_version rows o h =
+    elim (row_of name_of rows o) as (λ found. row_of name_of rows o ≡ found → IsSome found) [
+      | None ↦ λ e. let none : version_of rows o ≡ 0 = version_by_row rows o ∙ ap version_in e in absurd (omega (arith, h, none))
+      | Some r ↦ λ e. refl
+    ] refl
+
+-- behind a row that is placed its name has its version, and others have theirs
+pub version_of_placed : (r : Row) (rows : Rows) (o : Oid)
+    → version_of (placed name_of r rows) o ≡ (if is_same (name_of r) o then r.1 else version_of rows o)
+version_of_placed r rows o =
+    version_by_row (placed name_of r rows) o ∙ ap version_in (row_of_placed name_of r rows o)
+    ∙ elim (is_same (name_of r) o) as (λ b. version_in (if b then Some r else row_of name_of rows o) ≡ (if b then r.1 else version_of rows o)) [
+      | true ↦ refl
+      | false ↦ sym (version_by_row rows o)
     ]
 
 -- where rows have versions, there is no row of version 0

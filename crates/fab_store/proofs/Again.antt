@@ -1,18 +1,14 @@
 -- Records, kept again one after the other.
 use Rattle.std.proofs.Common.{◌≡◌, ◌+◌, ◌<◌, ◌++◌, ◌∷◌, [], ℕ, suc, List, length, take, drop, get_or, sym, ap, ◌∙◌, subst, arith}
 use Rattle.std.proofs.lemmas.List.{take_more}
-use Rattle.std.proofs.lemmas.List.Sums.{fold-append}
 use Rattle.std.proofs.Math.Seq.{drop-cons}
 use Rattle.fab_base.specs.declared.entry.Entry.{Entry}
 use Rattle.fab_base.specs.FlatMap.{FlatMap}
 use Rattle.fab_rights.specs.declared.rights.Rights.{Rights}
 use Rattle.fab_protocol.specs.Stores.{Shelf, keeps, shelf_at_start, shelf_of}
 use Rattle.fab_protocol.specs.Shelves.{CanKeep}
+use Rattle.fab_protocol.proofs.ShelfKept.{shelf_goes_on}
 use Rattle.fab_store.specs.Stock.{AreKept, Stock}
-
-goes_on : (roots : FlatMap) (s : ℕ) (es : List Entry) (entry : Entry) → shelf_of roots s (es ++ entry ∷ []) ≡ keeps entry (shelf_of roots s es)
-unfolding shelf_of
-goes_on roots s es entry = fold-append (λ shelf e. keeps e shelf) (shelf_at_start roots s) es (entry ∷ [])
 
 -- a store that has kept some of the records, and may keep the others
 pub record HasKept (roots : FlatMap) (rights : Rights) (s : ℕ) (entries : List Entry) (i : ℕ) (x : Stock) : Type 0 where
@@ -52,6 +48,6 @@ module _ (roots : FlatMap) (rights : Rights) (s : ℕ) (entries : List Entry) (i
       record {
         node = node ∙ h.node;
         same_rights = same_rights ∙ h.same_rights;
-        shelf = shelf ∙ ap (keeps entry) h.shelf ∙ sym (goes_on roots s (take i entries) entry) ∙ sym (ap (shelf_of roots s) more);
+        shelf = shelf ∙ ap (keeps entry) h.shelf ∙ sym (shelf_goes_on roots s (take i entries) entry) ∙ sym (ap (shelf_of roots s) more);
         rest = subst (λ (k : ℕ). AreKept rights s (drop k entries) y.shelf) next (subst (λ (z : Shelf). AreKept rights s (drop (suc i) entries) z) (sym shelf) (ahead x h).1);
       }

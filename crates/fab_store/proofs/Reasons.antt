@@ -1,6 +1,6 @@
 -- Reasons to refuse: names of earlier lists, transactions that bar a name, and three lists of reasons in a row.
-use Rattle.std.proofs.Common.{◌≡◌, Bool, true, false, ◌||◌, if◌then◌else◌, List, [], ◌∷◌, ◌++◌, map, append_assoc, append-nil}
-use Rattle.std.proofs.Common.{Option, Some, None, refl, sym, ap, ◌∙◌, subst}
+use Rattle.std.proofs.Common.{◌≡◌, Bool, true, false, ◌||◌, List, [], ◌∷◌, ◌++◌, map, append_assoc, append-nil}
+use Rattle.std.proofs.Common.{Option, refl, sym, ap, ◌∙◌, subst}
 use Rattle.std.specs.List.{list_any}
 use Rattle.std.specs.Option.{option_map}
 use Rattle.fab_base.specs.declared.object.Oid.{Oid}
@@ -10,9 +10,6 @@ use Rattle.fab_base.specs.declared.message.Answer.{Answer}
 use Rattle.fab_base.specs.declared.message.Answer.TheVariants.{Yes, Locked}
 use Rattle.fab_base.specs.FlatMap.{is_same, is_among}
 use Rattle.fab_protocol.specs.Stores.{Prepared, Item, item_name, reads_in, writes_in, first_of}
-use Rattle.fab_protocol.specs.Tables.{row_of}
-use Rattle.fab_protocol.specs.Versions.{Rows, name_of, version_of}
-use Rattle.fab_versions.proofs.Rows.{row_here, row_past}
 use Rattle.fab_protocol.proofs.Locks.{among_both}
 use Rattle.fab_locks.specs.Conflicts.{bars, first_barring}
 use Rattle.fab_locks.proofs.Barring.{list_any-map}
@@ -64,15 +61,6 @@ in_three xs ys zs a b c f g h =
     ∙ ap (λ w. or_else a (or_else b w)) (h [])
 
 -- ---- of a store
-
--- an object that isn't there has no version
-pub version_absent : (rows : Rows) (o : Oid) → row_of name_of rows o ≡ None → version_of rows o ≡ 0
-version_absent [] o h = refl
-version_absent (first ∷ rows) o h = by_test (version_absent rows o) (is_same first.0 o) refl
-  where
-    by_test : (row_of name_of rows o ≡ None → version_of rows o ≡ 0) → (b : Bool) → is_same first.0 o ≡ b → version_of (first ∷ rows) o ≡ 0
-    by_test rest true e = let no : Some first ≡ None = sym (row_here name_of first rows o e) ∙ h in cc
-    by_test rest false e = ap (λ b. if b then first.1 else version_of rows o) e ∙ rest (sym (row_past name_of first rows o e) ∙ h)
 
 pub barred_where : (o : Oid) (writing : Bool) (ps qs : List Prepared) (r : Option Tid) → ps ≡ qs → r ≡ first_barring o writing ps
     → IsFirstOf (barred o writing qs) (option_map Locked r)

@@ -1,28 +1,16 @@
 -- Roots, put one after the other into a table.
-use Rattle.std.proofs.Common.{◌≡◌, ◌==◌, ◌&&◌, ℕ, suc, ◌+◌, ◌<◌, Bool, true, false, List, [], ◌∷◌, ◌++◌, length, map, take, drop, get_or, refl, sym, ap, ◌∙◌, subst, IsTrue, if◌then◌else◌}
+use Rattle.std.proofs.Common.{◌≡◌, ◌==◌, ℕ, suc, ◌+◌, ◌<◌, Bool, true, false, List, [], ◌∷◌, ◌++◌, length, map, take, drop, get_or, refl, sym, ap, ◌∙◌, subst, IsTrue, if◌then◌else◌}
 use Rattle.std.specs.List.{AllByRecursion, filter}
 use Rattle.std.proofs.lemmas.List.{append-nil, map-append, take_more}
 use Rattle.std.proofs.lemmas.List.Elements.{filter-append}
 use Rattle.std.proofs.Math.Seq.{split_at}
-use Rattle.fab_base.specs.declared.object.Oid.{Oid}
-use Rattle.fab_base.specs.declared.object.Object.{Object}
 use Rattle.fab_base.specs.FlatMap.{FlatMap, is_before}
 use Rattle.fab_base.specs.FlatMap as flat
 use Rattle.fab_protocol.specs.Tables.{ascends, placed}
 use Rattle.fab_protocol.specs.Versions.{Row, begun, name_of}
 use Rattle.fab_protocol.proofs.Lists.{all_filter, all_map}
+use Rattle.fab_protocol.proofs.ShelfKept.{Root, root_name, as_table}
 use Rattle.fab_protocol.proofs.TableLaws.{ascends_parts, placed_behind}
-
-abbrev Root : Type 0
-Root = Oid × Object
-
-abbrev root_name : Root → Oid
-root_name root = root.0
-
-as_table : (roots : FlatMap) → ascends root_name roots ≡ flat.ascends roots
-as_table [] = refl
-as_table (x ∷ []) = refl
-as_table (x ∷ y ∷ rows) = ap (λ b. is_before x.0 y.0 && b) (as_table (y ∷ rows))
 
 abbrev pub here : ℕ → Root → Bool
 here s root = root.0.store == s

@@ -10,6 +10,7 @@ ghost use Rattle.fab_store.specs.Refusals.{IsFirstOf, barred};
 
 use crate::store::Store;
 use fab_base::{Answer, Items, Object, Oid, Tid};
+use fab_protocol::is_same_name;
 
 /// Whether an object of this name was read.
 #[tactic(auto, using(crate::proofs::Reasons::among_reads))]
@@ -30,19 +31,13 @@ fn is_read_or_written(items: &Items, oid: Oid) -> bool
 fn reads_name(reads: &[(Oid, u32)], oid: Oid) -> bool
     ensures { result ≡ list_any (λ read. is_same read.0 oid) reads.now }
 {
-    reads.iter().any(|read| is_one_name(read.0, oid))
+    reads.iter().any(|read| is_same_name(read.0, oid))
 }
 
 fn writes_name(writes: &[(Oid, u32, Object)], oid: Oid) -> bool
     ensures { result ≡ list_any (λ write. is_same write.0 oid) writes.now }
 {
-    writes.iter().any(|write| is_one_name(write.0, oid))
-}
-
-fn is_one_name(one: Oid, other: Oid) -> bool
-    ensures { result ≡ is_same one other }
-{
-    one == other
+    writes.iter().any(|write| is_same_name(write.0, oid))
 }
 
 /// Whether a name isn't above the one before it in its list.
@@ -128,7 +123,8 @@ impl Store {
         before: Option<Oid>,
         write: &(Oid, u32, Object),
     ) -> Option<Answer>
-        ensures { IsFirstOf (reasons_of self.now.rights self.now.node sender tid self.now.shelf (map item_name (reads_in items.now)) before (Write write.now.0 write.now.1 write.now.2)) result }
+        ensures { IsFirstOf (reasons_of self.now.rights self.now.node sender tid self.now.shelf
+            (map item_name (reads_in items.now)) before (Write write.now.0 write.now.1 write.now.2)) result }
     {
         let (oid, version) = (write.0, write.1);
         if self.is_misplaced(before, oid) || is_read(items, oid) || !self.suits(oid, &write.2) {
@@ -149,7 +145,8 @@ impl Store {
         before: Option<Oid>,
         create: &(Oid, Object),
     ) -> Option<Answer>
-        ensures { IsFirstOf (reasons_of self.now.rights self.now.node sender tid self.now.shelf (map item_name (reads_in items.now ++ writes_in items.now)) before (Create create.now.0 create.now.1)) result }
+        ensures { IsFirstOf (reasons_of self.now.rights self.now.node sender tid self.now.shelf
+            (map item_name (reads_in items.now ++ writes_in items.now)) before (Create create.now.0 create.now.1)) result }
     {
         let oid = create.0;
         let suited = self.suits(oid, &create.1) && is_made_in(tid, oid);
@@ -179,7 +176,8 @@ impl Store {
     }
 
     fn writes_refusal(&self, sender: u16, tid: Tid, items: &Items) -> Option<Answer>
-        ensures { IsFirstOf (reasons_in self.now.rights self.now.node sender tid self.now.shelf (map item_name (reads_in items.now)) None (writes_in items.now)) result }
+        ensures { IsFirstOf (reasons_in self.now.rights self.now.node sender tid self.now.shelf
+            (map item_name (reads_in items.now)) None (writes_in items.now)) result }
     {
         let mut before = None;
         for write in items.writes.as_slice() {
@@ -192,7 +190,8 @@ impl Store {
     }
 
     fn creates_refusal(&self, sender: u16, tid: Tid, items: &Items) -> Option<Answer>
-        ensures { IsFirstOf (reasons_in self.now.rights self.now.node sender tid self.now.shelf (map item_name (reads_in items.now ++ writes_in items.now)) None (creates_in items.now)) result }
+        ensures { IsFirstOf (reasons_in self.now.rights self.now.node sender tid self.now.shelf
+            (map item_name (reads_in items.now ++ writes_in items.now)) None (creates_in items.now)) result }
     {
         let mut before = None;
         for create in items.creates.as_slice() {

@@ -1,4 +1,3 @@
 pub mod Order
-pub mod Rows
 pub mod Found
 pub mod Written

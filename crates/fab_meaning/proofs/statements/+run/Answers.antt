@@ -43,7 +43,8 @@ choice-returns-then-holds-clause-gives t c =
 pub choice-returns-else-holds-clause-gives : goal.choice-returns-else-holds-clause-gives
 choice-returns-else-holds-clause-gives t c =
     let tid = c.args.state.now.tid in
-    choice_second c.in_order-else-holds.result c.in_order-else-holds.new.state (value c.args.condition.now) (block_in c.args.program.now c.args.depth c.args.body.now tid) (block_in c.args.program.now c.args.depth c.args.otherwise.now tid) c.args.state.now.state c.charge.new.self.state c.value.new.state.state c.in_ok-v.v c.in_ok-charge.ensures.gives c.in_ok-v.ensures.gives (sym c.holds.ensures ∙ c.if-holds.false)
+    choice_second c.in_order-else-holds.result c.in_order-else-holds.new.state (value c.args.condition.now) (block_in c.args.program.now c.args.depth c.args.body.now tid) (block_in c.args.program.now c.args.depth c.args.otherwise.now tid)
+    c.args.state.now.state c.charge.new.self.state c.value.new.state.state c.in_ok-v.v c.in_ok-charge.ensures.gives c.in_ok-v.ensures.gives (sym c.holds.ensures ∙ c.if-holds.false)
     (in_same c.in_order-else-holds.result c.in_order-else-holds.new.state (λ (i : Tid). block_in c.args.program.now c.args.depth c.args.otherwise.now i c.value.new.state.state) c.value.new.state.tid tid (c.in_ok-v.ensures.tid ∙ c.in_ok-charge.ensures.tid) c.in_order-else-holds.ensures.gives)
 
 pub repeat-returns-in_err-charge-clause-gives : goal.repeat-returns-in_err-charge-clause-gives
@@ -60,7 +61,8 @@ repeat-loop-state-preserved t c =
     let kept = c.in_ok-v.ensures.tid ∙ c.in_ok-charge.ensures.tid ∙ c.loop-state.invariant.tid in
     let g = in_same (Ok c.in_ok-in_order.field-0) c.in_order.new.state (λ (i : Tid). block_in c.args.program.now c.args.depth c.args.body.now i c.value.new.state.state) c.value.new.state.tid tid kept c.in_ok-in_order.ensures.gives in
     record {
-      same = turns_next same.0 (value c.args.condition.now) (block_in c.args.program.now c.args.depth c.args.body.now tid) c.loop-state.state.state c.charge.new.self.state c.value.new.state.state c.in_order.new.state.state c.in_ok-v.v _ same.1 (omega (arith, c.in_ok-charge.ensures.spent, c.in_ok-v.ensures.fuel, c.in_ok-in_order.ensures.fuel)) c.in_ok-charge.ensures.gives c.in_ok-v.ensures.gives (sym c.holds.ensures ∙ c.if-not-holds.false) g same.2;
+      same = turns_next same.0 (value c.args.condition.now) (block_in c.args.program.now c.args.depth c.args.body.now tid) c.loop-state.state.state c.charge.new.self.state c.value.new.state.state c.in_order.new.state.state c.in_ok-v.v _ same.1
+          (omega (arith, c.in_ok-charge.ensures.spent, c.in_ok-v.ensures.fuel, c.in_ok-in_order.ensures.fuel)) c.in_ok-charge.ensures.gives c.in_ok-v.ensures.gives (sym c.holds.ensures ∙ c.if-not-holds.false) g same.2;
       tid = c.in_ok-in_order.ensures.tid ∙ kept;
       fuel = omega (arith, c.in_ok-charge.ensures.spent, c.in_ok-v.ensures.fuel, c.in_ok-in_order.ensures.fuel);
     }
@@ -72,7 +74,8 @@ repeat-returns-in_err-in_order-clause-gives t c =
     let same = c.loop-state.invariant.same in
     let kept = c.in_ok-v.ensures.tid ∙ c.in_ok-charge.ensures.tid ∙ c.loop-state.invariant.tid in
     let g = in_same (Err c.in_err-in_order.field-0.0) c.in_order.new.state (λ (i : Tid). block_in c.args.program.now c.args.depth c.args.body.now i c.value.new.state.state) c.value.new.state.tid tid kept c.in_err-in_order.ensures.gives in
-    rw (p.1, p.2) (turn_ends same.0 (value c.args.condition.now) (block_in c.args.program.now c.args.depth c.args.body.now tid) c.loop-state.state.state c.charge.new.self.state c.value.new.state.state c.in_ok-v.v c.in_order.new.state c.in_err-in_order.field-0.0 _ same.1 c.in_ok-charge.ensures.spent c.in_ok-charge.ensures.gives c.in_ok-v.ensures.gives (sym c.holds.ensures ∙ c.if-not-holds.false) g same.2)
+    rw (p.1, p.2) (turn_ends same.0 (value c.args.condition.now) (block_in c.args.program.now c.args.depth c.args.body.now tid) c.loop-state.state.state c.charge.new.self.state c.value.new.state.state c.in_ok-v.v
+    c.in_order.new.state c.in_err-in_order.field-0.0 _ same.1 c.in_ok-charge.ensures.spent c.in_ok-charge.ensures.gives c.in_ok-v.ensures.gives (sym c.holds.ensures ∙ c.if-not-holds.false) g same.2)
 
 pub entered-returns-clause-gives : goal.entered-returns-clause-gives
 entered-returns-clause-gives t c =

@@ -1,8 +1,8 @@
 use Rattle.std.proofs.Common.{refl, ap, sym, ◌∙◌, subst}
 use Rattle.fab_protocol.specs.Tables.{placed, ascends}
 use Rattle.fab_protocol.specs.Versions.{Row, name_of}
+use Rattle.fab_protocol.proofs.TableLaws.{ascends_placed}
 use Rattle.fab_versions.specs.Places.{IsAt, IsGap}
-use Rattle.fab_versions.proofs.Rows.{ascends-placed}
 use Rattle.fab_versions.proofs.Found.{placed_at, placed_in_gap}
 use Rattle.fab_versions.proofs.table.Table.put.Goals as goal
 
@@ -12,7 +12,7 @@ invariant_of-self c =
     let at = subst (λ l. IsAt name_of l c.args.oid c.in-Ok.at) c.deref.ensures.value c.in-Ok.ensures.found in
     let row : Row = (c.args.oid, c.args.version, c.args.object) in
     ap (ascends name_of) (sym (placed_at name_of c.self.inside.rows.items c.self.invariant c.args.oid c.in-Ok.at at row refl))
-    ∙ ascends-placed name_of row c.self.inside.rows.items c.self.invariant
+    ∙ ascends_placed name_of row c.self.inside.rows.items c.self.invariant
 
 pub returns-in-Ok-clause-ok : goal.returns-in-Ok-clause-ok
 returns-in-Ok-clause-ok c =
@@ -27,7 +27,7 @@ invariant_of-self-in-Err c =
     let gap = subst (λ l. IsGap name_of l c.args.oid c.in-Err.at) c.deref.ensures.value c.in-Err.ensures.absent in
     let row : Row = (c.args.oid, c.args.version, c.args.object) in
     ap (ascends name_of) (c.in_ok-insert-in-Err.ensures.items ∙ sym (placed_in_gap name_of c.self.inside.rows.items c.args.oid c.in-Err.at gap row refl))
-    ∙ ascends-placed name_of row c.self.inside.rows.items c.self.invariant
+    ∙ ascends_placed name_of row c.self.inside.rows.items c.self.invariant
 
 pub returns-in_ok-insert-in-Err-clause-ok : goal.returns-in_ok-insert-in-Err-clause-ok
 returns-in_ok-insert-in-Err-clause-ok c =

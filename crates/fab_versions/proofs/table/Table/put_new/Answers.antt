@@ -1,8 +1,8 @@
 use Rattle.std.proofs.Common.{◌≡◌, Some, None, refl, ap, sym, ◌∙◌, subst}
 use Rattle.fab_protocol.specs.Tables.{row_of, placed, ascends}
 use Rattle.fab_protocol.specs.Versions.{name_of, begun}
+use Rattle.fab_protocol.proofs.TableLaws.{ascends_placed}
 use Rattle.fab_versions.specs.Places.{IsAt, IsGap}
-use Rattle.fab_versions.proofs.Rows.{ascends-placed}
 use Rattle.fab_versions.proofs.Found.{row_at, placed_in_gap}
 use Rattle.fab_versions.proofs.table.Table.put_new.Goals as goal
 
@@ -20,7 +20,7 @@ invariant_of-self-in-Err c =
     let gap = subst (λ l. IsGap name_of l c.args.oid c.in-Err.at) c.deref.ensures.value c.in-Err.ensures.absent in
     let row = begun (c.args.oid, c.args.object) in
     ap (ascends name_of) (c.in_ok-insert-in-Err.ensures.items ∙ sym (placed_in_gap name_of c.self.inside.rows.items c.args.oid c.in-Err.at gap row refl))
-    ∙ ascends-placed name_of row c.self.inside.rows.items c.self.invariant
+    ∙ ascends_placed name_of row c.self.inside.rows.items c.self.invariant
 
 pub returns-clause-ok : goal.returns-clause-ok
 returns-clause-ok c =

@@ -2,8 +2,8 @@ use Rattle.std.proofs.Common.{ap, sym, ◌∙◌, subst, set, is_some}
 use Rattle.std.proofs.lemmas.Bool.{false≢true}
 use Rattle.fab_protocol.specs.Tables.{row_of, placed, ascends}
 use Rattle.fab_protocol.specs.Versions.{name_of, version_of, risen}
+use Rattle.fab_protocol.proofs.TableLaws.{ascends_placed}
 use Rattle.fab_versions.specs.Places.{IsAt, IsGap}
-use Rattle.fab_versions.proofs.Rows.{ascends-placed}
 use Rattle.fab_versions.proofs.Found.{row_in_gap}
 use Rattle.fab_versions.proofs.Written.{written_at}
 use Rattle.fab_versions.proofs.table.Table.replace.Goals as goal
@@ -15,7 +15,7 @@ invariant_of-self c =
     let rows = c.self.inside.rows.items in
     ap (λ v. ascends name_of (set rows c.in-Ok.at (c.args.oid, v, c.args.object))) c.next_version-version.ensures
     ∙ ap (ascends name_of) (written_at rows c.self.invariant c.args.oid c.in-Ok.at at c.index.result.now c.index.ensures c.args.object)
-    ∙ ascends-placed name_of (c.args.oid, risen (version_of rows c.args.oid), c.args.object) rows c.self.invariant
+    ∙ ascends_placed name_of (c.args.oid, risen (version_of rows c.args.oid), c.args.object) rows c.self.invariant
 
 pub returns-clause-rows : goal.returns-clause-rows
 returns-clause-rows c =
