@@ -24,4 +24,4 @@ commits_more decided i d h =
     ∙ ap (map as_bytes) (flat_map-append commits_in (take i decided) (get_or decided i d ∷ []))
     ∙ map-append as_bytes (flat_map commits_in (take i decided)) (commits_in (get_or decided i d) ++ [])
     ∙ ap (λ l. map as_bytes (flat_map commits_in (take i decided)) ++ l)
-      (ap (map as_bytes) (append-nil (commits_in (get_or decided i d))) ∙ map-map as_bytes (λ s. (s, Commit (get_or decided i d).tid)) (get_or decided i d).stores)
+    (ap (map as_bytes) (append-nil (commits_in (get_or decided i d))) ∙ map-map as_bytes (λ s. (s, Commit (get_or decided i d).tid)) (get_or decided i d).stores)

@@ -1,13 +1,12 @@
 -- Which stores have voted Yes, and what one more Yes comes to.
-use Rattle.std.proofs.Common.{◌≡◌, ◌↔◌, ℕ, zero, suc, ◌<◌, Bool, true, false, not, ◌&&◌, ◌||◌, ◌==◌, if◌then◌else◌}
-use Rattle.std.proofs.Common.{List, [], ◌∷◌, ◌++◌, length, fold, refl, sym, ap, ◌∙◌, arith}
+use Rattle.std.proofs.Common.{◌≡◌, ◌↔◌, ℕ, zero, suc, Bool, true, false, not, ◌&&◌, ◌||◌, ◌==◌, if◌then◌else◌}
+use Rattle.std.proofs.Common.{List, [], ◌∷◌, ◌++◌, fold, refl, sym, ap, ◌∙◌, arith}
 use Rattle.std.specs.List.{AllByRecursion, Contains, filter, list_any}
 use Rattle.std.proofs.lemmas.Bool.{or_parts, or_from}
 use Rattle.std.proofs.lemmas.Bool.Decides.{nat_tests}
 use Rattle.fab_base.specs.declared.object.Tid.{Tid}
-use Rattle.fab_protocol.proofs.Lists.{at_head, behind_head}
+use Rattle.fab_protocol.proofs.Lists.{behind_head}
 use Rattle.fab_commit.specs.Coordinators.{Coordination, all_voted, begun, is_among, verdict, voted}
-use Rattle.fab_commit.specs.declared.verdict.Verdict.{Verdict}
 use Rattle.fab_commit.specs.declared.verdict.Verdict.TheVariants.{Commit, Wait}
 
 -- the stores but one

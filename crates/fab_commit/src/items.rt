@@ -76,11 +76,7 @@ fn reads_at(alloc: Global, parts: &Parts, store: u16) -> Result<Seq<(Oid, u32)>,
 }
 
 /// What was written at a store.
-fn writes_at(
-    alloc: Global,
-    parts: &Parts,
-    store: u16,
-) -> Result<Seq<(Oid, u32, Object)>, NoMemory>
+fn writes_at(alloc: Global, parts: &Parts, store: u16) -> Result<Seq<(Oid, u32, Object)>, NoMemory>
     ensures { IfOk result (λ writes. writes ≡ (items_at parts.now store).writes) }
 {
     let mut writes = Seq::new(alloc);

@@ -24,12 +24,7 @@ fn prepare_at(alloc: Global, tid: Tid, parts: &Parts, store: u16) -> Result<Seq<
 }
 
 /// To each of these stores what it is asked to prepare.
-pub fn prepares(
-    alloc: Global,
-    tid: Tid,
-    parts: &Parts,
-    stores: &[u16],
-) -> Result<Sends, NoMemory>
+pub fn prepares(alloc: Global, tid: Tid, parts: &Parts, stores: &[u16]) -> Result<Sends, NoMemory>
     requires { KeepsParts parts.now }
     ensures { IfOk result (λ sends. sends ≡ map (λ s. (s, spelled (Prepare tid (items_at parts.now s)))) stores.now) }
 {
@@ -41,12 +36,7 @@ pub fn prepares(
 }
 
 /// The same bytes to each of these stores, behind what is sent before them.
-fn add_bytes(
-    alloc: Global,
-    sends: &mut Sends,
-    stores: &[u16],
-    bytes: &[u8],
-) -> Result<(), NoMemory>
+fn add_bytes(alloc: Global, sends: &mut Sends, stores: &[u16], bytes: &[u8]) -> Result<(), NoMemory>
     ensures { OnOk result (sends.new ≡ sends.old ++ map (λ s. (s, bytes.now)) stores.now) }
 {
     for store in stores {
