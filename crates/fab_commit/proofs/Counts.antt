@@ -1,0 +1,51 @@
+-- What a store is asked to prepare keeps the counts of a message.
+use Rattle.std.proofs.Common.{ℕ, suc, ◌+◌, ◌≤◌, Bool, true, false, ◌==◌, ◌&&◌, if◌then◌else◌, List, [], ◌∷◌, length, arith}
+use Rattle.std.specs.List.{filter, All}
+use Rattle.std.proofs.lemmas.List.Sums.{length-filter, count_by-le-length}
+use Rattle.std.proofs.lemmas.List.Elements.{All-from_recursion}
+use Rattle.fab_base.specs.FieldSpelling.{KeepsItems}
+use Rattle.fab_base.specs.FlatMap.{is_before}
+use Rattle.fab_base.specs.declared.object.Oid.{Oid}
+use Rattle.fab_protocol.specs.declared.parts.Parts.{Parts}
+use Rattle.fab_protocol.specs.Parts.{items_at, is_only_read}
+use Rattle.fab_protocol.specs.Tables.{placed, placed_all}
+use Rattle.fab_protocol.proofs.Lists.{all_by_recursion, all_filter}
+use Rattle.fab_commit.specs.Coordinators.{KeepsParts}
+
+module _ {R : Type 0} (name : R → Oid) where
+  length_placed : (r : R) (rows : List R) → length (placed name r rows) ≤ length rows + 1
+  length_placed r [] = omega arith
+  length_placed r (x ∷ xs) =
+      let rest = length_placed r xs in
+      elim (is_before (name r) (name x)) as (λ b. length (if b then r ∷ x ∷ xs else (if is_before (name x) (name r) then x ∷ placed name r xs else r ∷ xs)) ≤ suc (length xs) + 1) [
+        | true ↦ omega arith
+        | false ↦ elim (is_before (name x) (name r)) as (λ b. length (if b then x ∷ placed name r xs else r ∷ xs) ≤ suc (length xs) + 1) [
+          | true ↦ omega (arith, rest)
+          | false ↦ omega arith
+        ]
+      ]
+
+  length_placed_all : (rs rows : List R) → length (placed_all name rs rows) ≤ length rows + length rs
+  length_placed_all [] rows = omega arith
+  length_placed_all (r ∷ rs) rows =
+      let all = length_placed_all rs (placed name r rows) in
+      let one = length_placed r rows in
+      omega (arith, all, one)
+
+few_pass : {A : Type 0} (test : A → Bool) (xs : List A) → length (filter test xs) ≤ length xs
+few_pass test xs = omega (arith, length-filter test xs, count_by-le-length test xs)
+
+all_pass : {A : Type 0} (P : A → Type 0) (test : A → Bool) (xs : List A) → All P xs → All P (filter test xs)
+all_pass P test xs h = All-from_recursion P (filter test xs) (all_filter P test xs (all_by_recursion P xs h))
+
+pub items_keep : (parts : Parts) (s : ℕ) → KeepsParts parts → KeepsItems (items_at parts s)
+items_keep parts s keeps = record {
+  reads =
+      let all = length_placed_all (λ r. r.0) (filter (λ r. (r.0.store == s) && is_only_read parts r.0) parts.touched) [] in
+      let few = few_pass (λ r. (r.0.store == s) && is_only_read parts r.0) parts.touched in
+      omega (arith, all, few, keeps.touched);
+  writes = let few = few_pass (λ w. w.0.store == s) parts.writes in omega (arith, few, keeps.writes);
+  written = all_pass (λ w. length w.2.fields ≤ 16) (λ w. w.0.store == s) parts.writes keeps.written;
+  creates = let few = few_pass (λ c. c.0.store == s) parts.creates in omega (arith, few, keeps.creates);
+  created = all_pass (λ c. length c.1.fields ≤ 16) (λ c. c.0.store == s) parts.creates keeps.created;
+}

@@ -1,0 +1,5 @@
+pub mod Numbers
+pub mod ReadOrder
+pub mod Counts
+pub mod Votes
+pub mod Again

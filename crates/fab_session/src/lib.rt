@@ -1,0 +1,8 @@
+//! The numbers of one worker: of its requests, its attempts and its tries.
+#![tactic(auto)]
+
+mod session;
+#[cfg(test)]
+mod tests;
+
+pub use session::Session;
