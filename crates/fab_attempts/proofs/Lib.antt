@@ -1,0 +1,4 @@
+pub mod Suiting
+pub mod Rows
+pub mod Parts
+pub mod Puts
