@@ -1,16 +1,15 @@
 -- What a store is asked to prepare keeps the counts of a message.
 use Rattle.std.proofs.Common.{ℕ, suc, ◌+◌, ◌≤◌, Bool, true, false, ◌==◌, ◌&&◌, if◌then◌else◌, List, [], ◌∷◌, length, arith}
-use Rattle.std.specs.List.{filter, All}
+use Rattle.std.specs.List.{filter, All, AllByRecursion}
 use Rattle.std.proofs.lemmas.List.Sums.{length-filter, count_by-le-length}
 use Rattle.std.proofs.lemmas.List.Elements.{All-from_recursion}
 use Rattle.fab_base.specs.FieldSpelling.{KeepsItems}
 use Rattle.fab_base.specs.FlatMap.{is_before}
 use Rattle.fab_base.specs.declared.object.Oid.{Oid}
 use Rattle.fab_protocol.specs.declared.parts.Parts.{Parts}
-use Rattle.fab_protocol.specs.Parts.{items_at, is_only_read}
+use Rattle.fab_protocol.specs.Parts.{KeepsParts, items_at, is_only_read}
 use Rattle.fab_protocol.specs.Tables.{placed, placed_all}
-use Rattle.fab_protocol.proofs.Lists.{all_by_recursion, all_filter}
-use Rattle.fab_commit.specs.Coordinators.{KeepsParts}
+use Rattle.fab_protocol.proofs.Lists.{all_filter}
 
 module _ {R : Type 0} (name : R → Oid) where
   length_placed : (r : R) (rows : List R) → length (placed name r rows) ≤ length rows + 1
@@ -35,8 +34,8 @@ module _ {R : Type 0} (name : R → Oid) where
 few_pass : {A : Type 0} (test : A → Bool) (xs : List A) → length (filter test xs) ≤ length xs
 few_pass test xs = omega (arith, length-filter test xs, count_by-le-length test xs)
 
-all_pass : {A : Type 0} (P : A → Type 0) (test : A → Bool) (xs : List A) → All P xs → All P (filter test xs)
-all_pass P test xs h = All-from_recursion P (filter test xs) (all_filter P test xs (all_by_recursion P xs h))
+all_pass : {A : Type 0} (P : A → Type 0) (test : A → Bool) (xs : List A) → AllByRecursion P xs → All P (filter test xs)
+all_pass P test xs h = All-from_recursion P (filter test xs) (all_filter P test xs h)
 
 pub items_keep : (parts : Parts) (s : ℕ) → KeepsParts parts → KeepsItems (items_at parts s)
 items_keep parts s keeps = record {

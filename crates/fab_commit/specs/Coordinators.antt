@@ -38,14 +38,6 @@ voted store agrees c = if agrees then record c { waiting = filter (λ s. not (s 
 abbrev pub all_voted : List ℕ → Coordination → Coordination
 all_voted stores c = fold (λ before store. voted store true before) c stores
 
--- at most 1,024 touched objects, 256 writes and 256 creates, and objects of at most 16 fields
-pub record KeepsParts (parts : Parts) : Type 0 where
-  pub touched : length parts.touched ≤ 1024
-  pub writes : length parts.writes ≤ 256
-  pub written : All (λ w. length w.2.fields ≤ 16) parts.writes
-  pub creates : length parts.creates ≤ 256
-  pub created : All (λ c. length c.1.fields ≤ 16) parts.creates
-
 -- each touched or made object is at a node
 pub record AreAtNodes (parts : Parts) : Type 0 where
   pub touched : AllByRecursion (λ t. t.0.store < 2 ^ 16) parts.touched

@@ -4,8 +4,8 @@ ghost use Rattle.std.specs.List.{filter, list_any};
 ghost use Rattle.fab_base.specs.JournalSpelling.{AreStores};
 ghost use Rattle.fab_base.specs.MessageSpelling.{spelled};
 ghost use Rattle.fab_base.specs.declared.message.Message.TheVariants.{Prepare};
-ghost use Rattle.fab_protocol.specs.Parts.{items_at, stores_of};
-ghost use Rattle.fab_commit.specs.Coordinators.{KeepsParts, begun, is_among, verdict, voted};
+ghost use Rattle.fab_protocol.specs.Parts.{KeepsParts, items_at, stores_of};
+ghost use Rattle.fab_commit.specs.Coordinators.{begun, is_among, verdict, voted};
 
 use crate::participants::participants;
 use crate::sends::{Sends, prepares};

@@ -3,9 +3,9 @@ ghost use Rattle.std.specs.Prelude.{◌≡◌, ◌↔◌, ℕ, true, List, [], �
 ghost use Rattle.std.specs.List.{AllByRecursion, Contains};
 ghost use Rattle.fab_base.specs.JournalSpelling.{AreStores, AscendFrom};
 ghost use Rattle.fab_base.specs.declared.object.Tid.{Tid};
-ghost use Rattle.fab_protocol.specs.Parts.{stores_of};
+ghost use Rattle.fab_protocol.specs.Parts.{KeepsParts, stores_of};
 ghost use Rattle.fab_protocol.specs.declared.parts.Parts.{Parts};
-ghost use Rattle.fab_commit.specs.Coordinators.{AreAtNodes, KeepsParts, all_voted as voted_yes, begun, verdict};
+ghost use Rattle.fab_commit.specs.Coordinators.{AreAtNodes, all_voted as voted_yes, begun, verdict};
 ghost use Rattle.fab_commit.specs.declared.verdict.Verdict.TheVariants.{Commit};
 
 /// The stores that take part stand each once in the order of numbers, and are as few as a record of a

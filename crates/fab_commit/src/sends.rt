@@ -2,8 +2,8 @@
 ghost use Rattle.std.specs.Prelude.{◌≡◌, ◌++◌, IfOk, OnOk, map};
 ghost use Rattle.fab_base.specs.MessageSpelling.{KeepsCounts, spelled};
 ghost use Rattle.fab_base.specs.declared.message.Message.TheVariants.{Commit, Prepare};
-ghost use Rattle.fab_protocol.specs.Parts.{items_at};
-ghost use Rattle.fab_commit.specs.Coordinators.{KeepsParts, commits_of, spelled_sends};
+ghost use Rattle.fab_protocol.specs.Parts.{KeepsParts, items_at};
+ghost use Rattle.fab_commit.specs.Coordinators.{commits_of, spelled_sends};
 
 use crate::items::items_at;
 use fab_base::{Message, NoMemory, Seq, Tid};
