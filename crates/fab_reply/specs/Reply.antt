@@ -85,7 +85,8 @@ side_text r side.Absent = codes "none"
 
 -- the line of what a rule of labels refuses
 abbrev pub label_line : Resolved → Refusal → List ℕ
-label_line r x = line (codes "label " ++ label_rule_word x.rule ++ codes " at " ++ decimal x.at ++ codes " from " ++ side_text r x.source ++ codes " to " ++ side_text r x.target)
+label_line r x = line (codes "label " ++ label_rule_word x.rule ++ codes " at " ++ decimal x.at
+    ++ codes " from " ++ side_text r x.source ++ codes " to " ++ side_text r x.target)
 
 -- every command but `fmt` asks for the rules of names and types
 abbrev pub AsksNames : Command → Type 0

@@ -9,7 +9,9 @@ use Rattle.fab_words.specs.Names.{is_name_word}
 -- the command of one word
 abbrev pub command_of : List ℕ → Option Command
 command_of word =
-    if bytes_eq word (codes "check") then Some Check else (if bytes_eq word (codes "eval") then Some Evaluate else (if bytes_eq word (codes "fmt") then Some Format else None))
+    if bytes_eq word (codes "check") then Some Check
+    else (if bytes_eq word (codes "eval") then Some Evaluate
+    else (if bytes_eq word (codes "fmt") then Some Format else None))
 
 -- the command of a word and two operands, which are names
 abbrev pub command_with : List ℕ → List ℕ → List ℕ → Option Command
