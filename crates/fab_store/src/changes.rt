@@ -4,19 +4,12 @@ ghost use Rattle.std.specs.Prelude.{◌≡◌, ◌≤◌, ◌+◌, length, map};
 ghost use Rattle.std.specs.List.{AllByRecursion};
 ghost use Rattle.fab_base.specs.FieldSpelling.{KeepsItems};
 ghost use Rattle.fab_protocol.specs.Tables.{placed_all};
-ghost use Rattle.fab_protocol.specs.Versions.{begun, left_by, name_of, raised, risen};
+ghost use Rattle.fab_protocol.specs.Versions.{begun, left_by, name_of, raised};
 ghost use Rattle.fab_protocol.specs.Stores.{behind, prepared_as, without};
 
 use fab_base::{Items, Object, Oid, Seq, Tid};
 use fab_locks::Locks;
-use fab_versions::Table;
-
-/// The version behind a write.
-fn risen(version: u32) -> u32
-    ensures { result ≡ risen version }
-{
-    version.saturating_add(1)
-}
+use fab_versions::{Table, next_version};
 
 /// Writes take the place of their objects, each at the version behind the one that was read.
 fn put_writes(table: &mut Table, writes: Seq<(Oid, u32, Object)>)
@@ -27,7 +20,7 @@ fn put_writes(table: &mut Table, writes: Seq<(Oid, u32, Object)>)
     let mut rest = writes.into_vec();
     rest.reverse();
     while let Some((oid, version, object)) = rest.pop() {
-        let _ = table.put(oid, risen(version), object);
+        let _ = table.put(oid, next_version(version), object);
     }
 }
 

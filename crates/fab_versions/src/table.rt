@@ -116,8 +116,8 @@ impl Table {
     }
 }
 
-/// The version behind a write.
-fn next_version(version: u32) -> u32
+/// The version behind a write of an object at this one. The greatest stays.
+pub fn next_version(version: u32) -> u32
     ensures { result ≡ risen version }
 {
     if version == u32::MAX {
