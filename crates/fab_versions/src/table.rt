@@ -73,6 +73,8 @@ impl Table {
         ensures err { OnErr result (self.new.rows ≡ self.old.rows) }
         ensures sure { 0 < self.old.spare → IsOk result }
         ensures spare { self.old.spare ≤ self.new.spare + 1 }
+        ensures there { IsSome (row_of name_of self.old.rows oid) → IsOk result }
+        ensures same_room { IsSome (row_of name_of self.old.rows oid) → self.old.spare ≤ self.new.spare }
     {
         match place(&self.rows, oid) {
             Ok(at) => {
