@@ -58,7 +58,6 @@ impl Table {
         ensures err { OnErr result (self.new.rows ≡ self.old.rows) }
         ensures sure { 0 < self.old.spare → IsOk result }
         ensures spare { self.old.spare ≤ self.new.spare + 1 }
-        ensures kept { OnErr result (self.old.spare ≤ self.new.spare) }
     {
         match place(&self.rows, oid) {
             Ok(_) => unreachable!(),
