@@ -4,11 +4,11 @@ ghost use Rattle.std.specs.Prelude.{◌≡◌, ◌≤◌, ◌<◌, ◌^◌, ◌=
 ghost use Rattle.std.specs.List.{AllByRecursion};
 ghost use Rattle.fab_base.specs.FlatMap.{ascends as roots_ascend};
 ghost use Rattle.fab_wire.specs.Reading.{read_message};
-ghost use Rattle.fab_protocol.specs.Tables.{placed};
+ghost use Rattle.fab_protocol.specs.Tables.{ascends, placed};
 ghost use Rattle.fab_protocol.specs.Versions.{begun, name_of};
 ghost use Rattle.fab_protocol.specs.Stores.{hears, keeps, keeps_said, shelf_at_start, step_of};
 ghost use Rattle.fab_store.specs.Stock.{CanKeepSaid, HasRoom, HasRoomFor, OnlyGainsRoom, plan_of};
-ghost use Rattle.fab_protocol.specs.Shelves.{CanKeep};
+ghost use Rattle.fab_protocol.specs.Shelves.{CanKeep, IsShelf};
 
 use crate::changes::apply;
 use crate::plan::StorePlan;
@@ -104,14 +104,16 @@ impl Store {
 
     /// The objects, in the order of names, each with its version.
     pub fn rows(&self) -> &[(Oid, u32, Object)]
-        ensures { result.now ≡ self.now.shelf.rows }
+        ensures all { result.now ≡ self.now.shelf.rows }
+        ensures ascending { IsTrue (ascends name_of self.now.shelf.rows) }
     {
         self.table.rows()
     }
 
-    /// The transactions that are prepared, in the order of preparing.
+    /// The transactions that are prepared, in the order of preparing. Each store has a shelf.
     pub fn prepared(&self) -> &[(Tid, Items)]
-        ensures { result.now ≡ self.now.shelf.prepared }
+        ensures all { result.now ≡ self.now.shelf.prepared }
+        ensures shelf { IsShelf self.now.rights self.now.node self.now.shelf }
     {
         self.locks.held()
     }
