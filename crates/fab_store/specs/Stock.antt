@@ -1,5 +1,5 @@
 -- A store as contracts see it, what it plans, and the room that a record needs.
-use Rattle.std.specs.Prelude.{◌≡◌, ℕ, ◌≤◌, ◌<◌, ◌^◌, Option, Some, None, List, [], ◌∷◌}
+use Rattle.std.specs.Prelude.{◌≡◌, ℕ, ◌≤◌, ◌<◌, ◌^◌, Option, Some, None, List, [], ◌∷◌, fold}
 use Rattle.std.specs.List.{AllByRecursion}
 use Rattle.fab_base.specs.declared.entry.Entry.{Entry}
 use Rattle.fab_base.specs.declared.entry.Entry.TheVariants as e
@@ -68,6 +68,10 @@ pub record CanSpell (said : Said) : Type 0 where
   pub sends : AllByRecursion (λ x. KeepsCounts x.1) said.sends
 
 -- ---- journals
+
+-- the shelf behind some records
+abbrev pub shelf_behind : List Entry → Shelf → Shelf
+shelf_behind entries shelf = fold (λ x entry. keeps entry x) shelf entries
 
 -- each record is one that the rules give over the shelf behind those before it
 abbrev pub AreKept : Rights → ℕ → List Entry → Shelf → Type 0

@@ -1,8 +1,9 @@
 //! A store's node: what it holds, and what it does at a message.
 
-ghost use Rattle.std.specs.Prelude.{◌≡◌, ◌≤◌, ◌<◌, ◌^◌, ◌==◌, if◌then◌else◌, Option, None, Some, IfOk, OnOk, OnErr, IsTrue, length};
+ghost use Rattle.std.specs.Prelude.{◌≡◌, ◌≤◌, ◌<◌, ◌^◌, ◌==◌, if◌then◌else◌, Option, None, Some, IfOk, IfSome, OnOk, OnErr, IsTrue, length};
 ghost use Rattle.std.specs.List.{AllByRecursion};
 ghost use Rattle.fab_base.specs.FlatMap.{ascends as roots_ascend};
+ghost use Rattle.fab_base.specs.JournalSpelling.{IsEntry};
 ghost use Rattle.fab_wire.specs.Reading.{read_message};
 ghost use Rattle.fab_protocol.specs.Tables.{ascends, placed};
 ghost use Rattle.fab_protocol.specs.Versions.{begun, name_of};
@@ -131,9 +132,10 @@ impl Store {
     }
 
     /// What the store will do at these bytes of a sender, whoever that is, with the room that it
-    /// needs. Nothing but room changes.
+    /// needs. Nothing but room changes. What it writes can be read back.
     pub fn plan(&mut self, sender: u16, bytes: &[u8]) -> Result<StorePlan, NoMemory>
         ensures plan { IfOk result (λ plan. plan ≡ plan_of (hears self.old.rights self.old.node sender (read_message bytes.now) self.old.shelf)) }
+        ensures fits { IfOk result (λ plan. IfSome plan.entry (IsEntry 1)) }
         ensures room { IfOk result (λ plan. HasRoom plan.entry self.new) }
         ensures can { IfOk result (λ plan. CanKeepSaid self.new.rights self.new.node plan.entry self.new.shelf) }
         ensures kept { OnlyGainsRoom self.old self.new }
@@ -191,6 +193,7 @@ impl Store {
     /// it stays as it was.
     pub fn handle(&mut self, sender: u16, bytes: &[u8]) -> Result<Step, NoMemory>
         ensures step { IfOk result (λ step. step ≡ step_of 1 (hears self.old.rights self.old.node sender (read_message bytes.now) self.old.shelf)) }
+        ensures fits { OnOk result (IfSome (hears self.old.rights self.old.node sender (read_message bytes.now) self.old.shelf).entry (IsEntry 1)) }
         ensures node { self.new.node ≡ self.old.node }
         ensures rights { self.new.rights ≡ self.old.rights }
         ensures ok { OnOk result (self.new.shelf ≡ keeps_said (hears self.old.rights self.old.node sender (read_message bytes.now) self.old.shelf).entry self.old.shelf) }
