@@ -11,9 +11,9 @@ ghost use Rattle.fab_protocol.specs.Stores.{hears, keeps, keeps_said, shelf_at_s
 ghost use Rattle.fab_store.specs.Stock.{CanKeepSaid, HasRoom, HasRoomFor, OnlyGainsRoom, plan_of};
 ghost use Rattle.fab_protocol.specs.Shelves.{CanKeep, IsShelf};
 
-use crate::changes::apply;
+use crate::changes::keep_record;
 use crate::plan::StorePlan;
-use crate::senders::{none_heard, set_boot, set_last};
+use crate::senders::none_heard;
 use crate::steps::plan_of;
 use fab_base::{Entry, Items, NoMemory, Object, Oid, Tid};
 use fab_locks::Locks;
@@ -155,22 +155,7 @@ impl Store {
         ensures rights { self.new.rights ≡ self.old.rights }
         ensures shelf { self.new.shelf ≡ keeps entry self.old.shelf }
     {
-        match entry {
-            Entry::Prepared { tid, items } => {
-                let _ = self.locks.hold(tid, items);
-                set_last(&mut self.senders, tid);
-            }
-            Entry::Refused { tid } => set_last(&mut self.senders, tid),
-            Entry::Applied { tid } => apply(&mut self.table, &mut self.locks, tid),
-            Entry::Released { tid } => {
-                let _ = self.locks.free(tid);
-            }
-            Entry::BootSeen { worker, boot } => {
-                self.locks.free_all(worker);
-                set_boot(&mut self.senders, worker, boot);
-            }
-            _ => {}
-        }
+        keep_record(&mut self.table, &mut self.locks, &mut self.senders, entry);
     }
 
     /// Does what was planned of the store as it is, and answers its step. It takes no memory.
