@@ -45,7 +45,6 @@ impl Locks {
         ensures err { OnErr result (self.new.held ≡ self.old.held) }
         ensures sure { 0 < self.old.spare → IsOk result }
         ensures spare { self.old.spare ≤ self.new.spare + 1 }
-        ensures kept { OnErr result (self.old.spare ≤ self.new.spare) }
     {
         Ok(self.held.push((tid, items))?)
     }

@@ -102,6 +102,8 @@ module _ (rights : Rights) (s : ℕ) (t : Tid) (shelf : Shelf) (h : IsShelf righ
             (without t shelf.prepared) (cross t shelf.prepared h.apart) (all_filter _ (λ p. not (is_tid p.0 t)) shelf.prepared h.current);
         apart = apart_filter (λ p. not (is_tid p.0 t)) shelf.prepared h.apart;
         once = all_filter _ (λ p. not (is_tid p.0 t)) shelf.prepared h.once;
+        allowed = all_filter _ (λ p. not (is_tid p.0 t)) shelf.prepared h.allowed;
+        suited = all_filter _ (λ p. not (is_tid p.0 t)) shelf.prepared h.suited;
         fields = all_placed_all name_of (λ r. length r.2.fields ≤ 16) left shelf.rows
             (all_flat (λ r. length r.2.fields ≤ 16) (λ (p : Prepared). left_by p.1) those
             (all_along (λ (p : Prepared). KeepsItems p.1) (λ p. AllByRecursion (λ r. length r.2.fields ≤ 16) (left_by p.1))

@@ -119,9 +119,10 @@ module _ (rights : Rights) (s n : ℕ) (t : Tid) (shelf : Shelf) where
 
   -- ---- what a Yes says of items
 
-  -- here, with the right, current, and free of locks
+  -- here, suited, with the right, current, and free of locks
   pub record IsFine (i : Item) : Type 0 where
     pub here : (item_name i).store ≡ s
+    pub suited : IsFalse (is_unsuited rights t i)
     pub allowed : IsFalse (lacks_right rights n i)
     pub current : IsFalse (out_of_date shelf.rows i).0
     pub unlocked : AllByRecursion (λ p. IsFalse (is_locked_by i p.1)) shelf.prepared
@@ -130,6 +131,7 @@ module _ (rights : Rights) (s n : ℕ) (t : Tid) (shelf : Shelf) where
     here : (item_name i).store ≡ s
     in_order : IsFalse (is_out_of_order before (item_name i))
     another : IsFalse (is_among (item_name i) earlier)
+    suited : IsFalse (is_unsuited rights t i)
 
   well_formed : (earlier : List Oid) (before : Option Oid) (i : Item) → IsFalse (is_ill_formed rights s t earlier before i)
       → IsWellFormed earlier before i
@@ -145,6 +147,7 @@ module _ (rights : Rights) (s n : ℕ) (t : Tid) (shelf : Shelf) where
         here = eqb-true (item_name i).store s (not-false ((item_name i).store == s) (or_parts a b second.0).0);
         in_order = second.1;
         another = third.1;
+        suited = last.1;
       }
 
   abbrev AreFalse : List Reason → Type 0
@@ -155,9 +158,11 @@ module _ (rights : Rights) (s n : ℕ) (t : Tid) (shelf : Shelf) where
   all_fine earlier before [] h = tt
   all_fine earlier before (i ∷ is) h =
       let g = all_split (λ (r : Reason). IsFalse r.0) (reasons_of rights s n t shelf earlier before i)
-      (reasons_in rights s n t shelf earlier (Some (item_name i)) is) h in (
+      (reasons_in rights s n t shelf earlier (Some (item_name i)) is) h in
+      let formed = well_formed earlier before i g.0.0 in (
         record {
-          here = (well_formed earlier before i g.0.0).here;
+          here = formed.here;
+          suited = formed.suited;
           allowed = g.0.1.0;
           current = g.0.1.1.0;
           unlocked = all_of_map (λ (r : Reason). IsFalse r.0) (λ (p : Prepared). (is_locked_by i p.1, Locked p.0)) shelf.prepared g.0.1.1.1;

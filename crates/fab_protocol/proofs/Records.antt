@@ -16,7 +16,8 @@ use Rattle.fab_protocol.specs.declared.sender.Sender.{Sender}
 use Rattle.fab_protocol.specs.Tables.{OnlyOnce}
 use Rattle.fab_protocol.specs.Versions.{is_tid}
 use Rattle.fab_protocol.specs.Stores.{Shelf, Prepared, Item, keeps, all_in, named_by, item_name, start_of, last_of, sender_in, with_last, with_boot}
-use Rattle.fab_protocol.specs.Shelves.{IsShelf, IsCurrent, IsApart, AreApart, CanKeep}
+use Rattle.fab_protocol.specs.Stores.{is_unsuited, lacks_right}
+use Rattle.fab_protocol.specs.Shelves.{IsShelf, IsAllowed, IsCurrent, IsApart, IsSuited, AreApart, CanKeep}
 use Rattle.fab_protocol.proofs.Lists.{all_append, all_filter, all_passed, all_along}
 use Rattle.fab_protocol.proofs.Locks.{Free, free_both_ways, exchanged}
 use Rattle.fab_protocol.proofs.Reasons.{IsFine, yes_is_fine, yes_names_once}
@@ -107,6 +108,8 @@ module _ (rights : Rights) (s : ℕ) (shelf : Shelf) (fits : rights.workers < 2 
         current = h.current;
         apart = h.apart;
         once = h.once;
+        allowed = h.allowed;
+        suited = h.suited;
         fields = h.fields;
         counts = h.counts;
         remembered = remembered_last shelf.senders t below h.remembered;
@@ -119,6 +122,8 @@ module _ (rights : Rights) (s : ℕ) (shelf : Shelf) (fits : rights.workers < 2 
     current : AllByRecursion (λ p. AllByRecursion (IsCurrent shelf) (all_in p.1)) (filter test shelf.prepared)
     apart : AreApart (filter test shelf.prepared)
     once : AllByRecursion (λ p. OnlyOnce (named_by p.1)) (filter test shelf.prepared)
+    allowed : AllByRecursion (IsAllowed rights) (filter test shelf.prepared)
+    suited : AllByRecursion (IsSuited rights) (filter test shelf.prepared)
     counts : AllByRecursion (λ p. KeepsItems p.1) (filter test shelf.prepared)
 
   stays : (test : Prepared → Bool) → Stays test
@@ -128,6 +133,8 @@ module _ (rights : Rights) (s : ℕ) (shelf : Shelf) (fits : rights.workers < 2 
     current = all_filter (λ p. AllByRecursion (IsCurrent shelf) (all_in p.1)) test shelf.prepared h.current;
     apart = apart_filter test shelf.prepared h.apart;
     once = all_filter (λ p. OnlyOnce (named_by p.1)) test shelf.prepared h.once;
+    allowed = all_filter (IsAllowed rights) test shelf.prepared h.allowed;
+    suited = all_filter (IsSuited rights) test shelf.prepared h.suited;
     counts = all_filter (λ p. KeepsItems p.1) test shelf.prepared h.counts;
   }
 
@@ -144,6 +151,8 @@ module _ (rights : Rights) (s : ℕ) (shelf : Shelf) (fits : rights.workers < 2 
         current = those.current;
         apart = those.apart;
         once = those.once;
+        allowed = those.allowed;
+        suited = those.suited;
         fields = h.fields;
         counts = those.counts;
         remembered = h.remembered;
@@ -163,6 +172,8 @@ module _ (rights : Rights) (s : ℕ) (shelf : Shelf) (fits : rights.workers < 2 
         current = those.current;
         apart = those.apart;
         once = those.once;
+        allowed = those.allowed;
+        suited = those.suited;
         fields = h.fields;
         counts = those.counts;
         remembered = remembered_boot shelf.senders w b (worker_below rights w fits can.0) h.remembered;
@@ -201,6 +212,10 @@ module _ (rights : Rights) (s : ℕ) (shelf : Shelf) (fits : rights.workers < 2 
             (exchanged (all_in items) shelf.prepared
             (all_along Fine (λ i. AllByRecursion (λ p. Free p.1 i) shelf.prepared) (λ i f. f.unlocked) (all_in items) fine)));
         once = all_append (λ p. OnlyOnce (named_by p.1)) shelf.prepared more h.once (yes_names_once rights s t.worker t shelf items can.3, tt);
+        allowed = all_append (IsAllowed rights) shelf.prepared more h.allowed
+            (all_along Fine (λ i. IsFalse (lacks_right rights t.worker i)) (λ i f. f.allowed) (all_in items) fine, tt);
+        suited = all_append (IsSuited rights) shelf.prepared more h.suited
+            (all_along Fine (λ i. IsFalse (is_unsuited rights t i)) (λ i f. f.suited) (all_in items) fine, tt);
         fields = h.fields;
         counts = all_append (λ p. KeepsItems p.1) shelf.prepared more h.counts (can.2, tt);
         remembered = remembered_last shelf.senders t below h.remembered;

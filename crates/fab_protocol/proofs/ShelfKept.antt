@@ -64,6 +64,8 @@ start_is rights roots s order few =
       current = tt;
       apart = tt;
       once = tt;
+      allowed = tt;
+      suited = tt;
       fields = all_map (λ (row : Row). length row.2.fields ≤ 16) begun those
           (all_filter (λ (root : Root). length root.1.fields ≤ 16) (λ root. root.0.store == s) roots few);
       counts = tt;

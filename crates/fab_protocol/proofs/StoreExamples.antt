@@ -285,6 +285,8 @@ start_is_shelf = record {
   current = tt;
   apart = tt;
   once = tt;
+  allowed = tt;
+  suited = tt;
   fields = (lit≤ tt, (lit≤ tt, tt));
   counts = tt;
   remembered = refl;
@@ -312,6 +314,8 @@ prepared_is_shelf = record {
   current = ((refl, tt), ((refl, (refl, tt)), tt));
   apart = (((refl, (refl, tt)), tt), (tt, tt));
   once = ((refl, tt), ((refl, (refl, tt)), tt));
+  allowed = ((refl, tt), ((refl, (refl, tt)), tt));
+  suited = ((refl, tt), ((refl, (refl, tt)), tt));
   fields = (lit≤ tt, (lit≤ tt, tt));
   counts = (
     few (items ((account 1, 1) ∷ []) [] []) (lit≤ tt) (lit≤ tt) tt (lit≤ tt) tt,
@@ -330,6 +334,16 @@ two_writers h = true≢false (h.apart.0.0.1.0)
 -- nor does one that writes an object twice
 twice_is_no_shelf : IsShelf rights 1 (record S { prepared = (t, items [] ((account 0, 1, one) ∷ (account 0, 1, one) ∷ []) []) ∷ [] }) → ⊥
 twice_is_no_shelf h = true≢false h.once.0.0
+
+-- nor what a worker prepared that may not write it, an object of another class than its name, or a name of another attempt
+not_allowed : IsShelf rights 1 (record S { prepared = (attempt 2 1 1, writes_one) ∷ [] }) → ⊥
+not_allowed h = true≢false h.allowed.0.0
+
+not_suited : IsShelf rights 1 (record S { prepared = (t, items [] ((account 0, 1, record one { class = 1 }) ∷ []) []) ∷ [] }) → ⊥
+not_suited h = true≢false h.suited.0.0
+
+other_maker : IsShelf rights 1 (record S { prepared = (t, items [] [] ((made (attempt 0 1 2), one) ∷ [])) ∷ [] }) → ⊥
+other_maker h = true≢false h.suited.0.0
 
 -- ---- laws
 

@@ -1,6 +1,5 @@
 -- What a record makes of a shelf is one.
-use Rattle.std.proofs.Common.{◌≡◌, ◌++◌, ◌∷◌, [], List, ℕ, false, IsFalse, refl, sym, subst, Result, Ok, Err, IsOk, OnOk}
-use Rattle.std.proofs.lemmas.Bool.{false≢true}
+use Rattle.std.proofs.Common.{◌≡◌, ◌++◌, ◌∷◌, [], List, ℕ, false, IsFalse, refl, sym, subst}
 use Rattle.std.specs.List.{list_any}
 use Rattle.fab_base.specs.declared.object.Tid.{Tid}
 use Rattle.fab_base.specs.declared.message.Items.{Items}
@@ -12,7 +11,7 @@ use Rattle.fab_protocol.specs.Shelves.{AreApart, CanKeep, IsApart, IsShelf}
 use Rattle.fab_protocol.specs.Versions.{is_tid}
 use Rattle.fab_protocol.proofs.Lists.{all_split}
 use Rattle.fab_protocol.proofs.ShelfKept.{shelf_keeps}
-use Rattle.fab_store.specs.Stock.{HasRoomFor, IsStore, Stock}
+use Rattle.fab_store.specs.Stock.{HasRoomFor, IsNew, IsStore, Stock}
 
 pub kept_store : (rights : Rights) (s : ℕ) (entry : Entry) (old new : Shelf) → CanKeep rights s entry old → IsStore rights s old
     → new ≡ keeps entry old → IsStore rights s new
@@ -21,25 +20,28 @@ kept_store rights s entry old new can is same = record {
   shelf = subst (λ (x : Shelf). IsShelf rights s x) (sym same) (shelf_keeps rights s entry old is.mask can is.shelf);
 }
 
--- the record that may be kept, as a pattern found it, over the parts of a store
-pub can_keep : (entry found : Entry) (x y : Stock) → entry ≡ found → x ≡ y → CanKeep y.rights y.node entry y.shelf → CanKeep x.rights x.node found x.shelf
-can_keep entry found x y is view can =
-    subst (λ (z : Stock). CanKeep z.rights z.node found z.shelf) (sym view) (subst (λ (en : Entry). CanKeep y.rights y.node en y.shelf) is can)
+-- the record that may be kept, and the room for it, over the parts of a store
+pub can_keep : (entry : Entry) (x y : Stock) → x ≡ y → CanKeep y.rights y.node entry y.shelf → CanKeep x.rights x.node entry x.shelf
+can_keep entry x y view can = subst (λ (z : Stock). CanKeep z.rights z.node entry z.shelf) (sym view) can
 
-pub when_ok : {T E : Type 0} {P : Type 0} (r : Result T E) → IsOk r → OnOk r P → P
-when_ok (Ok x) ok p = p
-when_ok (Err e) ok p = absurd (false≢true ok)
+pub room_for : (entry : Entry) (x y : Stock) → x ≡ y → HasRoomFor entry y → HasRoomFor entry x
+room_for entry x y view room = subst (λ (z : Stock). HasRoomFor entry z) (sym view) room
 
 -- what is prepared anew has a tid that wasn't prepared
 apart_end : (ps : List Prepared) (q : Prepared) → AreApart (ps ++ q ∷ []) → list_any (λ p. is_tid p.0 q.0) ps ≡ false
 apart_end [] q h = refl
 apart_end (p ∷ ps) q h = rw ((all_split (IsApart p) ps (q ∷ []) h.0).1.0.0, apart_end ps q h.1) refl
 
-pub not_held : (rights : Rights) (s : ℕ) (t : Tid) (items : Items) (old : Shelf) → CanKeep rights s (e.Prepared t items) old → IsStore rights s old
+not_held : (rights : Rights) (s : ℕ) (t : Tid) (items : Items) (old : Shelf) → CanKeep rights s (e.Prepared t items) old → IsStore rights s old
     → IsFalse (list_any (λ p. is_tid p.0 t) old.prepared)
 not_held rights s t items old can is = apart_end old.prepared (t, items) (shelf_keeps rights s (e.Prepared t items) old is.mask can is.shelf).apart
 
--- the room for a record, as a pattern found it
-pub room_for : (entry found : Entry) (x y : Stock) → entry ≡ found → x ≡ y → HasRoomFor entry y → HasRoomFor found x
-room_for entry found x y is view room =
-    subst (λ (z : Stock). HasRoomFor found z) (sym view) (subst (λ (en : Entry). HasRoomFor en y) is room)
+pub is_new : (rights : Rights) (s : ℕ) (entry : Entry) (old : Shelf) → CanKeep rights s entry old → IsStore rights s old → IsNew entry old.prepared
+is_new rights s (e.Prepared t items) old can is = not_held rights s t items old can is
+is_new rights s (e.Refused t) old can is = tt
+is_new rights s (e.Applied t) old can is = tt
+is_new rights s (e.Released t) old can is = tt
+is_new rights s (e.BootSeen w b) old can is = tt
+is_new rights s (e.Decided t request result stores) old can is = tt
+is_new rights s (e.Closed request outcome node) old can is = tt
+is_new rights s (e.Boot b) old can is = tt

@@ -1,5 +1,5 @@
 -- Records of what was heard, kept again.
-use Rattle.std.proofs.Common.{◌≡◌, ℕ, Option, Some, None, List, [], ◌∷◌, ◌++◌, IfSome, fold, refl, sym, ap, ◌∙◌, subst}
+use Rattle.std.proofs.Common.{◌≡◌, ℕ, Option, Some, None, List, [], ◌∷◌, ◌++◌, ◌↔◌, IfSome, refl, sym, ap, ◌∙◌, subst}
 use Rattle.fab_base.specs.declared.message.Message.{Message}
 use Rattle.fab_base.specs.declared.entry.Entry.{Entry}
 use Rattle.fab_base.specs.FlatMap.{FlatMap}
@@ -9,7 +9,7 @@ use Rattle.fab_protocol.specs.Stores.{Shelf, hears, keeps, keeps_said, shelf_at_
 use Rattle.fab_protocol.specs.Shelves.{CanKeep}
 use Rattle.fab_protocol.proofs.Kept.{says_can_keep}
 use Rattle.fab_store.specs.Histories.{AreReadable, Heard, behind_all, record_in, records_of}
-use Rattle.fab_store.specs.Stock.{AreKept, CanKeepSaid}
+use Rattle.fab_store.specs.Stock.{AreKept, CanKeepSaid, shelf_behind}
 use Rattle.fab_store.proofs.Spelling.{kept_said}
 
 hears_kept : (rights : Rights) (s n : ℕ) (heard : Option Message) (shelf : Shelf) → IfSome heard KeepsCounts
@@ -31,14 +31,11 @@ all_kept rights s (h ∷ hs) shelf readable =
     ahead rights s entry (records_of rights s hs (keeps_said entry shelf)) shelf (hears_kept rights s h.0 h.1 shelf readable.0)
     (all_kept rights s hs (keeps_said entry shelf) readable.1)
 
-abbrev kept_again : Shelf → List Entry → Shelf
-kept_again shelf entries = fold (λ x entry. keeps entry x) shelf entries
-
-one_again : (entry : Option Entry) (entries : List Entry) (shelf : Shelf) → kept_again shelf (record_in entry ++ entries) ≡ kept_again (keeps_said entry shelf) entries
+one_again : (entry : Option Entry) (entries : List Entry) (shelf : Shelf) → shelf_behind (record_in entry ++ entries) shelf ≡ shelf_behind entries (keeps_said entry shelf)
 one_again None entries shelf = refl
 one_again (Some entry) entries shelf = refl
 
-all_again : (rights : Rights) (s : ℕ) (heard : List Heard) (shelf : Shelf) → kept_again shelf (records_of rights s heard shelf) ≡ behind_all rights s heard shelf
+all_again : (rights : Rights) (s : ℕ) (heard : List Heard) (shelf : Shelf) → shelf_behind (records_of rights s heard shelf) shelf ≡ behind_all rights s heard shelf
 all_again rights s [] shelf = refl
 all_again rights s (h ∷ hs) shelf =
     let entry = (hears rights s h.0 h.1 shelf).entry in
@@ -48,3 +45,16 @@ pub recovered : (rights : Rights) (s : ℕ) (roots : FlatMap) (heard : List Hear
     → shelf_of roots s (records_of rights s heard (shelf_at_start roots s)) ≡ behind_all rights s heard (shelf_at_start roots s)
 unfolding shelf_of
 recovered rights s roots heard = all_again rights s heard (shelf_at_start roots s)
+
+-- ---- records in two parts
+
+pub in_a_row : (rights : Rights) (s : ℕ) (first second : List Entry) (shelf : Shelf)
+    → AreKept rights s (first ++ second) shelf ↔ (AreKept rights s first shelf × AreKept rights s second (shelf_behind first shelf))
+in_a_row rights s [] second shelf = (λ h. (tt, h), λ h. h.1)
+in_a_row rights s (entry ∷ first) second shelf =
+    let rest = in_a_row rights s first second (keeps entry shelf) in
+    (λ h. let parts = rest.0 h.1 in ((h.0, parts.0), parts.1), λ h. (h.0.0, rest.1 (h.0.1, h.1)))
+
+pub of_roots : (roots : FlatMap) (s : ℕ) (entries : List Entry) → shelf_of roots s entries ≡ shelf_behind entries (shelf_at_start roots s)
+unfolding shelf_of
+of_roots roots s entries = refl

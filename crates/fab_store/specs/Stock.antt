@@ -1,5 +1,5 @@
 -- A store as contracts see it, what it plans, and the room that a record needs.
-use Rattle.std.specs.Prelude.{◌≡◌, ℕ, ◌≤◌, ◌<◌, ◌^◌, Option, Some, None, List, [], ◌∷◌}
+use Rattle.std.specs.Prelude.{◌≡◌, ℕ, ◌≤◌, ◌<◌, ◌^◌, IsFalse, Option, Some, None, List, [], ◌∷◌, fold}
 use Rattle.std.specs.List.{AllByRecursion}
 use Rattle.fab_base.specs.declared.entry.Entry.{Entry}
 use Rattle.fab_base.specs.declared.entry.Entry.TheVariants as e
@@ -8,8 +8,11 @@ use Rattle.fab_base.specs.MessageSpelling.{KeepsCounts}
 use Rattle.fab_net.specs.declared.note.Step.{Step}
 use Rattle.fab_rights.specs.declared.rights.Rights.{Rights}
 use Rattle.fab_protocol.specs.declared.said.Said.{Said}
-use Rattle.fab_protocol.specs.Stores.{Shelf, step_of, keeps}
+use Rattle.fab_protocol.specs.declared.sender.Sender.{Sender}
+use Rattle.fab_protocol.specs.Versions.{Rows}
+use Rattle.fab_protocol.specs.Stores.{Prepared, Shelf, step_of, keeps}
 use Rattle.fab_protocol.specs.Shelves.{CanKeep, IsShelf}
+use Rattle.fab_locks.specs.Conflicts.{holds_tid}
 
 -- The store's number, what it knows of nodes and classes, its shelf, for how many objects more there is room, and
 -- for how many prepared transactions.
@@ -19,6 +22,10 @@ pub record Stock : Type 0 where
   pub shelf : Shelf
   pub spare_rows : ℕ
   pub spare_locks : ℕ
+
+-- a shelf of these parts
+abbrev pub shelf_in : Rows → List Prepared → List Sender → Shelf
+shelf_in rows held senders = record { rows = rows; prepared = held; senders = senders }
 
 -- what holds of every store: its shelf is one, over a mask of workers that has 64 bits
 pub record IsStore (rights : Rights) (s : ℕ) (x : Shelf) : Type 0 where
@@ -41,10 +48,18 @@ CanKeepSaid rights s None shelf = Unit {0}
 CanKeepSaid rights s (Some entry) shelf = CanKeep rights s entry shelf
 
 -- there is room for what a record adds: one transaction, or as many objects as one may write and make
+abbrev pub HasSpare : Entry → ℕ → ℕ → Type 0
+HasSpare (e.Prepared t items) rows locks = 1 ≤ locks
+HasSpare (e.Applied t) rows locks = 512 ≤ rows
+HasSpare _ rows locks = Unit {0}
+
 abbrev pub HasRoomFor : Entry → Stock → Type 0
-HasRoomFor (e.Prepared t items) x = 1 ≤ x.spare_locks
-HasRoomFor (e.Applied t) x = 512 ≤ x.spare_rows
-HasRoomFor _ x = Unit {0}
+HasRoomFor entry x = HasSpare entry x.spare_rows x.spare_locks
+
+-- what is prepared anew isn't held yet
+abbrev pub IsNew : Entry → List Prepared → Type 0
+IsNew (e.Prepared t items) held = IsFalse (holds_tid t held)
+IsNew _ held = Unit {0}
 
 abbrev pub HasRoom : Option Entry → Stock → Type 0
 HasRoom None x = Unit {0}
@@ -68,6 +83,10 @@ pub record CanSpell (said : Said) : Type 0 where
   pub sends : AllByRecursion (λ x. KeepsCounts x.1) said.sends
 
 -- ---- journals
+
+-- the shelf behind some records
+abbrev pub shelf_behind : List Entry → Shelf → Shelf
+shelf_behind entries shelf = fold (λ x entry. keeps entry x) shelf entries
 
 -- each record is one that the rules give over the shelf behind those before it
 abbrev pub AreKept : Rights → ℕ → List Entry → Shelf → Type 0

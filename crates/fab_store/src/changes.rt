@@ -4,19 +4,15 @@ ghost use Rattle.std.specs.Prelude.{◌≡◌, ◌≤◌, ◌+◌, length, map};
 ghost use Rattle.std.specs.List.{AllByRecursion};
 ghost use Rattle.fab_base.specs.FieldSpelling.{KeepsItems};
 ghost use Rattle.fab_protocol.specs.Tables.{placed_all};
-ghost use Rattle.fab_protocol.specs.Versions.{begun, left_by, name_of, raised, risen};
-ghost use Rattle.fab_protocol.specs.Stores.{behind, prepared_as, without};
+ghost use Rattle.fab_protocol.specs.Versions.{begun, left_by, name_of, raised};
+ghost use Rattle.fab_protocol.specs.Stores.{behind, keeps, prepared_as, without};
+ghost use Rattle.fab_store.specs.Stock.{HasSpare, IsNew, shelf_in};
 
-use fab_base::{Items, Object, Oid, Seq, Tid};
+use crate::senders::{set_boot, set_last};
+use fab_base::{Entry, Items, Object, Oid, Seq, Tid};
 use fab_locks::Locks;
-use fab_versions::Table;
-
-/// The version behind a write.
-fn risen(version: u32) -> u32
-    ensures { result ≡ risen version }
-{
-    version.saturating_add(1)
-}
+use fab_protocol::Sender;
+use fab_versions::{Table, next_version};
 
 /// Writes take the place of their objects, each at the version behind the one that was read.
 fn put_writes(table: &mut Table, writes: Seq<(Oid, u32, Object)>)
@@ -27,7 +23,7 @@ fn put_writes(table: &mut Table, writes: Seq<(Oid, u32, Object)>)
     let mut rest = writes.into_vec();
     rest.reverse();
     while let Some((oid, version, object)) = rest.pop() {
-        let _ = table.put(oid, risen(version), object);
+        let _ = table.put(oid, next_version(version), object);
     }
 }
 
@@ -59,7 +55,7 @@ fn put_left(table: &mut Table, items: Items)
 }
 
 /// A prepared transaction is applied, and its items are free.
-pub fn apply(table: &mut Table, locks: &mut Locks, tid: Tid)
+fn apply(table: &mut Table, locks: &mut Locks, tid: Tid)
     requires room { 512 ≤ table.old.spare }
     requires counts { AllByRecursion (λ p. KeepsItems p.1) locks.old.held }
     ensures rows { table.new.rows ≡ behind (prepared_as tid locks.old.held) table.old.rows }
@@ -67,5 +63,30 @@ pub fn apply(table: &mut Table, locks: &mut Locks, tid: Tid)
 {
     if let Some(items) = locks.free(tid) {
         put_left(table, items);
+    }
+}
+
+/// What a record says is kept, where there is the room that it needs. It takes no memory.
+pub fn keep_record(table: &mut Table, locks: &mut Locks, senders: &mut Vec<Sender>, entry: Entry)
+    requires new { IsNew entry locks.old.held }
+    requires room { HasSpare entry table.old.spare locks.old.spare }
+    requires counts { AllByRecursion (λ p. KeepsItems p.1) locks.old.held }
+    ensures shelf { shelf_in table.new.rows locks.new.held senders.new.items ≡ keeps entry (shelf_in table.old.rows locks.old.held senders.old.items) }
+{
+    match entry {
+        Entry::Prepared { tid, items } => {
+            let _ = locks.hold(tid, items);
+            set_last(senders, tid);
+        }
+        Entry::Refused { tid } => set_last(senders, tid),
+        Entry::Applied { tid } => apply(table, locks, tid),
+        Entry::Released { tid } => {
+            let _ = locks.free(tid);
+        }
+        Entry::BootSeen { worker, boot } => {
+            locks.free_all(worker);
+            set_boot(senders, worker, boot);
+        }
+        _ => {}
     }
 }

@@ -15,6 +15,6 @@ mod store;
 mod tests;
 mod votes;
 
-pub use laws::recovery_gives_the_store;
+pub use laws::{kept_in_a_row, recovery_gives_the_store};
 pub use plan::StorePlan;
 pub use store::Store;

@@ -1,18 +1,19 @@
 //! A store's node: what it holds, and what it does at a message.
 
-ghost use Rattle.std.specs.Prelude.{◌≡◌, ◌≤◌, ◌<◌, ◌^◌, ◌==◌, if◌then◌else◌, Option, None, Some, IfOk, OnOk, OnErr, IsTrue, length};
+ghost use Rattle.std.specs.Prelude.{◌≡◌, ◌≤◌, ◌<◌, ◌^◌, ◌==◌, if◌then◌else◌, Option, None, Some, IfOk, IfSome, OnOk, OnErr, IsTrue, length};
 ghost use Rattle.std.specs.List.{AllByRecursion};
 ghost use Rattle.fab_base.specs.FlatMap.{ascends as roots_ascend};
+ghost use Rattle.fab_base.specs.JournalSpelling.{IsEntry};
 ghost use Rattle.fab_wire.specs.Reading.{read_message};
-ghost use Rattle.fab_protocol.specs.Tables.{placed};
+ghost use Rattle.fab_protocol.specs.Tables.{ascends, placed};
 ghost use Rattle.fab_protocol.specs.Versions.{begun, name_of};
 ghost use Rattle.fab_protocol.specs.Stores.{hears, keeps, keeps_said, shelf_at_start, step_of};
 ghost use Rattle.fab_store.specs.Stock.{CanKeepSaid, HasRoom, HasRoomFor, OnlyGainsRoom, plan_of};
-ghost use Rattle.fab_protocol.specs.Shelves.{CanKeep};
+ghost use Rattle.fab_protocol.specs.Shelves.{CanKeep, IsShelf};
 
-use crate::changes::apply;
+use crate::changes::keep_record;
 use crate::plan::StorePlan;
-use crate::senders::{none_heard, set_boot, set_last};
+use crate::senders::none_heard;
 use crate::steps::plan_of;
 use fab_base::{Entry, Items, NoMemory, Object, Oid, Tid};
 use fab_locks::Locks;
@@ -104,14 +105,16 @@ impl Store {
 
     /// The objects, in the order of names, each with its version.
     pub fn rows(&self) -> &[(Oid, u32, Object)]
-        ensures { result.now ≡ self.now.shelf.rows }
+        ensures all { result.now ≡ self.now.shelf.rows }
+        ensures ascending { IsTrue (ascends name_of self.now.shelf.rows) }
     {
         self.table.rows()
     }
 
-    /// The transactions that are prepared, in the order of preparing.
+    /// The transactions that are prepared, in the order of preparing. Each store has a shelf.
     pub fn prepared(&self) -> &[(Tid, Items)]
-        ensures { result.now ≡ self.now.shelf.prepared }
+        ensures all { result.now ≡ self.now.shelf.prepared }
+        ensures shelf { IsShelf self.now.rights self.now.node self.now.shelf }
     {
         self.locks.held()
     }
@@ -129,9 +132,10 @@ impl Store {
     }
 
     /// What the store will do at these bytes of a sender, whoever that is, with the room that it
-    /// needs. Nothing but room changes.
+    /// needs. Nothing but room changes. What it writes can be read back.
     pub fn plan(&mut self, sender: u16, bytes: &[u8]) -> Result<StorePlan, NoMemory>
         ensures plan { IfOk result (λ plan. plan ≡ plan_of (hears self.old.rights self.old.node sender (read_message bytes.now) self.old.shelf)) }
+        ensures fits { IfOk result (λ plan. IfSome plan.entry (IsEntry 1)) }
         ensures room { IfOk result (λ plan. HasRoom plan.entry self.new) }
         ensures can { IfOk result (λ plan. CanKeepSaid self.new.rights self.new.node plan.entry self.new.shelf) }
         ensures kept { OnlyGainsRoom self.old self.new }
@@ -151,22 +155,7 @@ impl Store {
         ensures rights { self.new.rights ≡ self.old.rights }
         ensures shelf { self.new.shelf ≡ keeps entry self.old.shelf }
     {
-        match entry {
-            Entry::Prepared { tid, items } => {
-                let _ = self.locks.hold(tid, items);
-                set_last(&mut self.senders, tid);
-            }
-            Entry::Refused { tid } => set_last(&mut self.senders, tid),
-            Entry::Applied { tid } => apply(&mut self.table, &mut self.locks, tid),
-            Entry::Released { tid } => {
-                let _ = self.locks.free(tid);
-            }
-            Entry::BootSeen { worker, boot } => {
-                self.locks.free_all(worker);
-                set_boot(&mut self.senders, worker, boot);
-            }
-            _ => {}
-        }
+        keep_record(&mut self.table, &mut self.locks, &mut self.senders, entry);
     }
 
     /// Does what was planned of the store as it is, and answers its step. It takes no memory.
@@ -189,6 +178,7 @@ impl Store {
     /// it stays as it was.
     pub fn handle(&mut self, sender: u16, bytes: &[u8]) -> Result<Step, NoMemory>
         ensures step { IfOk result (λ step. step ≡ step_of 1 (hears self.old.rights self.old.node sender (read_message bytes.now) self.old.shelf)) }
+        ensures fits { OnOk result (IfSome (hears self.old.rights self.old.node sender (read_message bytes.now) self.old.shelf).entry (IsEntry 1)) }
         ensures node { self.new.node ≡ self.old.node }
         ensures rights { self.new.rights ≡ self.old.rights }
         ensures ok { OnOk result (self.new.shelf ≡ keeps_said (hears self.old.rights self.old.node sender (read_message bytes.now) self.old.shelf).entry self.old.shelf) }

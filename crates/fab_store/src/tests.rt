@@ -1,5 +1,5 @@
-//! A store over the bytes of the wire, with the votes of each reason, and what a recovery makes of a
-//! journal.
+//! A store over the bytes of the wire, with the votes of each reason, and a recovery from no roots and
+//! no records.
 
 ghost use Rattle.std.specs.Prelude.{◌≤◌, length, IfOk};
 
@@ -117,7 +117,8 @@ fn sent(step: &Step) -> &[u8] {
     }
 }
 
-/// Whether the store sends these bytes, and no others, at those of a sender.
+/// Whether the first message that the store sends at those bytes of a sender has these bytes; where it
+/// sends none, whether these are none.
 fn replies(store: &mut Store, sender: u16, bytes: &[u8], reply: &[u8]) -> Result<bool, NoMemory> {
     Ok(sent(&store.handle(sender, bytes)?) == reply)
 }
@@ -286,7 +287,7 @@ fn reasons_alone(rt: HostRuntime) -> Result<(), Fail> {
         Some(Answer::Yes)
     );
     assert_eq!(rt; voted(alloc, &[], &[], &[])?, Some(Answer::Yes));
-    // A class that isn't there, a SECOND time in one list and in another, another class, another attempt.
+    // A class that isn't there, a second time in one list and in another, another class, another attempt.
     assert_eq!(rt;
         voted(alloc, &[(root(3, 0), 1)], &[], &[])?,
         Some(Answer::IllFormed(root(3, 0)))

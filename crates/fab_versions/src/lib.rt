@@ -5,4 +5,4 @@ mod table;
 #[cfg(test)]
 mod tests;
 
-pub use table::Table;
+pub use table::{Table, next_version};

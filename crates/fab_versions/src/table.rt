@@ -58,7 +58,6 @@ impl Table {
         ensures err { OnErr result (self.new.rows ≡ self.old.rows) }
         ensures sure { 0 < self.old.spare → IsOk result }
         ensures spare { self.old.spare ≤ self.new.spare + 1 }
-        ensures kept { OnErr result (self.old.spare ≤ self.new.spare) }
     {
         match place(&self.rows, oid) {
             Ok(_) => unreachable!(),
@@ -73,6 +72,8 @@ impl Table {
         ensures err { OnErr result (self.new.rows ≡ self.old.rows) }
         ensures sure { 0 < self.old.spare → IsOk result }
         ensures spare { self.old.spare ≤ self.new.spare + 1 }
+        ensures there { IsSome (row_of name_of self.old.rows oid) → IsOk result }
+        ensures same_room { IsSome (row_of name_of self.old.rows oid) → self.old.spare ≤ self.new.spare }
     {
         match place(&self.rows, oid) {
             Ok(at) => {
@@ -116,8 +117,8 @@ impl Table {
     }
 }
 
-/// The version behind a write.
-fn next_version(version: u32) -> u32
+/// The version behind a write of an object at this one. The greatest stays.
+pub fn next_version(version: u32) -> u32
     ensures { result ≡ risen version }
 {
     if version == u32::MAX {

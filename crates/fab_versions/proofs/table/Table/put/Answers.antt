@@ -1,9 +1,10 @@
-use Rattle.std.proofs.Common.{refl, ap, sym, ◌∙◌, subst}
-use Rattle.fab_protocol.specs.Tables.{placed, ascends}
+use Rattle.std.proofs.Common.{refl, ap, sym, ◌∙◌, subst, is_some}
+use Rattle.fab_protocol.specs.Tables.{row_of, placed, ascends}
 use Rattle.fab_protocol.specs.Versions.{Row, name_of}
 use Rattle.fab_protocol.proofs.TableLaws.{ascends_placed}
 use Rattle.fab_versions.specs.Places.{IsAt, IsGap}
 use Rattle.fab_versions.proofs.Found.{placed_at, placed_in_gap}
+use Rattle.fab_versions.proofs.Written.{not_in_gap}
 use Rattle.fab_versions.proofs.table.Table.put.Goals as goal
 
 -- the row is written over
@@ -36,3 +37,14 @@ returns-in_ok-insert-in-Err-clause-ok c =
     c.in_ok-insert-in-Err.ensures.items
     ∙ sym (placed_in_gap name_of c.self.inside.rows.items c.args.oid c.in-Err.at gap row refl)
     ∙ ap (λ h. placed name_of row h.rows) c.self.view_is
+
+-- where nothing of the name is there
+pub returns-in_ok-insert-in-Err-clause-same_room : goal.returns-in_ok-insert-in-Err-clause-same_room
+returns-in_ok-insert-in-Err-clause-same_room c =
+    let gap = subst (λ l. IsGap name_of l c.args.oid c.in-Err.at) c.deref.ensures.value c.in-Err.ensures.absent in
+    λ there. absurd (not_in_gap c.self.inside.rows.items c.args.oid c.in-Err.at gap (ap (λ h. is_some (row_of name_of h.rows c.args.oid)) c.self.view_is ∙ there))
+
+pub returns-in_err-insert-in-Err-clause-there : goal.returns-in_err-insert-in-Err-clause-there
+returns-in_err-insert-in-Err-clause-there c =
+    let gap = subst (λ l. IsGap name_of l c.args.oid c.in-Err.at) c.deref.ensures.value c.in-Err.ensures.absent in
+    λ there. absurd (not_in_gap c.self.inside.rows.items c.args.oid c.in-Err.at gap (ap (λ h. is_some (row_of name_of h.rows c.args.oid)) c.self.view_is ∙ there))
