@@ -17,7 +17,7 @@ abbrev pub requests_of : Resolved → ℕ → List Request
 requests_of program n = requests_in (find (λ session. session.worker.number == n) program.sessions)
 
 -- Values fit where the program puts them, and so do the arguments of this worker's requests; classes have at most
--- 16 fields, and the rights know these fields; there are at most 64 nodes.
+-- 16 fields, and the rights know these fields; stores have numbers below 64.
 pub record IsProgramOf (program : Resolved) (n : ℕ) (rights : Rights) : Type 0 where
   pub fitting : is_fitting program ≡ true
   pub requests : AllByRecursion (IsFitting program) (requests_of program n)

@@ -1,6 +1,6 @@
 //! Laws of attempts.
 
-ghost use Rattle.std.specs.Prelude.{◌≡◌, ℕ, IsTrue, IsFalse, List, Some, slice_get};
+ghost use Rattle.std.specs.Prelude.{◌≡◌, ◌<◌, ◌^◌, ℕ, IsTrue, IsFalse, List, [], None, Some, slice_get};
 ghost use Rattle.std.specs.List.{AllByRecursion};
 ghost use Rattle.fab_base.specs.declared.object.Object.{Object};
 ghost use Rattle.fab_base.specs.declared.object.Oid.{Oid};
@@ -8,10 +8,15 @@ ghost use Rattle.fab_base.specs.declared.object.Tid.{Tid};
 ghost use Rattle.fab_base.specs.FlatMap.{is_among, map_of};
 ghost use Rattle.fab_tree.specs.declared.resolved.Request.{Request};
 ghost use Rattle.fab_tree.specs.declared.resolved.Resolved.{Resolved};
+ghost use Rattle.fab_tree.specs.declared.start.Start.{Start};
+ghost use Rattle.fab_tree.specs.Limits.{first_passed};
 ghost use Rattle.fab_language.specs.declared.ending.Ending.TheVariants.{Missing};
+ghost use Rattle.fab_language.specs.Faults.{faults};
 ghost use Rattle.fab_language.specs.Meaning.{Meant, meaning};
+ghost use Rattle.fab_language.specs.Numbers.{resolved};
 ghost use Rattle.fab_nested.specs.Nested.{creates_in, versions_of, writes_in};
 ghost use Rattle.fab_laws.specs.Shapes.{IsShaped};
+ghost use Rattle.fab_places.specs.Places.{AreRights};
 ghost use Rattle.fab_rights.specs.Computed.{suits};
 ghost use Rattle.fab_rights.specs.declared.rights.Rights.{Rights};
 ghost use Rattle.fab_protocol.specs.declared.parts.Parts.{Parts};
@@ -21,6 +26,13 @@ ghost use Rattle.fab_protocol.specs.Versions.{Rows, names_of, objects_of};
 ghost use Rattle.fab_world.specs.Attempts.{parts_of};
 ghost use Rattle.fab_attempts.specs.Known.{AreKnown, ArePartsOver};
 ghost use Rattle.fab_attempts.specs.Sessions.{IsProgramOf, requests_of};
+
+/// What a bundle within the limits that keeps the rules of names and types gives is a program of each of
+/// its workers, over the rights that are the bundle's.
+pub fn bundles_give_programs()
+    ensures { (s : Start) (n : ℕ) (rights : Rights) → first_passed s ≡ None → faults s ≡ [] → AreRights (resolved s) rights
+        → rights.stores < 2 ^ 64 → IsProgramOf (resolved s) n rights }
+{}
 
 /// An object that suits its name by a worker's rights has the shape of its class in the program.
 pub fn answers_have_shapes()
