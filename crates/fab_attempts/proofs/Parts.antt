@@ -73,7 +73,7 @@ module _ (program : Resolved) (t : Tid) (answers : Rows) (known : AreKnown progr
   found_known =
       all_found (λ o x. IsKnown program t (o, 0, x)) answers
       (all_along (IsKnown program t) (λ row. IsKnown program t (row.0, 0, row.2))
-      (λ row h. record { shaped = h.shaped; stored = h.stored; made = h.made }) answers known)
+      (λ row h. record { shaped = h.shaped; made = h.made }) answers known)
 
   over_shaped : AreShaped program.classes over
   over_shaped o x e = (found_known o x e).shaped
@@ -105,7 +105,7 @@ module _ (program : Resolved) (t : Tid) (answers : Rows) (known : AreKnown progr
     written_known c shaped among =
         let there = writes.was_there c.0 among in
         let before = found_known c.0 there.0 there.1 in
-        record { shaped = shaped; stored = before.stored; made = before.made }
+        record { shaped = shaped; made = before.made }
 
     small : (c : Oid × Object) → IsShaped program.classes c.0 c.1 → length c.1.fields ≤ 16
     small c shaped = few_fields program.classes fits.fields c.0 c.1 shaped

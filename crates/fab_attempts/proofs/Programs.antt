@@ -190,8 +190,8 @@ module _ (s : Start) where
 
 -- ---- together
 
-pub program_of : (s : Start) (n : ℕ) (rights : Rights) → first_passed s ≡ None → faults s ≡ [] → AreRights (resolved s) rights → rights.stores < 2 ^ 64 → IsProgramOf (resolved s) n rights
-program_of s n rights limits right are stores =
+pub program_of : (s : Start) (n : ℕ) (rights : Rights) → first_passed s ≡ None → faults s ≡ [] → AreRights (resolved s) rights → IsProgramOf (resolved s) n rights
+program_of s n rights limits right are =
     let within = none_passes (passes s) order limits in
     let fields : greatest (map (λ (c : Class). length c.fields) s.program.classes) ≤ 16 = ltb-false 16 _ within.1.1.1.1.0 in
     let requests : sum_by (λ (x : Session). length x.requests) s.sessions ≤ 100000 = ltb-false 100000 _ within.1.1.1.1.1.1.1.1.1.1.0 in
@@ -202,5 +202,4 @@ program_of s n rights limits right are stores =
       few = omega (arith, few, requests);
       fields = fields_within s s.program.classes fields;
       kinds = are.kinds;
-      stores = stores;
     }

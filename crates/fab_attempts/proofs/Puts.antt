@@ -28,7 +28,7 @@ pub puts_known : (program : Resolved) (t : Tid) (answers : Rows) (parts : Parts)
 puts_known program t answers parts known over =
     let behind : AreKnown program t (map raised parts.writes) =
     all_map (IsKnown program t) raised parts.writes
-    (all_along (IsKnown program t) (λ w. IsKnown program t (raised w)) (λ w h. record { shaped = h.shaped; stored = h.stored; made = h.made }) parts.writes over.writes) in
+    (all_along (IsKnown program t) (λ w. IsKnown program t (raised w)) (λ w h. record { shaped = h.shaped; made = h.made }) parts.writes over.writes) in
     let rows = map raised parts.writes ++ answers in
     let all : AreKnown program t rows = all_append (IsKnown program t) (map raised parts.writes) answers behind known in
     all_made (IsKnown program t) (row_of name_of rows) (touched_names parts) (λ o row e. row_of_all name_of (IsKnown program t) rows o row all e)

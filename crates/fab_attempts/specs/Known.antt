@@ -10,11 +10,9 @@ use Rattle.fab_protocol.specs.declared.parts.Parts.{Parts}
 use Rattle.fab_protocol.specs.Parts.{KeepsParts}
 use Rattle.fab_protocol.specs.Versions.{Row, Rows, names_of, maker_of}
 
--- An object that is known in an attempt: it has the shape of its class, its store has a number that a mask holds, and it
--- was made before the attempt, if this worker made it.
+-- An object that is known in an attempt: it has the shape of its class, and was made before the attempt, if this worker made it.
 pub record IsKnown (program : Resolved) (t : Tid) (row : Row) : Type 0 where
   pub shaped : IsShaped program.classes row.0 row.2
-  pub stored : row.0.store < 64
   pub made : IsTrue (not (row.0.worker == t.worker) || is_above t (maker_of row.0))
 
 abbrev pub AreKnown : Resolved → Tid → Rows → Type 0

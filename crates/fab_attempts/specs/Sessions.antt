@@ -17,11 +17,10 @@ abbrev pub requests_of : Resolved → ℕ → List Request
 requests_of program n = requests_in (find (λ session. session.worker.number == n) program.sessions)
 
 -- Values fit where the program puts them, and so do the arguments of this worker's requests; classes have at most
--- 16 fields, and the rights know these fields; stores have numbers below 64.
+-- 16 fields, and the rights know these fields.
 pub record IsProgramOf (program : Resolved) (n : ℕ) (rights : Rights) : Type 0 where
   pub fitting : is_fitting program ≡ true
   pub requests : AllByRecursion (IsFitting program) (requests_of program n)
   pub few : length (requests_of program n) < 2 ^ 32
   pub fields : AllByRecursion (λ class. length class.fields ≤ 16) program.classes
   pub kinds : map (λ class. class.fields) rights.classes ≡ map (λ class. map kind_of class.fields) program.classes
-  pub stores : rights.stores < 2 ^ 64

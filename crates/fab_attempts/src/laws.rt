@@ -31,7 +31,7 @@ ghost use Rattle.fab_attempts.specs.Sessions.{IsProgramOf, requests_of};
 /// its workers, over the rights that are the bundle's.
 pub fn bundles_give_programs()
     ensures { (s : Start) (n : ℕ) (rights : Rights) → first_passed s ≡ None → faults s ≡ [] → AreRights (resolved s) rights
-        → rights.stores < 2 ^ 64 → IsProgramOf (resolved s) n rights }
+        → IsProgramOf (resolved s) n rights }
 {}
 
 /// An object that suits its name by a worker's rights has the shape of its class in the program.

@@ -84,13 +84,13 @@ closed request (Stopped stop.Writes) = e.Closed request 9 65535
 closed request _ = e.Closed request 0 65535
 
 -- What recovery asks of a record, of a worker whose session has so many requests: that requests end in turn, one record
--- each, and that a decision names stores. Whose attempt it decides, and which number a boot has, it doesn't ask.
-abbrev pub WorkerCanKeep : Rights → ℕ → Entry → Kept → Type 0
-WorkerCanKeep rights requests (e.Decided t request value stores) kept =
-    (request ≡ request_of kept) × (request ≤ requests) × AllByRecursion (λ s. IsTrue (is_store rights s)) stores × AreStores stores
-WorkerCanKeep rights requests (e.Closed request code node) kept = (request ≡ request_of kept) × (request ≤ requests) × IsOutcome code node
-WorkerCanKeep rights requests (e.Boot b) kept = Unit {0}
-WorkerCanKeep rights requests _ kept = ⊥
+-- each, and that a decision lists its participants as a record does. Whose attempt it decides, of which nodes, and which
+-- number a boot has, it doesn't ask.
+abbrev pub WorkerCanKeep : ℕ → Entry → Kept → Type 0
+WorkerCanKeep requests (e.Decided t request value stores) kept = (request ≡ request_of kept) × (request ≤ requests) × AreStores stores
+WorkerCanKeep requests (e.Closed request code node) kept = (request ≡ request_of kept) × (request ≤ requests) × IsOutcome code node
+WorkerCanKeep requests (e.Boot b) kept = Unit {0}
+WorkerCanKeep requests _ kept = ⊥
 
 -- ---- the attempt: what a crash drops
 

@@ -1,0 +1,14 @@
+pub mod Fitting
+pub mod Keeping
+pub mod Begun
+pub mod Sending
+pub mod Waking
+pub mod Woken
+pub mod Touching
+pub mod Ending
+pub mod Needed
+pub mod Asked
+pub mod Planning
+pub mod Putting
+pub mod Gaining
+pub mod Answered

@@ -1,0 +1,6 @@
+pub mod Models
+pub mod Invariants
+pub mod Outcomes
+pub mod Plans
+pub mod Changes
+pub mod Records

@@ -1,0 +1,119 @@
+//! The answers of an attempt, as others are given them.
+
+ghost use Rattle.std.specs.Prelude.{◌≡◌, ◌<◌, ◌==◌, IfOk, length, map, Some, slice_get, option_copied};
+ghost use Rattle.std.specs.List.{find};
+ghost use Rattle.fab_attempts.specs.Sessions.{requests_of};
+
+use crate::worker::Worker;
+use fab_base::{NoMemory, Object, Oid, Seq};
+use fab_tree::resolved::{Request, Resolved, Session};
+use std::alloc::Global;
+
+/// The same rows again.
+pub(crate) fn copies(
+    alloc: Global,
+    rows: &[(Oid, u32, Object)],
+) -> Result<Seq<(Oid, u32, Object)>, NoMemory>
+    ensures { IfOk result (λ copies. copies ≡ rows.now) }
+{
+    let mut copies = Seq::new(alloc);
+    for row in rows {
+        copies.push((row.0, row.1, row.2.copy(alloc)?))?;
+    }
+    Ok(copies)
+}
+
+/// The same made objects again.
+pub(crate) fn made_copies(
+    alloc: Global,
+    rows: &[(Oid, Object)],
+) -> Result<Seq<(Oid, Object)>, NoMemory>
+    ensures { IfOk result (λ copies. copies ≡ rows.now) }
+{
+    let mut copies = Seq::new(alloc);
+    for row in rows {
+        copies.push((row.0, row.1.copy(alloc)?))?;
+    }
+    Ok(copies)
+}
+
+/// The same request again.
+fn copy_of(alloc: Global, request: &Request) -> Result<Request, NoMemory>
+    ensures { IfOk result (λ r. r ≡ request.now) }
+{
+    Ok(Request {
+        worker: request.worker,
+        number: request.number,
+        method: request.method,
+        args: Seq::from_slice(alloc, request.args.as_slice())?,
+    })
+}
+
+/// The session of a worker, if it has one.
+fn session_of(program: &Resolved, node: u16) -> Option<&Session>
+    ensures { option_copied result ≡ find (λ session. session.worker.number == node) program.now.sessions }
+{
+    program
+        .sessions
+        .as_slice()
+        .iter()
+        .find(|session| session.worker.number == node)
+}
+
+/// How many requests a worker's session has.
+pub(crate) fn requests_in(program: &Resolved, node: u16) -> usize
+    ensures { result ≡ length (requests_of program.now node) }
+{
+    match session_of(program, node) {
+        Some(session) => session.requests.len(),
+        None => 0,
+    }
+}
+
+/// A request of a session, by its place.
+fn asked_in(session: &Session, at: usize) -> Option<&Request>
+    ensures { option_copied result ≡ slice_get (map (λ asked. asked.request) session.now.requests) at }
+{
+    match session.requests.as_slice().get(at) {
+        Some(asked) => Some(&asked.request),
+        None => None,
+    }
+}
+
+/// A request of a worker's session, by its place, if there is one.
+fn request_in(program: &Resolved, node: u16, at: usize) -> Option<&Request>
+    ensures { option_copied result ≡ slice_get (requests_of program.now node) at }
+{
+    match session_of(program, node) {
+        Some(session) => asked_in(session, at),
+        None => None,
+    }
+}
+
+/// A request of a worker's session again, by its place.
+#[tactic(auto, using(std::proofs::lemmas::Option::gets))]
+fn request_again(
+    alloc: Global,
+    program: &Resolved,
+    node: u16,
+    at: usize,
+) -> Result<Request, NoMemory>
+    requires { at < length (requests_of program.now node) }
+    ensures { IfOk result (λ r. slice_get (requests_of program.now node) at ≡ Some r) }
+{
+    match request_in(program, node, at) {
+        Some(request) => copy_of(alloc, request),
+        None => unreachable!(),
+    }
+}
+
+impl Worker {
+    /// The request that is at work.
+    pub(crate) fn request_at_work(&self) -> Result<Request, NoMemory>
+        requires { length self.now.kept.outcomes < length (requests_of self.now.program self.now.node) }
+        ensures { IfOk result (λ r. slice_get (requests_of self.now.program self.now.node) (length self.now.kept.outcomes) ≡ Some r) }
+    {
+        let at = self.session.outcomes().len();
+        request_again(self.alloc, &self.program, self.node, at)
+    }
+}

@@ -1,0 +1,75 @@
+//! What a worker is about to do.
+
+ghost use Rattle.std.specs.Prelude.{◌≡◌, IfOk, Some, None};
+ghost use Rattle.fab_base.specs.JournalSpelling.{KeepsEntry, record_bytes as record_of};
+
+use crate::change::Change;
+use fab_base::{Entry, NoMemory, Seq};
+use fab_commit::Sends;
+use fab_journal::record_bytes;
+use fab_net::{Note, Step};
+use std::alloc::Global;
+use std::marker::Model;
+
+/// What a worker will keep and say: the record, what becomes of the attempt, and the step in bytes.
+#[derive(Drop)]
+pub struct WorkerPlan {
+    pub(crate) entry: Option<Entry>,
+    pub(crate) change: Change,
+    pub(crate) step: Step,
+}
+
+impl Model for WorkerPlan {
+    ghost use Rattle.fab_worker.specs.Plans.{Plan};
+
+    ghost Value = { Plan };
+
+    ghost view = { λ p. record { entry = p.entry; change = p.change; step = p.step } };
+}
+
+impl WorkerPlan {
+    /// What is to be written and sent.
+    pub fn step(&self) -> &Step
+        ensures { result.now ≡ self.now.step }
+    {
+        &self.step
+    }
+}
+
+/// A plan without a record.
+pub(crate) fn unrecorded(change: Change, sends: Sends, notes: Seq<Note>) -> WorkerPlan
+    ensures { result ≡ record { entry = None; change = change; step = record { entry = None; sends = sends; notes = notes } } }
+{
+    WorkerPlan {
+        entry: None,
+        change,
+        step: Step {
+            entry: None,
+            sends,
+            notes,
+        },
+    }
+}
+
+/// A plan with a record.
+pub(crate) fn recorded(
+    alloc: Global,
+    entry: Entry,
+    change: Change,
+    sends: Sends,
+    notes: Seq<Note>,
+) -> Result<WorkerPlan, NoMemory>
+    requires { KeepsEntry entry }
+    ensures { IfOk result (λ p. p ≡ record { entry = Some entry; change = change; step = record { entry = Some (record_of 1 entry); sends = sends; notes = notes } }) }
+{
+    let bytes = record_bytes(alloc, &entry)?;
+    Ok(WorkerPlan {
+        entry: Some(entry),
+        change,
+        step: Step {
+            entry: Some(bytes),
+            sends,
+            notes,
+        },
+    })
+}
