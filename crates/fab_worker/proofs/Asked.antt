@@ -9,8 +9,13 @@ use Rattle.fab_base.specs.declared.object.Tid.{Tid}
 use Rattle.fab_base.specs.declared.object.Value.{Value}
 use Rattle.fab_base.specs.JournalSpelling.{AreStores}
 use Rattle.fab_base.specs.MessageSpelling.{spelled}
+use Rattle.fab_world.specs.Attempts.{parts_of}
+use Rattle.fab_protocol.specs.Versions.{objects_of}
+use Rattle.fab_eval.specs.declared.job.Job.{Job}
+use Rattle.fab_eval.specs.Outcomes.{meant_of}
+use Rattle.fab_base.specs.FlatMap.{map_of}
 use Rattle.fab_language.specs.declared.ending.Ending.{Ending}
-use Rattle.fab_language.specs.Meaning.{Meant}
+use Rattle.fab_language.specs.Meaning.{Meant, meaning}
 use Rattle.fab_net.specs.declared.note.Note.{Note}
 use Rattle.fab_net.specs.declared.note.Note.TheVariants as note
 use Rattle.fab_rights.specs.declared.rights.Rights.{Rights}
@@ -21,7 +26,7 @@ use Rattle.fab_world.specs.Workers.{Act, Attempt, Kept, tid_of, noting, asks_all
 use Rattle.fab_world.specs.Workers as phases
 use Rattle.fab_attempts.specs.Known.{ArePartsOver}
 use Rattle.fab_worker.specs.declared.change.Change.TheVariants as c
-use Rattle.fab_worker.specs.Models.{WorkerModel, tid_at}
+use Rattle.fab_worker.specs.Models.{IsJobOf, WorkerModel, parts_at_work, request_at, tid_at}
 use Rattle.fab_worker.specs.Plans.{Plan, IsPlanOf, CanChange}
 
 spelled_each : (to : ℕ → Message) (ss : List ℕ) → map {B = ℕ × List ℕ} (λ s. (s, spelled (to s))) ss ≡ map (λ (x : ℕ × Message). (x.0, spelled x.1)) (map {B = ℕ × Message} (λ s. (s, to s)) ss ++ [])
@@ -83,8 +88,16 @@ module _ (rights : Rights) (k n : ℕ) (kept : Kept) where
 -- ---- a worker can go on to prepare
 
 pub can_prepare : (x : WorkerModel) (t : Tid) (who : Coordination) (parts : Parts) (told : ℕ × ℕ) → t ≡ tid_at x → who ≡ begun t (stores_of parts)
-    → ArePartsOver x.program (tid_at x) x.attempt.answers parts → AreStores (stores_of parts) → x.attempt.phase ≡ phases.Evaluating
-    → CanChange x (c.Prepares who parts told)
-can_prepare x t who parts told now begins over few evaluating =
+    → ArePartsOver x.program (tid_at x) x.attempt.answers parts → AreStores (stores_of parts)
+    → parts ≡ parts_at_work x.program (tid_at x) x.attempt.answers (request_at x) → x.attempt.phase ≡ phases.Evaluating → CanChange x (c.Prepares who parts told)
+can_prepare x t who parts told now begins over few its evaluating =
     let same = ap (λ (w : Coordination). w.stores) begins in
-    (ap (λ (w : Coordination). w.tid) begins ∙ now, same, over, subst AreStores (sym same) few, evaluating)
+    (ap (λ (w : Coordination). w.tid) begins ∙ now, same, over, subst AreStores (sym same) few, its, evaluating)
+
+-- the parts of what a job came to are those of the request at work
+pub its_parts : (job : Job) (x : WorkerModel) (parts : Parts) → IsJobOf job x → parts ≡ parts_of x.attempt.answers (meant_of job)
+    → parts ≡ parts_at_work x.program (tid_at x) x.attempt.answers (request_at x)
+unfolding parts_at_work
+its_parts job x parts is h =
+    h ∙ (λ i. parts_of x.attempt.answers (meaning (is.program i) (map_of (objects_of (is.answers i))) job.request (is.tid i) 1000000))
+    ∙ ap (parts_at_work x.program (tid_at x) x.attempt.answers) (sym is.request)

@@ -24,7 +24,7 @@ use Rattle.fab_worker.specs.declared.change.Change.{Change}
 use Rattle.fab_worker.specs.declared.change.Change.TheVariants as c
 use Rattle.fab_worker.specs.declared.stage.Stage.{Stage}
 use Rattle.fab_worker.specs.declared.stage.Stage.TheVariants as stages
-use Rattle.fab_worker.specs.Models.{WorkerModel, model_of, phase_of, tid_at}
+use Rattle.fab_worker.specs.Models.{WorkerModel, model_of, phase_of, tid_at, request_in}
 use Rattle.fab_worker.specs.Invariants.{IsBusyWith, IsStage, IsWorker}
 use Rattle.fab_worker.specs.Plans.{Fits, IsAtWork, IsNewAnswer, IsPreparing, Plan}
 use Rattle.fab_worker.specs.Changes.{answers_behind, caches_behind, session_changed, session_kept, stage_behind, stage_voted, told_behind}
@@ -114,7 +114,7 @@ module _ (node : ℕ) (rights : Rights) (program : Resolved) (session : Sitting)
 
   -- the attempt goes on over the same answers
   goes_on : (next : Stage) (later : List Decision) (new : ℕ × ℕ) → IsBusyWith (phase_of next) (length session.outcomes) session.requests
-      → IsStage program (tid_at (old 0 0)) answers next → Works node rights program session later caches next answers new
+      → IsStage program (tid_at (old 0 0)) answers (request_in program node (length session.outcomes)) next → Works node rights program session later caches next answers new
   goes_on next later new busy stage = record {
     program = is.program;
     worker = is.worker;
@@ -186,8 +186,8 @@ module _ (node : ℕ) (rights : Rights) (program : Resolved) (session : Sitting)
   accepted None (c.Fetches o new) fits =
       goes_on node rights program session decided caches at answers told is (stages.Fetching o) later new (left fits.change.1) fits.change.0
   accepted None (c.Prepares coordinator parts new) fits =
-      goes_on node rights program session decided caches at answers told is (stages.Preparing coordinator parts) later new (left fits.change.4)
-      (fits.change.0, fits.change.1, fits.change.2, fits.change.3)
+      goes_on node rights program session decided caches at answers told is (stages.Preparing coordinator parts) later new (left fits.change.5)
+      (fits.change.0, fits.change.1, fits.change.2, fits.change.3, fits.change.4)
   accepted None (c.Voted store) fits = voted node rights program session decided caches at answers told is store later fits.change
   accepted None c.TryEnds fits =
       dropped node rights program session decided caches at answers told is session.outcomes (session.tries + 1) later (omega (arith, fits.change))

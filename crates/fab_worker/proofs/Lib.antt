@@ -12,3 +12,4 @@ pub mod Planning
 pub mod Putting
 pub mod Gaining
 pub mod Answered
+pub mod Rows

@@ -1,9 +1,10 @@
 -- What holds of every worker.
-use Rattle.std.specs.Prelude.{◌≡◌, ◌≢◌, ℕ, ◌≤◌, ◌<◌, ◌^◌, not, ◌||◌, ◌==◌, IsTrue, IsFalse, List, [], ◌∷◌, map, length}
+use Rattle.std.specs.Prelude.{◌≡◌, ◌≢◌, ℕ, ◌≤◌, ◌<◌, ◌^◌, not, ◌||◌, ◌==◌, IsTrue, IsFalse, List, [], ◌∷◌, map, length, Option}
 use Rattle.std.specs.List.{AllByRecursion, IsDistinct}
 use Rattle.fab_base.specs.declared.object.Tid.{Tid}
 use Rattle.fab_base.specs.FlatMap.{is_among, is_same}
 use Rattle.fab_base.specs.JournalSpelling.{AreStores}
+use Rattle.fab_tree.specs.declared.resolved.Request.{Request}
 use Rattle.fab_tree.specs.declared.resolved.Resolved.{Resolved}
 use Rattle.fab_protocol.specs.Parts.{stores_of}
 use Rattle.fab_protocol.specs.Versions.{Rows, names_of}
@@ -15,15 +16,17 @@ use Rattle.fab_world.specs.Workers.{Phase}
 use Rattle.fab_world.specs.Workers as phases
 use Rattle.fab_worker.specs.declared.stage.Stage.{Stage}
 use Rattle.fab_worker.specs.declared.stage.Stage.TheVariants as stages
-use Rattle.fab_worker.specs.Models.{WorkerModel, tid_at}
+use Rattle.fab_worker.specs.Models.{WorkerModel, parts_at_work, request_at, tid_at}
 
--- what is fetched isn't among the answers; who prepares is the coordinator of the attempt's parts
-abbrev pub IsStage : Resolved → Tid → Rows → Stage → Type 0
-IsStage program t answers stages.Idle = Unit {0}
-IsStage program t answers stages.Evaluating = Unit {0}
-IsStage program t answers (stages.Fetching o) = IsFalse (is_among o (names_of answers))
-IsStage program t answers (stages.Preparing coordinator parts) =
+-- What is fetched isn't among the answers. Who prepares is the coordinator of the attempt's parts, and these are those of what
+-- the request means over the answers.
+abbrev pub IsStage : Resolved → Tid → Rows → Option Request → Stage → Type 0
+IsStage program t answers request stages.Idle = Unit {0}
+IsStage program t answers request stages.Evaluating = Unit {0}
+IsStage program t answers request (stages.Fetching o) = IsFalse (is_among o (names_of answers))
+IsStage program t answers request (stages.Preparing coordinator parts) =
     (coordinator.tid ≡ t) × (coordinator.stores ≡ stores_of parts) × ArePartsOver program t answers parts × AreStores coordinator.stores
+    × (parts ≡ parts_at_work program t answers request)
 
 -- who isn't idle has a request at work
 abbrev pub IsBusyWith : Phase → ℕ → ℕ → Type 0
@@ -42,4 +45,4 @@ pub record IsWorker (x : WorkerModel) (session : Sitting) (k : ℕ) (at : Stage)
   pub caches : AllByRecursion (AreKnown x.program (tid_at x)) x.attempt.caches
   pub lists : length x.attempt.caches ≡ 64
   pub last : AreLast k x.attempt.caches
-  pub stage : IsStage x.program (tid_at x) x.attempt.answers at
+  pub stage : IsStage x.program (tid_at x) x.attempt.answers (request_at x) at

@@ -6,7 +6,11 @@ use Rattle.fab_eval.specs.declared.job.Job.{Job}
 use Rattle.fab_rights.specs.declared.rights.Rights.{Rights}
 use Rattle.fab_protocol.specs.declared.parts.Parts.{Parts}
 use Rattle.fab_protocol.specs.declared.parts.Decision.{Decision}
-use Rattle.fab_protocol.specs.Versions.{Rows}
+use Rattle.fab_protocol.specs.Versions.{Rows, objects_of}
+use Rattle.fab_base.specs.FlatMap.{map_of}
+use Rattle.fab_tree.specs.declared.resolved.Request.{Request}
+use Rattle.fab_language.specs.Meaning.{meaning}
+use Rattle.fab_world.specs.Attempts.{parts_of}
 use Rattle.fab_session.specs.Sittings.{Sitting}
 use Rattle.fab_cache.specs.Caching.{Caching}
 use Rattle.fab_commit.specs.Coordinators.{Coordination}
@@ -56,6 +60,18 @@ state_of (phases.Preparing waiting) = states.Preparing
 
 abbrev pub tid_at : WorkerModel → Tid
 tid_at x = tid_of x.node x.kept x.attempt
+
+-- the request behind so many that ended, if one is left
+abbrev pub request_in : Resolved → ℕ → ℕ → Option Request
+request_in program n ended = slice_get (requests_of program n) ended
+
+abbrev pub request_at : WorkerModel → Option Request
+request_at x = request_in x.program x.node (length x.kept.outcomes)
+
+-- the parts of what a request means in an attempt over these answers
+unfoldable pub parts_at_work : Resolved → Tid → Rows → Option Request → Parts
+parts_at_work program t answers None = no_parts
+parts_at_work program t answers (Some request) = parts_of answers (meaning program (map_of (objects_of answers)) request t 1000000)
 
 abbrev pub next_of : WorkerModel → Option ℕ
 next_of x = if nat_lt (length x.kept.outcomes) (length (requests_of x.program x.node)) then Some (request_of x.kept) else None

@@ -24,7 +24,7 @@ use Rattle.fab_world.specs.Workers as phases
 use Rattle.fab_worker.specs.declared.change.Change.{Change}
 use Rattle.fab_worker.specs.declared.change.Change.TheVariants as c
 use Rattle.fab_attempts.specs.Sessions.{requests_of}
-use Rattle.fab_worker.specs.Models.{WorkerModel, tid_at, no_parts}
+use Rattle.fab_worker.specs.Models.{WorkerModel, tid_at, no_parts, parts_at_work, request_at}
 use Rattle.fab_attempts.specs.Known.{ArePartsOver, AreKnown, IsKnown}
 
 pub record Plan : Type 0 where
@@ -93,6 +93,10 @@ pub record ArePrepared (x : WorkerModel) (who : Coordination) (what : Parts) : T
   pub over : ArePartsOver x.program (tid_at x) x.attempt.answers what
   pub few : AreStores who.stores
 
+-- what is prepared is what the request at work means over the answers
+abbrev pub HasItsParts : WorkerModel → Type 0
+HasItsParts x = IsPreparing x.attempt.phase → x.parts ≡ parts_at_work x.program (tid_at x) x.attempt.answers (request_at x)
+
 abbrev pub IsAtWork : Phase → Type 0
 IsAtWork phases.Idle = ⊥
 IsAtWork _ = Unit {0}
@@ -119,7 +123,8 @@ CanChange x (c.Found row told) = IsNewAnswer x row × (x.attempt.phase ≡ phase
 CanChange x (c.Fetches o told) = IsFalse (is_among o (names_of x.attempt.answers)) × (x.attempt.phase ≡ phases.Evaluating)
 CanChange x (c.Prepares coordinator parts told) =
     (coordinator.tid ≡ tid_at x) × (coordinator.stores ≡ stores_of parts) × ArePartsOver x.program (tid_at x) x.attempt.answers parts
-    × AreStores coordinator.stores × (x.attempt.phase ≡ phases.Evaluating)
+    × AreStores coordinator.stores × (parts ≡ parts_at_work x.program (tid_at x) x.attempt.answers (request_at x))
+    × (x.attempt.phase ≡ phases.Evaluating)
 CanChange x (c.Voted store) = IsPreparing x.attempt.phase
 CanChange x (c.Commits caches) =
     (length caches ≡ 64) × AreLast x.program.cache (laid caches x.attempt.caches)

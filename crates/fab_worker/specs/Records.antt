@@ -5,7 +5,7 @@ use Rattle.fab_base.specs.declared.entry.Entry.TheVariants as e
 use Rattle.fab_net.specs.declared.outcome.ReqOutcome.TheVariants.{Committed, Unfinished}
 use Rattle.fab_protocol.specs.declared.parts.Decision.{Decision}
 use Rattle.fab_session.specs.Sittings.{Sitting}
-use Rattle.fab_world.specs.Workers.{closings}
+use Rattle.fab_world.specs.Workers.{Kept, closings, worker_keeps}
 
 -- a record ends a request, or is a decision
 abbrev pub EndsRequest : Entry → Type 0
@@ -38,3 +38,8 @@ AreEnding requests [] ended = Unit {0}
 AreEnding requests (e.Decided t request value stores ∷ entries) ended = (ended < requests) × AreEnding requests entries (suc ended)
 AreEnding requests (e.Closed request outcome node ∷ entries) ended = (ended < requests) × AreEnding requests entries (suc ended)
 AreEnding requests (_ ∷ entries) ended = AreEnding requests entries ended
+
+-- what lasts behind these records
+abbrev pub kept_behind_all : List Entry → Kept → Kept
+kept_behind_all [] kept = kept
+kept_behind_all (entry ∷ entries) kept = kept_behind_all entries (worker_keeps entry kept)

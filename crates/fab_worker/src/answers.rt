@@ -6,6 +6,7 @@ ghost use Rattle.fab_attempts.specs.Sessions.{requests_of};
 
 use crate::worker::Worker;
 use fab_base::{NoMemory, Object, Oid, Seq};
+use fab_eval::copy_of_request;
 use fab_tree::resolved::{Request, Resolved, Session};
 use std::alloc::Global;
 
@@ -35,18 +36,6 @@ pub(crate) fn made_copies(
         copies.push((row.0, row.1.copy(alloc)?))?;
     }
     Ok(copies)
-}
-
-/// The same request again.
-fn copy_of(alloc: Global, request: &Request) -> Result<Request, NoMemory>
-    ensures { IfOk result (λ r. r ≡ request.now) }
-{
-    Ok(Request {
-        worker: request.worker,
-        number: request.number,
-        method: request.method,
-        args: Seq::from_slice(alloc, request.args.as_slice())?,
-    })
 }
 
 /// The session of a worker, if it has one.
@@ -102,7 +91,7 @@ fn request_again(
     ensures { IfOk result (λ r. slice_get (requests_of program.now node) at ≡ Some r) }
 {
     match request_in(program, node, at) {
-        Some(request) => copy_of(alloc, request),
+        Some(request) => copy_of_request(alloc, request),
         None => unreachable!(),
     }
 }

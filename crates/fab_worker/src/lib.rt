@@ -8,6 +8,7 @@ mod change;
 mod deciding;
 mod ends;
 mod hearing;
+mod laws;
 mod parts;
 mod plan;
 mod recovery;
@@ -17,6 +18,7 @@ mod stage;
 mod told;
 mod worker;
 
+pub use laws::kept_in_a_row;
 pub use plan::WorkerPlan;
 pub use stage::WorkerState;
 pub use worker::Worker;

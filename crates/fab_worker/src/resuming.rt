@@ -9,7 +9,7 @@ ghost use Rattle.fab_protocol.specs.Parts.{stores_of};
 ghost use Rattle.fab_world.specs.Attempts.{parts_of};
 ghost use Rattle.fab_world.specs.Workers.{Evaluating, asks_all, closes, ends, needs, noting, resumes};
 ghost use Rattle.fab_attempts.specs.Known.{ArePartsOver};
-ghost use Rattle.fab_worker.specs.Models.{IsJobOf, OnlyGainsRoom, tid_at};
+ghost use Rattle.fab_worker.specs.Models.{IsJobOf, OnlyGainsRoom, parts_at_work, request_at, tid_at};
 ghost use Rattle.fab_worker.specs.Plans.{Fits, HasAllRoom, IsBehind, IsPlanOf, fails, step_of, stops};
 
 use crate::answers::{copies, made_copies};
@@ -211,6 +211,7 @@ impl Worker {
         requires evaluating { self.now.attempt.phase ≡ Evaluating }
         requires room { HasAllRoom self.now }
         requires parts { ArePartsOver self.now.program (tid_at self.now) self.now.attempt.answers parts }
+        requires its { parts ≡ parts_at_work self.now.program (tid_at self.now) self.now.attempt.answers (request_at self.now) }
         ensures plan { IfOk result (λ p. IsPlanOf (noting notes (asks_all self.now.rights self.now.program.cache self.now.node self.now.kept
             (stores_of parts) (record self.now.attempt { told = told }) parts)) self.now.attempt p) }
         ensures fits { IfOk result (Fits self.now) }

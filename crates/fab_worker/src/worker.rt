@@ -8,7 +8,8 @@ ghost use Rattle.fab_protocol.specs.Versions.{is_tid, names_of};
 ghost use Rattle.fab_session.specs.Sittings.{outcome_of};
 ghost use Rattle.fab_world.specs.Machine.{lacks};
 ghost use Rattle.fab_world.specs.Workers.{Evaluating, Idle, next};
-ghost use Rattle.fab_worker.specs.Models.{IsJobOf, next_of, state_of, tid_at};
+ghost use Rattle.fab_worker.specs.Models.{IsJobOf, next_of, no_parts, state_of, tid_at};
+ghost use Rattle.fab_worker.specs.Plans.{HasItsParts};
 ghost use Rattle.fab_attempts.specs.Sessions.{requests_of};
 
 use crate::answers::copies;
@@ -60,9 +61,11 @@ impl Model for Worker {
 }
 
 impl Worker {
-    /// What the worker is at.
+    /// What the worker is at. Where it prepares, its parts are those of what the request at work means over
+    /// the answers.
     pub fn state(&self) -> WorkerState
-        ensures { result ≡ state_of self.now.attempt.phase }
+        ensures state { result ≡ state_of self.now.attempt.phase }
+        ensures parts { HasItsParts self.now }
     {
         match &self.stage {
             Stage::Idle => WorkerState::Idle,
@@ -113,6 +116,7 @@ impl Worker {
         requires number { self.old.attempt.number < 4294967295 }
         ensures tid { result ≡ tid_at self.new }
         ensures attempt { self.new.attempt ≡ next self.old.attempt }
+        ensures parts { self.new.parts ≡ no_parts }
         ensures kept { self.new.kept ≡ self.old.kept }
         ensures node { self.new.node ≡ self.old.node }
         ensures rights { self.new.rights ≡ self.old.rights }

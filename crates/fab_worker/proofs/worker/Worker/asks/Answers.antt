@@ -28,5 +28,5 @@ pub returns-clause-fits : goal.returns-clause-fits
 returns-clause-fits c =
     let x = c.args.self.now in
     let can = can_prepare x c.tid.result c.in_ok-coordinator.coordinator c.args.parts c.args.told c.tid.ensures c.in_ok-coordinator.ensures.coordinator
-    c.requires.parts c.in_ok-coordinator.ensures.participants c.requires.evaluating in
+    c.requires.parts c.in_ok-coordinator.ensures.participants c.requires.its c.requires.evaluating in
     unrecorded_fits x c.unrecorded.result _ _ c.unrecorded.ensures can tt

@@ -13,7 +13,7 @@ pub returns-then-is_made_before-clause-fits : goal.returns-then-is_made_before-c
 returns-then-is_made_before-clause-fits c =
     let x = c.args.self.now in
     let program = subst (λ (w : WorkerModel). IsProgramOf w.program w.node w.rights) c.self.view_is c.self.invariant.program in
-    let new = subst (λ (w : WorkerModel). IsUnanswered (names_of w.attempt.answers) w.attempt.phase) c.self.view_is (stage_unanswered _ _ _ _ c.self.invariant.stage) in
+    let new = subst (λ (w : WorkerModel). IsUnanswered (names_of w.attempt.answers) w.attempt.phase) c.self.view_is (stage_unanswered _ _ _ _ _ c.self.invariant.stage) in
     let formed : is_well_formed x.rights c.args.object ≡ true =
     ap (λ (w : WorkerModel). is_well_formed w.rights c.args.object) (sym c.self.view_is) ∙ sym c.well_formed-2.ensures.computed ∙ c.if-well_formed.true in
     let same : (c.args.object.class == c.args.oid.class) ≡ true = grind (arith, nat_tests, c.if-object-oid.true) in
