@@ -329,7 +329,9 @@ begins_too mark (t ∷ ts) (u ∷ us) h same = ap (λ x. x.kind) (sym same) ∙ 
 
 -- ---- a rule of one token
 
-pub leaf : {A : Type 0} {R : List Token → A → List Token → Type 0} {may : Kind → Bool} {room : ℕ} {a : List Token} {t : A} {b : List Token} {u : Token} → a ≡ u ∷ b → room_by u.kind room ≡ Some room → ((more : List Token) → R (u ∷ more) t more) → ((more : List Token) (v : A) (after : List Token) → R (u ∷ more) v after → (v ≡ t) × (after ≡ more)) → Read R may room a t b
+pub leaf : {A : Type 0} {R : List Token → A → List Token → Type 0} {may : Kind → Bool} {room : ℕ} {a : List Token} {t : A} {b : List Token} {u : Token}
+    → a ≡ u ∷ b → room_by u.kind room ≡ Some room → ((more : List Token) → R (u ∷ more) t more)
+    → ((more : List Token) (v : A) (after : List Token) → R (u ∷ more) v after → (v ≡ t) × (after ≡ more)) → Read R may room a t b
 leaf {u = u} cut level reads only = record {
   front = u ∷ [];
   cut = cut;

@@ -28,7 +28,9 @@ name_read {room = room} cut h = leaf cut (ap (λ x. room_by x room) h) (λ more.
 -- ---- one mark
 
 -- a tree that is one mark, which is no bracket
-pub mark_read : {A : Type 0} {R : List Token → A → List Token → Type 0} {may : Kind → Bool} {room : ℕ} {a b : List Token} {t : A} (mark : Mark) → Is mark a b → room_by (k.Fixed mark) room ≡ Some room → ((x y : List Token) → Is mark x y → R x t y) → ((x : List Token) (v : A) (y : List Token) → BeginsWith mark x → R x v y → (v ≡ t) × Is mark x y) → Read R may room a t b
+pub mark_read : {A : Type 0} {R : List Token → A → List Token → Type 0} {may : Kind → Bool} {room : ℕ} {a b : List Token} {t : A} (mark : Mark)
+    → Is mark a b → room_by (k.Fixed mark) room ≡ Some room → ((x y : List Token) → Is mark x y → R x t y)
+    → ((x : List Token) (v : A) (y : List Token) → BeginsWith mark x → R x v y → (v ≡ t) × Is mark x y) → Read R may room a t b
 mark_read {room = room} mark (is {t = u} e) level reads only = leaf refl (ap (λ x. room_by x room) e ∙ level) (λ more. reads _ _ (is e)) (λ more v after d. let x = only _ v after e d in (x.0, behind_same x.1))
   where
     behind_same : {u : Token} {x y : List Token} → Is mark (u ∷ x) y → y ≡ x

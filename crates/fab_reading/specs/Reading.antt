@@ -51,7 +51,8 @@ pub record Read {A : Type 0} (R : List Token → A → List Token → Type 0) (m
   pub cut : a ≡ front ++ b
   pub level : room_after front room ≡ Some room
   pub reads : (more : List Token) → R (front ++ more) t more
-  pub only : (more : List Token) → SameHead b more → (u : A) (after : List Token) → R (front ++ more) u after → Follows may after → (u ≡ t) × (after ≡ more)
+  pub only : (more : List Token) → SameHead b more → (u : A) (after : List Token)
+      → R (front ++ more) u after → Follows may after → (u ≡ t) × (after ≡ more)
 
 -- The tokens up to the last so many begin something that R reads, and with the next token they begin nothing of it.
 pub record Refused {A : Type 0} (R : List Token → A → List Token → Type 0) (may : Kind → Bool) (room : ℕ) (a : List Token) (left : ℕ) : Type 0 where

@@ -134,7 +134,9 @@ module _ {A : Type 0} (name : A → Name) where
       front_kept : (b : Bool) → p x ≡ b → filter p (take (i + 1) xs) ≡ filter p (take i xs) ++ (if b then x ∷ [] else [])
       front_kept b e = sym (ap (filter p) front_is) ∙ filter-append p (take i xs) (x ∷ []) ∙ ap (λ (b : Bool). filter p (take i xs) ++ (if b then x ∷ [] else [])) e
 
-      pub next_kept : (old new : BTreeSet (Bor (List ℕ))) (first next whole : Option Fault) → p x ≡ true → Goes name old (filter p (take i xs)) (filter p (drop i xs)) first whole → next ≡ first_from first (if_noted old (name x)) → ((q : List ℕ) → is_noted new q ≡ (bytes_eq (name x).text q || is_noted old q)) → Goes name new (filter p (take (i + 1) xs)) (filter p (drop (i + 1) xs)) next whole
+      pub next_kept : (old new : BTreeSet (Bor (List ℕ))) (first next whole : Option Fault)
+          → p x ≡ true → Goes name old (filter p (take i xs)) (filter p (drop i xs)) first whole → next ≡ first_from first (if_noted old (name x))
+          → ((q : List ℕ) → is_noted new q ≡ (bytes_eq (name x).text q || is_noted old q)) → Goes name new (filter p (take (i + 1) xs)) (filter p (drop (i + 1) xs)) next whole
       next_kept old new first next whole e h n m =
           subst (λ l. Goes name new l (filter p (drop (i + 1) xs)) next whole) (sym (front_kept true e))
           (goes_on old new x (filter p (take i xs)) (filter p (drop (i + 1) xs)) first next whole (subst (λ l. Goes name old (filter p (take i xs)) l first whole) (rest_kept true e) h) n m)

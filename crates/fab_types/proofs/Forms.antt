@@ -71,7 +71,8 @@ module _ (s : Start) (known : Locals) where
 
   -- that of a question whether two values are one
   pub first_in_equation : (x e g left right : Expression) (c : Comparison) (first front both last : Option Fault) →
-      (out-Expression x).form ≡ kinds.Compared e c g → asks_same c ≡ true → left ≡ e → right ≡ g → front ≡ first_from first (in_expression s known left) → both ≡ first_from front (in_expression s known right) → last ≡ first_from both (if_so (are_comparable (typed s known left).kind (typed s known right).kind) (out-Expression x).at) → last ≡ first_from first (in_expression s known x)
+      (out-Expression x).form ≡ kinds.Compared e c g → asks_same c ≡ true → left ≡ e → right ≡ g → front ≡ first_from first (in_expression s known left) → both ≡ first_from front (in_expression s known right)
+      → last ≡ first_from both (if_so (are_comparable (typed s known left).kind (typed s known right).kind) (out-Expression x).at) → last ≡ first_from first (in_expression s known x)
   first_in_equation x e g left right c first front both last is equation l r f h k =
       in_three first front both last (in_expression s known left) (in_expression s known right) (if_so (are_comparable (typed s known left).kind (typed s known right).kind) (out-Expression x).at) f h k
       ∙ ap (λ b. first_from first (comparison s known (out-Expression x).at b (checked s known left) (checked s known right))) (sym equation)
