@@ -1,7 +1,7 @@
 -- The laws of an evaluation hold of one that says what it reads, and don't hold of one that hides it.
 use Rattle.std.proofs.Common.{◌≡◌, ℕ, List, [], ◌∷◌, pos, Option, Some, None}
 use Rattle.std.proofs.Common.{refl, sym, ap, subst, true, false, true≢false}
-use Rattle.std.proofs.Common.{if◌then◌else◌, IsTrue, unwrap_or, nat_abs, arith, length, ◌+◌, ◌≤◌, lit<, lit≤}
+use Rattle.std.proofs.Common.{if◌then◌else◌, IsTrue, IsSome, is_some, unwrap_or, nat_abs, arith, length, ◌+◌, ◌≤◌, lit<, lit≤}
 use Rattle.std.specs.List.{AllByRecursion}
 use Rattle.std.specs.Int.{w32, int_wrap}
 use Rattle.std.proofs.lemmas.Int.{SFits-int_wrap}
@@ -68,6 +68,16 @@ missed_there : (N : FlatMap) (site : ℕ) (o : Oid) (x : Option Object) → (pee
 missed_there N site o None e = ap missed e
 missed_there N site o (Some x) e = let no : Ended (Some (Int (amount x))) ≡ Missing site o = e in cc
 
+missed_absent : (N : FlatMap) (site : ℕ) (o : Oid) (x : Option Object) → get N (account 0) ≡ x → (peeked ((0, account 0) ∷ []) x N).ending ≡ Missing site o
+    → get N (account 0) ≡ None
+missed_absent N site o None there e = there
+missed_absent N site o (Some x) there e = let no : Ended (Some (Int (amount x))) ≡ Missing site o = e in cc
+
+touched_there : (N : FlatMap) (x : Option Object) → get N (account 0) ≡ x
+    → AllByRecursion (λ o. IsSome (get N o)) (touched (peeked ((0, account 0) ∷ []) x N).touches)
+touched_there N None there = tt
+touched_there N (Some x) there = (ap is_some there, tt)
+
 account_fits : IsFitName honest (account 0)
 account_fits = record {
   placed = refl;
@@ -124,6 +134,8 @@ honest_is_evaluation = record {
         | Some x ↦ (account_fits, tt)
       ];
   missing = λ w r t N site o numbers h e. subst (λ p. IsFitName honest p) (missed_there N site o (get N (account 0)) e) account_fits;
+  absent = λ w r t N site o e. subst (λ p. get N p ≡ None) (missed_there N site o (get N (account 0)) e) (missed_absent N site o (get N (account 0)) refl e);
+  there = λ w r t N. touched_there N (get N (account 0)) refl;
   value = λ w r t N v numbers h e. value_fits N v (get N (account 0)) refl h e;
   few_touched = λ w r t N.
       elim (get N (account 0)) as (λ x. length (touched (peeked ((0, account 0) ∷ []) x N).touches) ≤ 1024) [ None ↦ lit≤ tt | Some x ↦ lit≤ tt ];

@@ -1,5 +1,6 @@
 -- What a run comes to: its commits replayed one after the other, what is held, and that the two are the same for every set of distrusted nodes.
-use Rattle.std.specs.Prelude.{◌≡◌, ◌↔◌, ℕ, ◌+◌, ◌<◌, ◌≤◌, ◌^◌, ◌||◌, Bool, true, not, IsTrue, IsFalse, List, [], ◌∷◌, ◌++◌, length, Option, Some}
+use Rattle.std.specs.Prelude.{◌≡◌, ◌↔◌, ℕ, ◌+◌, ◌<◌, ◌≤◌, ◌^◌, ◌||◌, Bool, true, false, not, IsTrue, IsFalse}
+use Rattle.std.specs.Prelude.{List, [], ◌∷◌, ◌++◌, length, Option, Some, None, IsSome}
 use Rattle.std.specs.List.{filter, flat_map, fold, AllByRecursion}
 use Rattle.fab_base.specs.declared.object.Oid.{Oid}
 use Rattle.fab_base.specs.declared.object.Object.{Object}
@@ -23,7 +24,8 @@ use Rattle.fab_rights.specs.Computed.{is_store, is_worker, may_hold, may_write, 
 use Rattle.fab_protocol.specs.Versions.{objects_of, is_made_in}
 use Rattle.fab_protocol.specs.declared.parts.Parts.{Parts}
 use Rattle.fab_world.specs.Attempts.{parts_of}
-use Rattle.fab_world.specs.Machine.{Setting, World, Move, Form, Does, Cuts, Fails, form_of, at_start, held_at, runs, logs, are_enabled}
+use Rattle.fab_world.specs.Machine.{Setting, World, Move, Form, Does, Cuts, Fails, Posts, Crashes, Never, form_of, at_start, held_at, kept, runs, logs, enabled}
+use Rattle.fab_world.specs.Machine.{are_enabled}
 
 -- ---- the commit list: the decisions whose records stand, of workers that aren't distrusted
 
@@ -131,6 +133,9 @@ pub record IsEvaluation (S : Setting) : Type 0 where
   pub fits : (w r : ℕ) (t : Tid) (N : FlatMap) → IsTid t → IsTrue (flat.ascends N) → AreFit S N → AreFit S (S.means w r t N).map
   pub touches : (w r : ℕ) (t : Tid) (N : FlatMap) → AreFit S N → AllByRecursion (IsFitName S) (touched (S.means w r t N).touches)
   pub missing : (w r : ℕ) (t : Tid) (N : FlatMap) (site : ℕ) (o : Oid) → IsTid t → AreFit S N → (S.means w r t N).ending ≡ Missing site o → IsFitName S o
+  -- what is missing isn't there, and what was touched is
+  pub absent : (w r : ℕ) (t : Tid) (N : FlatMap) (site : ℕ) (o : Oid) → (S.means w r t N).ending ≡ Missing site o → get N o ≡ None
+  pub there : (w r : ℕ) (t : Tid) (N : FlatMap) → AllByRecursion (λ o. IsSome (get N o)) (touched (S.means w r t N).touches)
   -- no more than a message can spell, and no other value
   pub value : (w r : ℕ) (t : Tid) (N : FlatMap) (v : Value) → IsTid t → AreFit S N → (S.means w r t N).ending ≡ Ended (Some v) → IsValue 1 v
   pub few_touched : (w r : ℕ) (t : Tid) (N : FlatMap) → length (touched (S.means w r t N).touches) ≤ 1024
@@ -188,6 +193,38 @@ IsOnce S = (D : ℕ → Bool) (moves : List Move) → IsRun S moves → Rise (co
 abbrev pub IsLeftOut : Setting → Type 0
 IsLeftOut S = (D ex : ℕ → Bool) (moves : List Move) → Excludes S D ex → IsRun S moves
     → serial_replay S ex (commits_in S S.hostile moves) ≡ serial_replay S ex (commits_in S D moves)
+
+-- ---- that a run can go on
+
+-- what hostile nodes post, and no other node does
+abbrev pub ArePosts : Setting → Type 0
+ArePosts S = (h : ℕ) → S.hostile h ≡ false → S.posts h ≡ []
+
+-- a worker that isn't hostile and hasn't failed for good, and whose session isn't through
+pub record IsWaiting (S : Setting) (w : World) (n : ℕ) : Type 0 where
+  pub kind : IsTrue (is_worker S.rights n)
+  pub honest : S.hostile n ≡ false
+  pub sound : (w.node n).failed ≡ false
+  pub left : length (kept S w n).outcomes < S.requests n
+
+-- an event that is done whole, or a post
+abbrev pub IsOrdinary : Form → Type 0
+IsOrdinary (Does e) = Unit {0}
+IsOrdinary (Posts h) = Unit {0}
+IsOrdinary (Cuts keep e) = ⊥
+IsOrdinary (Fails keep e) = ⊥
+IsOrdinary (Crashes n) = ⊥
+IsOrdinary Never = ⊥
+
+-- such an event may come
+pub record GoesOn (S : Setting) (w : World) : Type 0 where
+  pub form : Form
+  pub ordinary : IsOrdinary form
+  pub may : IsTrue (enabled S w form)
+
+-- as long as a request of an honest worker has no outcome, and its node hasn't failed for good, the run can go on
+abbrev pub IsLive : Setting → Type 0
+IsLive S = (moves : List Move) (n : ℕ) → IsRun S moves → IsWaiting S (world_of S moves) n → GoesOn S (world_of S moves)
 
 -- to be proved on these definitions alone
 pub record Integrity (S : Setting) : Type 0 where
