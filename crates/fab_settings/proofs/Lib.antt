@@ -1,0 +1,8 @@
+pub mod Ranges
+pub mod SitesInOrder
+pub mod Sites
+pub mod Fitting
+pub mod Nodes
+pub mod Given
+pub mod Meanings
+pub mod Gives
