@@ -120,12 +120,14 @@ module _ (rights : Rights) where
       and_from (o.class == x.number) (may_hold rights o.store x.number) h
       (subst (λ c. IsTrue (may_hold rights o.store c)) same (passes_held rights o i))
 
-  fields_held : (fs : List Field) (vs : List Value) → AllSuit (map (λ f. kind_of_sort f.sort) fs) vs → AllPass p vs → IsTrue (computed.fit_fields rights (map places.kind_of fs) vs)
+  fields_held : (fs : List Field) (vs : List Value) → AllSuit (map (λ f. kind_of_sort f.sort) fs) vs → AllPass p vs
+      → IsTrue (computed.fit_fields rights (map places.kind_of fs) vs)
   fields_held [] [] h i = refl
   fields_held [] (v ∷ vs) h i = absurd h
   fields_held (f ∷ fs) [] h i = absurd h
   fields_held (f ∷ fs) (v ∷ vs) h i =
-      and_from (computed.fits_field rights (places.kind_of f) v) (computed.fit_fields rights (map places.kind_of fs) vs) (value_held f.sort v h.0 i.0) (fields_held fs vs h.1 i.1)
+      and_from (computed.fits_field rights (places.kind_of f) v) (computed.fit_fields rights (map places.kind_of fs) vs)
+      (value_held f.sort v h.0 i.0) (fields_held fs vs h.1 i.1)
 
   -- where a store holds the class, it is known, and its fields are those of the bundle
   class_held : (rs : List ClassRights) (cs : List Class) → map (λ c. c.fields) rs ≡ map (λ c. map places.kind_of c.fields) cs → (n store : ℕ) (x : Object)

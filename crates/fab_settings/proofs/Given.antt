@@ -60,7 +60,8 @@ small_from (v ∷ vs) h = let p = in_both (FitsSigned w32) (in_value v) (in_valu
 -- ---- requests of one session
 
 -- what holds of each request of each session holds of those of one that is found
-of_found : (P : Request → Type 0) (test : Session → Bool) (xs : List Session) → AllByRecursion (λ x. AllByRecursion P (requests_in (Some x))) xs → AllByRecursion P (requests_in (find test xs))
+of_found : (P : Request → Type 0) (test : Session → Bool) (xs : List Session) → AllByRecursion (λ x. AllByRecursion P (requests_in (Some x))) xs
+    → AllByRecursion P (requests_in (find test xs))
 of_found P test [] h = tt
 of_found P test (x ∷ xs) h =
     elim (test x) as (λ b. AllByRecursion P (requests_in (cond b (Some x) (find test xs)))) [
@@ -148,7 +149,8 @@ module _ (s : Start) (rights : Rights) (a : IsAcceptedWith s rights) where
   roots_pass : AllByRecursion (λ x. p x.oid ≡ true) bundle.roots
   roots_pass =
       from_two (λ x. IsHeld bundle x.oid) (λ x. is_spelled x.oid ≡ true) (λ x. p x.oid ≡ true) bundle.roots
-      (λ x held spelled. and_from (may_hold rights x.oid.store x.oid.class) (is_spelled x.oid) (number_holds bundle rights a.rights_are x.oid.store x.oid.class held) spelled)
+      (λ x held spelled. and_from (may_hold rights x.oid.store x.oid.class) (is_spelled x.oid)
+      (number_holds bundle rights a.rights_are x.oid.store x.oid.class held) spelled)
       (roots_held bundle a.labelled)
       (spelled_from s s.roots 0 (let n = few_roots s a.within in omega (arith, n)))
 
@@ -219,6 +221,10 @@ module _ (s : Start) (rights : Rights) (a : IsAcceptedWith s rights) where
       by true h = absurd (cc)
       by false h = record {
         fitting = at_index (IsFitting bundle) (requests_of bundle n) (number - 1) q (fits n).requests h;
-        names = at_index (λ x. AllPass p x.args) (requests_of bundle n) (number - 1) q (of_found (λ x. AllPass p x.args) (λ x. x.worker.number == n) bundle.sessions (sessions_pass s.sessions)) h;
-        numbers = at_index (λ x. AreSmall x.args) (requests_of bundle n) (number - 1) q (of_found (λ x. AreSmall x.args) (λ x. x.worker.number == n) bundle.sessions (small_requests bundle.sessions three.1)) h;
+        names =
+            at_index (λ x. AllPass p x.args) (requests_of bundle n) (number - 1) q
+            (of_found (λ x. AllPass p x.args) (λ x. x.worker.number == n) bundle.sessions (sessions_pass s.sessions)) h;
+        numbers =
+            at_index (λ x. AreSmall x.args) (requests_of bundle n) (number - 1) q
+            (of_found (λ x. AreSmall x.args) (λ x. x.worker.number == n) bundle.sessions (small_requests bundle.sessions three.1)) h;
       }

@@ -1,5 +1,4 @@
 pub mod Ranges
-pub mod SitesInOrder
 pub mod Sites
 pub mod Fitting
 pub mod Nodes

@@ -84,7 +84,8 @@ module _ (program : Resolved) (t : Tid) where
   abbrev means : Option Request → FlatMap → Meant
   means q N = meant_of program q t N
 
-  local_by : (q : Option Request) (N M : FlatMap) (v : Option Value) → (means q N).ending ≡ Ended v → SameOn (touched (means q N).touches) N M → AreAlike (means q N) (means q M)
+  local_by : (q : Option Request) (N M : FlatMap) (v : Option Value) → (means q N).ending ≡ Ended v → SameOn (touched (means q N).touches) N M
+      → AreAlike (means q N) (means q M)
   local_by None N M v e h = absurd (cc)
   local_by (Some x) N M v e h = record {
     ending = sym same.ending;
@@ -120,7 +121,9 @@ module _ (program : Resolved) (t : Tid) where
 
   written_by : (q : Option Request) (N : FlatMap) → AllByRecursion (λ o. IsTrue (is_among o (touched (means q N).touches))) (means q N).written
   written_by None N = tt
-  written_by (Some x) N = each_name (λ o. IsTrue (is_among o (touched (means (Some x) N).touches))) (means (Some x) N).written (leaves N program t x 1000000).writes.touched
+  written_by (Some x) N =
+      each_name (λ o. IsTrue (is_among o (touched (means (Some x) N).touches))) (means (Some x) N).written
+      (leaves N program t x 1000000).writes.touched
 
   is_of : (o : Oid) → IsOf t o → IsTrue (is_made_in t o)
   is_of o h =
@@ -232,7 +235,9 @@ module _ (s : Start) (rights : Rights) (a : IsAcceptedWith s rights) where
     missing_one site o e = name_fits S (few s rights a) o (passing.missing site o e)
 
     value_one : (v : Value) → m.ending ≡ Ended (Some v) → IsValue 1 v
-    value_one v e = value_spelled rights (few s rights a) v (passing.result v e) (result_small bundle t (program_small s rights a) N q 1000000 sound.numbers small_rows v e)
+    value_one v e =
+        value_spelled rights (few s rights a) v (passing.result v e)
+        (result_small bundle t (program_small s rights a) N q 1000000 sound.numbers small_rows v e)
 
   -- whatever is touched was there
   touches_one : (t : Tid) (N : FlatMap) → AreFit S N → (q : Request) → AllByRecursion (IsFitName S) (touched (meaning bundle N q t 1000000).touches)
@@ -251,7 +256,8 @@ module _ (s : Start) (rights : Rights) (a : IsAcceptedWith s rights) where
   touches_by None t N h = tt
   touches_by (Some x) t N h = touches_one t N h x
 
-  missing_by : (q : Option Request) → Sound q → (t : Tid) (N : FlatMap) (site : ℕ) (o : Oid) → IsTid t → AreFit S N → (meant_of bundle q t N).ending ≡ Missing site o → IsFitName S o
+  missing_by : (q : Option Request) → Sound q → (t : Tid) (N : FlatMap) (site : ℕ) (o : Oid) → IsTid t → AreFit S N
+      → (meant_of bundle q t N).ending ≡ Missing site o → IsFitName S o
   missing_by None sound t N site o is h e = absurd (cc)
   missing_by (Some x) sound t N site o is h e = missing_one t is N h x (sound x refl) site o e
 

@@ -156,7 +156,9 @@ locals_small : (x : ℕ) → Gives IsSmall (local x)
 locals_small x = record { by = λ t h. on (unwrap_or (slice_get t.locals x) Null) t h (at_place IsSmall t.locals x Null tt h.locals) }
 
 assigns : (x : ℕ) (v : Value) → IsSmall v → Goes (assign x v)
-assigns x v p = record { by = λ t h. on tt (record t { locals = slice_set t.locals x v }) (record { locals = all_set IsSmall t.locals x v p h.locals; rows = h.rows }) tt }
+assigns x v p = record {
+  by = λ t h. on tt (record t { locals = slice_set t.locals x v }) (record { locals = all_set IsSmall t.locals x v p h.locals; rows = h.rows }) tt;
+}
 
 -- ---- objects
 
@@ -185,7 +187,9 @@ accesses site o = record { by = λ t h. by_row site o t h (get t.heap.rows o) re
 reads : (site field : ℕ) (v : Value) → Gives IsSmall (read site field v)
 reads site field (Int n) = over IsSmall failed
 reads site field Null = over IsSmall failed
-reads site field (Ref o) = then_on Fields IsSmall (access site o) (λ x. gives (field_of field x)) (accesses site o) (λ x p. done IsSmall (field_of field x) (at_place IsSmall x.fields field Null tt p))
+reads site field (Ref o) =
+    then_on Fields IsSmall (access site o) (λ x. gives (field_of field x)) (accesses site o)
+    (λ x p. done IsSmall (field_of field x) (at_place IsSmall x.fields field Null tt p))
 
 module _ (o : Oid) (y : Object) (p : Fields y) (t : State) (h : Holds t) where
   putting : (g : Heap) → g.rows ≡ put o y t.heap.rows → Result Any (settled (Some g) t)
@@ -302,19 +306,29 @@ by_form (f.Chain x others) = record {
 by_form (f.Compared x comparison y) = record {
   gives = λ c.
       let both = in_both (FitsSigned w32) (in_expression x.0) (in_expression y.0) c in
-      then_on IsSmall IsSmall (value x.0) _ (x.1.gives both.0) (λ a p. then_on IsSmall IsSmall (value y.0) _ (y.1.gives both.1) (λ b q. done IsSmall (truth _) (truth_fits _)));
+      then_on IsSmall IsSmall (value x.0) _ (x.1.gives both.0)
+      (λ a p. then_on IsSmall IsSmall (value y.0) _ (y.1.gives both.1) (λ b q. done IsSmall (truth _) (truth_fits _)));
 }
 
 expressions : (e : Expression) → Stands (in_expression e) (value e)
 expressions = ind-Expression (λ x. Stands (in_a_form x) (form_value x)) (λ x. Stands (in_expression x) (value x)) (λ x. Stands (in_operand x) (operand_value x).1)
     (λ x y is. subst (λ z. Stands (in_a_form (roll-Form z)) (form_value (roll-Form z))) is
-    (rw (fold-roll-Form (M Value) (M Value) (Operator × M Value) form_step (λ e. e.form) (λ u. (u.operator, u.operand)) (pieces y), fold-roll-Form (List ℤ) (List ℤ) (List ℤ) in_form (λ e. e.form) (λ u. u.operand) (pieces y)) (by_form y)))
+    (rw (
+      fold-roll-Form (M Value) (M Value) (Operator × M Value) form_step (λ e. e.form) (λ u. (u.operator, u.operand)) (pieces y),
+      fold-roll-Form (List ℤ) (List ℤ) (List ℤ) in_form (λ e. e.form) (λ u. u.operand) (pieces y),
+    ) (by_form y)))
     (λ x y is. let z = map-Expression KnownForm KnownValue KnownOperand Form Expression Operand (λ k. k.0) (λ k. k.0) (λ k. k.0) y in
     subst (λ z. Stands (in_expression (roll-Expression z)) (value (roll-Expression z))) is
-    (rw (fold-roll-Expression (M Value) (M Value) (Operator × M Value) form_step (λ e. e.form) (λ u. (u.operator, u.operand)) z, fold-roll-Expression (List ℤ) (List ℤ) (List ℤ) in_form (λ e. e.form) (λ u. u.operand) z) y.form.1))
+    (rw (
+      fold-roll-Expression (M Value) (M Value) (Operator × M Value) form_step (λ e. e.form) (λ u. (u.operator, u.operand)) z,
+      fold-roll-Expression (List ℤ) (List ℤ) (List ℤ) in_form (λ e. e.form) (λ u. u.operand) z,
+    ) y.form.1))
     (λ x y is. let z = map-Operand KnownForm KnownValue KnownOperand Form Expression Operand (λ k. k.0) (λ k. k.0) (λ k. k.0) y in
     subst (λ z. Stands (in_operand (roll-Operand z)) (operand_value (roll-Operand z)).1) is
-    (rw (fold-roll-Operand (M Value) (M Value) (Operator × M Value) form_step (λ e. e.form) (λ u. (u.operator, u.operand)) z, fold-roll-Operand (List ℤ) (List ℤ) (List ℤ) in_form (λ e. e.form) (λ u. u.operand) z) y.operand.1))
+    (rw (
+      fold-roll-Operand (M Value) (M Value) (Operator × M Value) form_step (λ e. e.form) (λ u. (u.operator, u.operand)) z,
+      fold-roll-Operand (List ℤ) (List ℤ) (List ℤ) in_form (λ e. e.form) (λ u. u.operand) z,
+    ) y.operand.1))
 
 all_values : (es : List Expression) → AllFit (in_expressions es) → Gives AreSmall (values es)
 all_values [] c = done AreSmall [] tt
@@ -357,7 +371,8 @@ module _ (tid : Tid) (call : ℕ → List Value → M (Option Value)) (calls : C
   all_turns : (n : ℕ) (test : M Value) (body : M (Unit {0})) → Gives IsSmall test → Goes body → Goes (turns n test body)
   all_turns zero test body p g = over Any (stopped Fuel)
   all_turns (suc n) test body p g =
-      paid _ (then_on IsSmall Any test _ p (λ v q. choice (holds v) (body >> turns n test body) (gives tt) (one_by_one Any body (turns n test body) g (all_turns n test body p g)) (done Any tt tt)))
+      paid _ (then_on IsSmall Any test _ p
+      (λ v q. choice (holds v) (body >> turns n test body) (gives tt) (one_by_one Any body (turns n test body) g (all_turns n test body p g)) (done Any tt tt)))
 
   run_else : (t : State) (r : Run (Unit {0})) (other : M (Unit {0})) → Holds t → Result Any r → Goes other → Result Any (or_else t r other)
   run_else t _ other h (on a u k p) g = on a u k p

@@ -11,9 +11,9 @@ use Rattle.fab_tree.specs.declared.resolved.Resolved.{Resolved}
 use Rattle.fab_tree.specs.declared.start.Start.{Start}
 use Rattle.fab_tree.specs.Sites.{site_places}
 use Rattle.fab_language.specs.Numbers.{resolved}
-use Rattle.fab_settings.specs.SiteOrder.{Sites, of_expression, of_right, of_statement_step, of_statement, of_result, of_method, of_methods}
-use Rattle.fab_settings.specs.SiteOrder as order
-use Rattle.fab_settings.proofs.SitesInOrder.{methods_orders}
+use Rattle.fab_numbers.specs.SiteOrder.{Sites, of_expression, of_right, of_statement_step, of_statement, of_result, of_method, of_methods}
+use Rattle.fab_numbers.specs.SiteOrder as order
+use Rattle.fab_numbers.proofs.SitesInOrder.{methods_orders}
 use Rattle.fab_laws.specs.Kinds.{Kind, parameter_kinds, class_kinds, local_kinds, Claim, given, counted, made, each_given, kind_of, right_claims, all_of, statement_claims_step, statement_claims, block_claims, method_claims, claims_of}
 use Rattle.fab_laws.proofs.Values.{all_joined, all_more}
 use Rattle.fab_shapes.proofs.Lists.{in_both, in_each, of_each}
@@ -97,7 +97,10 @@ module _ (limit : ℕ) where
     statements = ind-Statement Stands (λ x y is. record {
       makes =
           subst (λ z. AllBelow (of_statement (roll-Statement z)) → AllMade (claims (roll-Statement z))) is
-          (rw (fold-roll-Statement Sites of_statement_step (pieces y), fold-roll-Statement (List Claim) (statement_claims_step r.classes r.methods kinds) (pieces y)) (layer y));
+          (rw (
+            fold-roll-Statement Sites of_statement_step (pieces y),
+            fold-roll-Statement (List Claim) (statement_claims_step r.classes r.methods kinds) (pieces y),
+          ) (layer y));
     })
 
     block_made : (xs : List Statement) → AllBelow (flat_map of_statement xs) → AllMade (block_claims r.classes r.methods kinds xs)
@@ -116,4 +119,6 @@ module _ (limit : ℕ) where
         (all_more (λ m. AllBelow (of_method m)) (λ m. AllMade (method_claims r.classes r.methods m)) r.methods method_made (in_each IsBelow of_method r.methods h))
 
   pub made_below : (s : Start) → length (site_places s.program) ≤ limit → AllByRecursion MakesBelow (claims_of (resolved s))
-  made_below s h = all_made (resolved s) (subst AllBelow (sym ((methods_orders s s.program.methods).order 0)) (counted_below 0 (site_places s.program) (omega (arith, h))))
+  made_below s h =
+      all_made (resolved s)
+      (subst AllBelow (sym ((methods_orders s s.program.methods).order 0)) (counted_below 0 (site_places s.program) (omega (arith, h))))
