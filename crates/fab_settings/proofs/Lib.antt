@@ -5,3 +5,4 @@ pub mod Nodes
 pub mod Given
 pub mod Meanings
 pub mod Gives
+pub mod Posts

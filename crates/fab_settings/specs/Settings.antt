@@ -20,6 +20,7 @@ use Rattle.fab_places.specs.Places.{AreRights}
 use Rattle.fab_rights.specs.declared.rights.Rights.{Rights}
 use Rattle.fab_wire.specs.Reading.{read_message}
 use Rattle.fab_attempts.specs.Sessions.{requests_of}
+use Rattle.fab_world.specs.Crashing.{CrashLine}
 use Rattle.fab_world.specs.Machine.{Setting}
 use Rattle.fab_settings.specs.Numbers.{numbers_of}
 
@@ -30,6 +31,10 @@ is_hostile_node r n = unwrap_or (option_map is_hostile (role_of r n)) false
 -- what a node has to post and to whom, in the order of the text
 abbrev pub posts_of : Resolved → ℕ → List (ℕ × List ℕ)
 posts_of r h = map (λ p. (p.receiver, p.bytes)) (filter (λ p. p.sender == h) r.posts)
+
+-- the crash lines of a node, in the order of the text
+abbrev pub lines_of : Resolved → ℕ → List CrashLine
+lines_of r n = map (λ c. record { after = c.after; keep = c.keep }) (filter (λ c. c.node == n) r.crashes)
 
 -- a worker's request of this number, from 1
 abbrev pub request_at : Resolved → ℕ → ℕ → Option Request

@@ -1,9 +1,12 @@
 //! What holds of every accepted bundle.
+ghost use Rattle.std.specs.Prelude.{ℕ, List};
 ghost use Rattle.fab_tree.specs.declared.start.Start.{Start};
 ghost use Rattle.fab_language.specs.Numbers.{resolved};
 ghost use Rattle.fab_rights.specs.declared.rights.Rights.{Rights};
-ghost use Rattle.fab_world.specs.Serial.{IsEnding, IsEvaluation, IsLeftOut, IsOnce, IsSerial, IsSetting};
-ghost use Rattle.fab_settings.specs.Settings.{IsAcceptedWith, setting_of};
+ghost use Rattle.fab_world.specs.Crashing.{IsOver};
+ghost use Rattle.fab_world.specs.Machine.{Move};
+ghost use Rattle.fab_world.specs.Serial.{ArePosts, IsEnding, IsEvaluation, IsLeftOut, IsLive, IsOnce, IsRun, IsSerial, IsSetting, IsWaiting, world_of};
+ghost use Rattle.fab_settings.specs.Settings.{IsAcceptedWith, lines_of, setting_of};
 
 /// The setting of an accepted bundle has what integrity asks of a setting: at most 64 nodes, each a worker
 /// or a store; classes that only workers write and only stores hold; counts that messages can spell; roots
@@ -27,4 +30,15 @@ pub fn bundles_are_serial()
     ensures ends { (s : Start) (rights : Rights) → IsAcceptedWith s rights → IsEnding (setting_of (resolved s) rights) }
     ensures once { (s : Start) (rights : Rights) → IsAcceptedWith s rights → IsOnce (setting_of (resolved s) rights) }
     ensures left_out { (s : Start) (rights : Rights) → IsAcceptedWith s rights → IsLeftOut (setting_of (resolved s) rights) }
+{}
+
+/// And its runs go on. Nodes that aren't declared hostile have nothing to post. So as long as a worker that
+/// isn't hostile and hasn't failed for good has a request left, some event may be done whole, or a post may
+/// come. And once no event is due by the crash lines of the bundle, each request of such a worker has an
+/// outcome.
+pub fn bundles_go_on()
+    ensures posts { (s : Start) (rights : Rights) → IsAcceptedWith s rights → ArePosts (setting_of (resolved s) rights) }
+    ensures live { (s : Start) (rights : Rights) → IsAcceptedWith s rights → IsLive (setting_of (resolved s) rights) }
+    ensures left { (s : Start) (rights : Rights) → IsAcceptedWith s rights → (moves : List Move) → IsRun (setting_of (resolved s) rights) moves
+        → IsOver (setting_of (resolved s) rights) (lines_of (resolved s)) moves → (n : ℕ) → IsWaiting (setting_of (resolved s) rights) (world_of (setting_of (resolved s) rights) moves) n → ⊥ }
 {}
