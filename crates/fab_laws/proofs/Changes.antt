@@ -133,7 +133,7 @@ module _ (known : FlatMap) (program : Resolved) (tid : Tid) where
       let n = length-append os (o ∷ []) in
       omega arith
 
-  few_after : (site : ℕ) (o : Oid) (ts : List (ℕ × Oid)) → is_full o (touched ts) ≡ false → length (touched ts) ≤ 1024 → length (touched (noted site o ts)) ≤ 1024
+  pub few_after : (site : ℕ) (o : Oid) (ts : List (ℕ × Oid)) → is_full o (touched ts) ≡ false → length (touched ts) ≤ 1024 → length (touched (noted site o ts)) ≤ 1024
   few_after site o ts f le = elim (is_among o (touched ts)) as (λ b. is_among o (touched ts) ≡ b → length (touched (noted site o ts)) ≤ 1024) [
     | true ↦ λ i. let e : touched (noted site o ts) ≡ touched ts = touched_list site o ts ∙ ap (λ b. if b then touched ts else touched ts ++ o ∷ []) i in subst (λ l. length l ≤ 1024) (sym e) le
     | false ↦ λ i. let e : touched (noted site o ts) ≡ touched ts ++ o ∷ [] = touched_list site o ts ∙ ap (λ b. if b then touched ts else touched ts ++ o ∷ []) i in subst (λ l. length l ≤ 1024) (sym e) (room o (touched ts) f i)

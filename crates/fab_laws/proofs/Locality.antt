@@ -47,11 +47,11 @@ pub record Longer (t u : State) : Type 0 where
 joined : {A : Type 0} (xs ys zs : List A) → (more : List A) × (ys ≡ xs ++ more) → (more : List A) × (zs ≡ ys ++ more) → (more : List A) × (zs ≡ xs ++ more)
 joined xs ys zs m n = (m.0 ++ n.0, n.1 ∙ ap (λ l. l ++ n.0) m.1 ∙ append_assoc xs m.0 n.0)
 
-longer : (t u v : State) → Longer t u → Longer u v → Longer t v
+pub longer : (t u v : State) → Longer t u → Longer u v → Longer t v
 longer t u v m n = record { touches = joined t.touches u.touches v.touches m.touches n.touches; downs = joined t.downs u.downs v.downs m.downs n.downs }
 
 -- nothing was noted
-as_long : (t u : State) → u.touches ≡ t.touches → u.downs ≡ t.downs → Longer t u
+pub as_long : (t u : State) → u.touches ≡ t.touches → u.downs ≡ t.downs → Longer t u
 as_long t u e g = record { touches = ([], e ∙ sym (append-nil t.touches)); downs = ([], g ∙ sym (append-nil t.downs)) }
 
 get_here : (o p : Oid) (y : Object) (m : FlatMap) → is_same o p ≡ true → get (put o y m) p ≡ Some y
@@ -138,14 +138,14 @@ module _ (few many : FlatMap) where
   onward_then r q g (alike s) part h = alike_then r q g s part h
   onward_then _ q g (short site o t p l) part h = short site o t (and_then p g) (longer t (state_behind p) (state_behind (and_then p g)) l (grows_on p g h))
 
-  bind : {A B : Type 0} (m : M A) (g : A → M B) → Keeps m → ((a : A) → Keeps (g a)) → Keeps (m >>= g)
+  pub bind : {A B : Type 0} (m : M A) (g : A → M B) → Keeps m → ((a : A) → Keeps (g a)) → Keeps (m >>= g)
   bind m g h k = record {
     grows = λ t. grows_then t (m t) g (h.grows t) k;
     by = λ t l n w. run_then (m t) (m (over l t)) g (h.by t l n) k w;
     onward = λ part t l n. onward_then (m t) (m (over l t)) g (h.onward part t l n) part k;
   }
 
-  then_ : {A B : Type 0} (m : M A) (n : M B) → Keeps m → Keeps n → Keeps (m >> n)
+  pub then_ : {A B : Type 0} (m : M A) (n : M B) → Keeps m → Keeps n → Keeps (m >> n)
   then_ m n h k = record {
     grows = λ t. grows_then t (m t) (λ _. n) (h.grows t) (λ _. k);
     by = λ t l e w. run_then (m t) (m (over l t)) (λ _. n) (h.by t l e) (λ _. k) w;
@@ -167,7 +167,7 @@ module _ (few many : FlatMap) where
   noted_downs : (site : ℕ) (v : Value) → Keeps (noted_down site v)
   noted_downs site v = sure (noted_down site v) (λ t. record { touches = ([], sym (append-nil t.touches)); downs = ((site, v) ∷ [], refl) }) (λ t k n. both_go v (record t { downs = t.downs ++ (site, v) ∷ [] }) k n)
 
-  charges : Keeps charge
+  pub charges : Keeps charge
   charges = sure charge (λ t. grows_by (t.fuel == 0) t) (λ t k n. by_charge (t.fuel == 0) t k n)
     where
       grows_by : (b : Bool) (t : State) → Longer t (state_behind {A = Unit {0}} (cond b (ends (stopped Fuel) t) (goes tt (record t { fuel = t.fuel - 1 }))))
@@ -245,7 +245,7 @@ module _ (few many : FlatMap) where
   onward_reached None site o t k part n e = missed (get k o) site o t k n
   onward_reached (Some x) site o t k part n e = alike (by_reached (Some x) site o t k n e (part_made (is_among o t.heap.made) site o x t part))
 
-  accesses : (site : ℕ) (o : Oid) → Keeps (access site o)
+  pub accesses : (site : ℕ) (o : Oid) → Keeps (access site o)
   accesses site o = record {
     grows = λ t. grows_reached (get t.heap.rows o) site o t;
     by = λ t k n w. by_reached (get t.heap.rows o) site o t k n refl w;
@@ -372,13 +372,13 @@ module _ (few many : FlatMap) where
   by_form (f.Chain k others) = bind (value k.0) _ k.1 (λ v. chains _ v (operands others))
   by_form (f.Compared k comparison l) = bind (value k.0) _ k.1 (λ a. bind (value l.0) _ l.1 (λ b. given _))
 
-  expressions : (e : Expression) → Keeps (value e)
+  pub expressions : (e : Expression) → Keeps (value e)
   expressions = ind-Expression (λ x. Keeps (form_value x)) (λ x. Keeps (value x)) (λ x. Keeps (operand_value x).1)
       (λ x y is. subst (λ z. Keeps (form_value (roll-Form z))) is (rw (fold-roll-Form (M Value) (M Value) (Operator × M Value) form_step (λ e. e.form) (λ u. (u.operator, u.operand)) (in_form y)) (by_form y)))
       (λ x y is. subst (λ z. Keeps (value (roll-Expression z))) is (rw (fold-roll-Expression (M Value) (M Value) (Operator × M Value) form_step (λ e. e.form) (λ u. (u.operator, u.operand)) (map-Expression KnownForm KnownValue KnownOperand Form Expression Operand (λ k. k.0) (λ k. k.0) (λ k. k.0) y)) y.form.1))
       (λ x y is. subst (λ z. Keeps (operand_value (roll-Operand z)).1) is (rw (fold-roll-Operand (M Value) (M Value) (Operator × M Value) form_step (λ e. e.form) (λ u. (u.operator, u.operand)) (map-Operand KnownForm KnownValue KnownOperand Form Expression Operand (λ k. k.0) (λ k. k.0) (λ k. k.0) y)) y.operand.1))
 
-  all_values : (es : List Expression) → Keeps (values es)
+  pub all_values : (es : List Expression) → Keeps (values es)
   all_values [] = given []
   all_values (e ∷ es) = bind (value e) _ (expressions e) (λ v. bind (values es) _ (all_values es) (λ vs. given (v ∷ vs)))
 
@@ -441,7 +441,7 @@ module _ (few many : FlatMap) where
   }
 
   module _ (tid : Tid) (call : ℕ → List Value → M (Option Value)) (calls : (m : ℕ) (vs : List Value) → Keeps (call m vs)) where
-    all_rights : (x : Right) → Keeps (right tid call x)
+    pub all_rights : (x : Right) → Keeps (right tid call x)
     all_rights (rights.Plain e) = expressions e
     all_rights (rights.Call m args) = bind (values args) _ (all_values args) (λ vs. bind (call m.number vs) _ (calls m.number vs) (λ result. given _))
     all_rights (rights.New class store args site at) = bind (values args) _ (all_values args) (λ vs. creates tid store.number class.number site vs)
@@ -466,19 +466,19 @@ module _ (few many : FlatMap) where
     layer (s.Atomic label a b at) = then_ charge _ charges (atomics _ _ (orders _ (each a)) (orders _ (each b)))
     layer (s.Fail at) = then_ charge _ charges (ended failed)
 
-    statements : (x : Statement) → Keeps (statement tid call x)
+    pub statements : (x : Statement) → Keeps (statement tid call x)
     statements = ind-Statement (λ x. Keeps (statement tid call x)) (λ x y is.
         subst (λ z. Keeps (statement tid call (roll-Statement z))) is (rw (fold-roll-Statement (M (Unit {0})) (statement_step tid call) (parts y)) (layer y)))
 
-    blocks : (xs : List Statement) → Keeps (block tid call xs)
+    pub blocks : (xs : List Statement) → Keeps (block tid call xs)
     blocks [] = given tt
     blocks (x ∷ xs) = then_ (statement tid call x) (block tid call xs) (statements x) (blocks xs)
 
-    all_returned : (r : Option Return) → Keeps (returned r)
+    pub all_returned : (r : Option Return) → Keeps (returned r)
     all_returned None = given None
     all_returned (Some r) = bind (value r.value) _ (expressions r.value) (λ v. given (Some v))
 
-    bodies : (m : Method) → Keeps (body_of tid call m)
+    pub bodies : (m : Method) → Keeps (body_of tid call m)
     bodies m = then_ (block tid call m.body) _ (blocks m.body) (all_returned m.result)
 
   -- ---- calls and requests
@@ -526,7 +526,7 @@ module _ (few many : FlatMap) where
             onward_back t.locals (body_of tid call m inner) (body_of tid call m (over k inner)) (body.onward part inner k n);
       }
 
-  all_calls : (program : Resolved) (tid : Tid) (depth m : ℕ) (args : List Value) → Keeps (called program tid depth m args)
+  pub all_calls : (program : Resolved) (tid : Tid) (depth m : ℕ) (args : List Value) → Keeps (called program tid depth m args)
   all_calls program tid zero m args = ended (stopped Depth)
   all_calls program tid (suc depth) m args = enters tid (called program tid depth) (all_calls program tid depth) (slice_get program.methods m) args
 

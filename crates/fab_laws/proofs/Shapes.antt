@@ -31,21 +31,21 @@ use Rattle.fab_laws.proofs.Walk.{claims_at, Result, on, off, Finds, made_one, to
 
 -- ---- values in turn
 
-suit_at : (ks : List Kind) (vs : List Value) (i : ℕ) → AllSuit ks vs → suits (kind_at ks i) (unwrap_or (slice_get vs i) Null) ≡ true
+pub suit_at : (ks : List Kind) (vs : List Value) (i : ℕ) → AllSuit ks vs → suits (kind_at ks i) (unwrap_or (slice_get vs i) Null) ≡ true
 suit_at [] [] i h = refl
 suit_at [] (v ∷ vs) i h = absurd h
 suit_at (k ∷ ks) [] i h = absurd h
 suit_at (k ∷ ks) (v ∷ vs) zero h = h.0
 suit_at (k ∷ ks) (v ∷ vs) (suc i) h = suit_at ks vs i h.1
 
-suit_set : (ks : List Kind) (vs : List Value) (i : ℕ) (v : Value) → suits (kind_at ks i) v ≡ true → AllSuit ks vs → AllSuit ks (slice_set vs i v)
+pub suit_set : (ks : List Kind) (vs : List Value) (i : ℕ) (v : Value) → suits (kind_at ks i) v ≡ true → AllSuit ks vs → AllSuit ks (slice_set vs i v)
 suit_set [] [] i v p h = h
 suit_set [] (u ∷ vs) i v p h = absurd h
 suit_set (k ∷ ks) [] i v p h = absurd h
 suit_set (k ∷ ks) (u ∷ vs) zero v p h = (p, h.1)
 suit_set (k ∷ ks) (u ∷ vs) (suc i) v p h = (h.0, suit_set ks vs i v p h.1)
 
-suit_length : (ks : List Kind) (vs : List Value) → AllSuit ks vs → length ks ≡ length vs
+pub suit_length : (ks : List Kind) (vs : List Value) → AllSuit ks vs → length ks ≡ length vs
 suit_length [] [] h = refl
 suit_length [] (v ∷ vs) h = absurd h
 suit_length (k ∷ ks) [] h = absurd h
@@ -59,20 +59,20 @@ suit_defaults : (ls : List Local) → AllSuit (map (λ (x : Local). kind_of_sort
 suit_defaults [] = tt
 suit_defaults (l ∷ ls) = (of_default l.sort, suit_defaults ls)
 
-suit_start : (n : ℕ) (ls : List Local) (args : List Value) → AllSuit (take n (map (λ (x : Local). kind_of_sort x.sort) ls)) args → AllSuit (map (λ (x : Local). kind_of_sort x.sort) ls) (args ++ map (λ (x : Local). default x.sort) (drop (length args) ls))
+pub suit_start : (n : ℕ) (ls : List Local) (args : List Value) → AllSuit (take n (map (λ (x : Local). kind_of_sort x.sort) ls)) args → AllSuit (map (λ (x : Local). kind_of_sort x.sort) ls) (args ++ map (λ (x : Local). default x.sort) (drop (length args) ls))
 suit_start n ls [] h = suit_defaults ls
 suit_start zero ls (v ∷ vs) h = absurd h
 suit_start (suc n) [] (v ∷ vs) h = absurd h
 suit_start (suc n) (l ∷ ls) (v ∷ vs) h = (h.0, suit_start n ls vs h.1)
 
-eq_from : (x y : ℕ) → (x == y) ≡ true → x ≡ y
+pub eq_from : (x y : ℕ) → (x == y) ≡ true → x ≡ y
 eq_from x y h = grind (arith, nat_tests)
 
-eq_self : (n : ℕ) → (n == n) ≡ true
+pub eq_self : (n : ℕ) → (n == n) ≡ true
 eq_self n = grind (arith, nat_tests)
 
 -- what takes a value of a kind may hold it
-taken : (taker k : Kind) (v : Value) → takes taker k ≡ true → suits k v ≡ true → suits taker v ≡ true
+pub taken : (taker k : Kind) (v : Value) → takes taker k ≡ true → suits k v ≡ true → suits taker v ≡ true
 taken number number v h p = p
 taken number (object y) v h p = absurd (true≢false (sym h))
 taken number nothing v h p = absurd (true≢false (sym h))
@@ -91,7 +91,7 @@ taken unknown k v h p = absurd (true≢false (sym h))
 
 -- ---- objects
 
-put_shaped : (classes : List Class) (o : Oid) (y : Object) (m : FlatMap) → AreShaped classes m → IsShaped classes o y → AreShaped classes (put o y m)
+pub put_shaped : (classes : List Class) (o : Oid) (y : Object) (m : FlatMap) → AreShaped classes m → IsShaped classes o y → AreShaped classes (put o y m)
 put_shaped classes o y m a i p z e = by_same (is_same o p) refl
   where
     one : (x : Object) → Some x ≡ Some z → x ≡ z
@@ -104,14 +104,14 @@ put_shaped classes o y m a i p z e = by_same (is_same o p) refl
     by_same false j = a p z (sym (get-put_other o p y m j) ∙ e)
 
 -- a field of an object that is had as one of a kind
-field_suits : (classes : List Class) (k : Kind) (field : ℕ) (o : Oid) (x : Object) → suits k (Ref o) ≡ true → IsShaped classes o x → suits (field_kind classes k field) (field_of field x) ≡ true
+pub field_suits : (classes : List Class) (k : Kind) (field : ℕ) (o : Oid) (x : Object) → suits k (Ref o) ≡ true → IsShaped classes o x → suits (field_kind classes k field) (field_of field x) ≡ true
 field_suits classes number field o x p i = refl
 field_suits classes (object c) field o x p i = subst (λ d. suits (kind_at (class_kinds classes d) field) (field_of field x) ≡ true) (eq_from o.class c p) (suit_at (class_kinds classes o.class) x.fields field i.fields)
 field_suits classes nothing field o x p i = refl
 field_suits classes unknown field o x p i = refl
 
 -- an object with a value in a field that takes it
-with_suits : (classes : List Class) (k l : Kind) (field : ℕ) (o : Oid) (v : Value) (x : Object) → suits k (Ref o) ≡ true → takes (field_kind classes k field) l ≡ true → suits l v ≡ true → IsShaped classes o x → IsShaped classes o (with_field field v x)
+pub with_suits : (classes : List Class) (k l : Kind) (field : ℕ) (o : Oid) (v : Value) (x : Object) → suits k (Ref o) ≡ true → takes (field_kind classes k field) l ≡ true → suits l v ≡ true → IsShaped classes o x → IsShaped classes o (with_field field v x)
 with_suits classes number l field o v x p m q i = absurd (true≢false (sym m))
 with_suits classes (object c) l field o v x p m q i = record {
   class = i.class;
@@ -126,16 +126,16 @@ module _ (program : Resolved) (tid : Tid) where
     pub locals : AllSuit ls t.locals
     pub rows : AreShaped program.classes t.heap.rows
 
-  abbrev Has : State → Kind → Value → Type 0
+  abbrev pub Has : State → Kind → Value → Type 0
   Has t k v = suits k v ≡ true
 
-  abbrev Then : State → State → Type 0
+  abbrev pub Then : State → State → Type 0
   Then t u = Unit {0}
 
-  abbrev Lacks : ℕ → Oid → Type 0
+  abbrev pub Lacks : ℕ → Oid → Type 0
   Lacks site o = Unit {0}
 
-  abbrev Meets : Claim → Type 0
+  abbrev pub Meets : Claim → Type 0
   Meets c = is_met c ≡ true
 
   abbrev Next : List Kind → State → State → Type 0
@@ -151,10 +151,10 @@ module _ (program : Resolved) (tid : Tid) where
   all_suit t (k ∷ ks) [] e h = absurd (omega arith)
   all_suit t (k ∷ ks) (v ∷ vs) e h = (h.0, all_suit t ks vs (omega arith) h.1)
 
-  given_suit : (t : State) (ks : List Kind) (vs : List Value) → w.AreGiven program tid Shaped Has Then Lacks Meets t ks vs → AllSuit ks vs
+  pub given_suit : (t : State) (ks : List Kind) (vs : List Value) → w.AreGiven program tid Shaped Has Then Lacks Meets t ks vs → AllSuit ks vs
   given_suit t ks vs g = all_suit t ks vs (eq_from (length ks) (length vs) g.count) g.each
 
-  each_suit : (t : State) (ks : List Kind) (vs : List Value) → AllSuit ks vs → w.AreGiven program tid Shaped Has Then Lacks Meets t ks vs
+  pub each_suit : (t : State) (ks : List Kind) (vs : List Value) → AllSuit ks vs → w.AreGiven program tid Shaped Has Then Lacks Meets t ks vs
   each_suit t ks vs h = record { count = same ks vs h; each = each ks vs h }
     where
       same : (ks : List Kind) (vs : List Value) → AllSuit ks vs → (length ks == length vs) ≡ true
@@ -173,7 +173,7 @@ module _ (program : Resolved) (tid : Tid) where
   written_shaped ls t o y ts _ h i (again c) = nexts ls t _ h.locals (put_shaped program.classes o y t.heap.rows h.rows i)
   written_shaped ls t o y ts _ h i (fresh c s) = nexts ls t _ h.locals (put_shaped program.classes o y t.heap.rows h.rows i)
 
-  kept : w.IsKept program tid Shaped Has Then Lacks Meets
+  pub kept : w.IsKept program tid Shaped Has Then Lacks Meets
   kept = record {
     same = λ t. tt;
     then_on = λ t u v g h. tt;
@@ -207,7 +207,7 @@ all_met [] h = tt
 all_met (c ∷ cs) h = let p = and_parts (is_met c) (list_all is_met cs) h in (p.0, all_met cs p.1)
 
 module _ (program : Resolved) (fitting : is_fitting program ≡ true) where
-  met : (i : ℕ) (m : Method) → slice_get program.methods i ≡ Some m → AllByRecursion (λ c. is_met c ≡ true) (method_claims program.classes program.methods m)
+  pub met : (i : ℕ) (m : Method) → slice_get program.methods i ≡ Some m → AllByRecursion (λ c. is_met c ≡ true) (method_claims program.classes program.methods m)
   met i m e = claims_at (λ c. is_met c ≡ true) (method_claims program.classes program.methods) program.methods i m (all_met (claims_of program) fitting) e
 
   -- ---- requests

@@ -360,7 +360,7 @@ module _ (program : Resolved) (tid : Tid) (Holds : List Kind → State → Type 
       each_still t u [] (v ∷ vs) n h = (kept.still t u unknown v n h.0, each_still t u [] vs n h.1)
       each_still t u (k ∷ ks) (v ∷ vs) n h = (kept.still t u k v n h.0, each_still t u ks vs n h.1)
 
-      all_values : (es : List Expression) (t : State) → Holds ls t → Result ls t (λ u. Valued u (map kind es)) (values es t)
+      pub all_values : (es : List Expression) (t : State) → Holds ls t → Result ls t (λ u. Valued u (map kind es)) (values es t)
       all_values [] t h = done ls t (λ u. Valued u []) [] h (record { count = refl; each = tt })
       all_values (e ∷ es) t h =
           run_then ls t (λ u. Has u (kind e)) (λ u. Valued u (kind e ∷ map kind es)) (value e t) (λ v. values es >>= λ vs. gives (v ∷ vs)) ((expressions e).by t h) (λ v u n i.
@@ -373,7 +373,7 @@ module _ (program : Resolved) (tid : Tid) (Holds : List Kind → State → Type 
       fit_each t [] (k ∷ ks) (v ∷ vs) m e h = (kept.fitted t unknown k v m.0 h.0, fit_each t [] ks vs m.1 (omega arith) h.1)
       fit_each t (taker ∷ takers) (k ∷ ks) (v ∷ vs) m e h = (kept.fitted t taker k v m.0 h.0, fit_each t takers ks vs m.1 (omega arith) h.1)
 
-      given_to : (t : State) (takers ks : List Kind) (vs : List Value) → AllMet (all_given takers ks) → Valued t ks vs → AreGiven t takers vs
+      pub given_to : (t : State) (takers ks : List Kind) (vs : List Value) → AllMet (all_given takers ks) → Valued t ks vs → AreGiven t takers vs
       given_to t takers ks vs m h = record {
         count = subst (λ n. Meets (counted (length takers) n)) (sym h.count) m.0;
         each = fit_each t takers ks vs m.1 h.count h.each;
@@ -407,7 +407,7 @@ module _ (program : Resolved) (tid : Tid) (Holds : List Kind → State → Type 
           let n = kept.downed ls t k site v h i in
           on v (record t { downs = t.downs ++ (site, v) ∷ [] }) n (kept.still t (record t { downs = t.downs ++ (site, v) ∷ [] }) k v n.later i)
 
-      all_rights : (r : Right) (t : State) → AllMet (right_claims program.classes program.methods ls r) → Holds ls t → Result ls t (λ u. Has u (right_kind program.classes program.methods ls r)) (right tid call r t)
+      pub all_rights : (r : Right) (t : State) → AllMet (right_claims program.classes program.methods ls r) → Holds ls t → Result ls t (λ u. Has u (right_kind program.classes program.methods ls r)) (right tid call r t)
       all_rights (rights.Plain e) t c h = (expressions ls e).by t h
       all_rights (rights.Call m args) t c h = run_call (λ u. Has u (result_kind (slice_get program.methods m.number))) m.number args t (λ r. gives (unwrap_or r Null)) c h (λ r u o i. done ls u (λ w. Has w (result_kind (slice_get program.methods m.number))) (unwrap_or r Null) o i)
       all_rights (rights.New class store args site at) t c h = run_values (λ u. Has u (object class.number)) args t (class_kinds program.classes class.number) (create tid store.number class.number site) c.1 h (λ vs u o i. creates ls u store.number class.number site vs o c.0 i)
@@ -488,7 +488,7 @@ module _ (program : Resolved) (tid : Tid) (Holds : List Kind → State → Type 
           paid _ (atomics _ _ (orders _ (each a p.0)) (orders _ (each b p.1)))
       layer (s.Fail at) c = paid _ (record { by = λ t h. over ls t Any failed h tt })
 
-      statements : (x : Statement) → Stands x
+      pub statements : (x : Statement) → Stands x
       statements = ind-Statement Stands (λ x y is. record {
         goes =
             subst (λ z. AllMet (claims (roll-Statement z)) → Goes (statement tid call (roll-Statement z))) is (rw (fold-roll-Statement (M (Unit {0})) (statement_step tid call) (parts y), fold-roll-Statement (List Claim) claims_step (parts y)) (layer y));
@@ -500,14 +500,14 @@ module _ (program : Resolved) (tid : Tid) (Holds : List Kind → State → Type 
           let p = all_parts Meets (claims x) (block_claims program.classes program.methods ls xs) c in
           record { by = λ t h. run_then ls t Any Any (statement tid call x t) (λ _. block tid call xs) (((statements x).goes p.0).by t h) (λ a u n q. (blocks xs p.1).by u n.holds) }
 
-      all_returned : (r : Option Return) (t : State) → Holds ls t → Result ls t (λ u v. Has u (returned_kind program.classes program.methods ls r) (unwrap_or v Null)) (returned r t)
+      pub all_returned : (r : Option Return) (t : State) → Holds ls t → Result ls t (λ u v. Has u (returned_kind program.classes program.methods ls r) (unwrap_or v Null)) (returned r t)
       all_returned None t h = done ls t (λ u v. Has u nothing (unwrap_or v Null)) None h (kept.of_null t)
       all_returned (Some r) t h = run_value (λ u v. Has u (kind ls r.value) (unwrap_or v Null)) r.value t (λ v. gives (Some v)) h (λ v u o i. done ls u (λ w x. Has w (kind ls r.value) (unwrap_or x Null)) (Some v) o i)
 
     -- ---- methods and calls
 
     module _ (call : ℕ → List Value → M (Option Value)) (calls : Calls call) (m : Method) (c : AllMet (method_claims program.classes program.methods m)) where
-      bodies : (t : State) → Holds (local_kinds m) t → Result (local_kinds m) t (Answers (Some m)) (body_of tid call m t)
+      pub bodies : (t : State) → Holds (local_kinds m) t → Result (local_kinds m) t (Answers (Some m)) (body_of tid call m t)
       bodies t h =
           let ls = local_kinds m in
           run_then ls t Any (Answers (Some m)) (block tid call m.body t) (λ _. returned m.result) ((blocks ls call calls m.body c.1).by t h) (λ a u n p.
@@ -522,7 +522,7 @@ module _ (program : Resolved) (tid : Tid) (Holds : List Kind → State → Type 
     run_back ls ms t u k _ h n (off e w l i) = off e (record w { locals = t.locals }) (kept.left ls ms t w h (kept.then_on t u w n.later l.later) l.holds) i
 
     module _ (met : (i : ℕ) (m : Method) → slice_get program.methods i ≡ Some m → AllMet (method_claims program.classes program.methods m)) where
-      enters : (call : ℕ → List Value → M (Option Value)) → Calls call → (i : ℕ) (m : Option Method) → slice_get program.methods i ≡ m → (args : List Value) (ls : List Kind) (t : State) → Holds ls t → AreGiven t (parameter_kinds m) args → Result ls t (Answers m) (entered tid call m args t)
+      pub enters : (call : ℕ → List Value → M (Option Value)) → Calls call → (i : ℕ) (m : Option Method) → slice_get program.methods i ≡ m → (args : List Value) (ls : List Kind) (t : State) → Holds ls t → AreGiven t (parameter_kinds m) args → Result ls t (Answers m) (entered tid call m args t)
       enters call calls i None e args ls t h g = done ls t (Answers None) None h (kept.of_null t)
       enters call calls i (Some m) e args ls t h g =
           let n = kept.entered ls t m args h g in

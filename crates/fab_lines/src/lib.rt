@@ -5,5 +5,5 @@
 mod names;
 mod objects;
 
-pub use names::{node_name, put_name};
-pub use objects::{put_objects, put_result, put_value, put_word, stop_word};
+pub use names::{class_name, name_at, node_name, put_hex, put_name};
+pub use objects::{put_objects, put_result, put_value, put_values, put_word, stop_word};

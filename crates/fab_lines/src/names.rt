@@ -24,7 +24,7 @@ fn digit(number: u8) -> u8
 }
 
 /// The two digits of each byte.
-fn put_hex(out: &mut Seq<u8>, bytes: &[u8]) -> Result<(), NoMemory>
+pub fn put_hex(out: &mut Seq<u8>, bytes: &[u8]) -> Result<(), NoMemory>
     ensures { OnOk result (out.new ≡ out.old ++ hex bytes.now) }
 {
     let mut rest = bytes;
@@ -111,17 +111,17 @@ pub fn put_name(out: &mut Seq<u8>, start: &Resolved, oid: Oid) -> Result<(), NoM
 }
 
 /// Whether a principal is the worker or store of this number.
-fn is_node(principal: &Principal, number: u16) -> bool
+fn is_node(principal: &Principal, number: usize) -> bool
     ensures { result ≡ has_number number principal.now.node }
 {
     match principal.node {
         None => false,
-        Some(node) => number == node,
+        Some(node) => number == usize::from(node),
     }
 }
 
 /// The worker or store of this number.
-fn node_of(nodes: &[Principal], number: u16) -> Option<&Principal>
+fn node_of(nodes: &[Principal], number: usize) -> Option<&Principal>
     ensures { option_copied result ≡ find (λ x. has_number number x.node) nodes.now }
 {
     nodes.iter().find(|x| is_node(x, number))
@@ -131,6 +131,13 @@ fn node_of(nodes: &[Principal], number: u16) -> Option<&Principal>
 pub fn node_name(start: &Resolved, number: u16) -> &str
     ensures { result.now ≡ node_text start.now number }
 {
+    name_at(start, usize::from(number))
+}
+
+/// The name of the worker or store that stands here among them, or nothing where there is none.
+pub fn name_at(start: &Resolved, number: usize) -> &str
+    ensures { result.now ≡ node_text start.now number }
+{
     match node_of(start.nodes.as_slice(), number) {
         Some(principal) => principal.name.text.as_str(),
         None => "",
@@ -138,7 +145,7 @@ pub fn node_name(start: &Resolved, number: u16) -> &str
 }
 
 /// The name of the class of this number.
-pub(crate) fn class_name(start: &Resolved, number: u16) -> &str
+pub fn class_name(start: &Resolved, number: u16) -> &str
     ensures { result.now ≡ class_text start.now number }
 {
     match start.classes.as_slice().get(usize::from(number)) {

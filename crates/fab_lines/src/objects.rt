@@ -67,7 +67,7 @@ pub fn put_word(out: &mut Seq<u8>, word: &str) -> Result<(), NoMemory>
 }
 
 /// Each value behind a space.
-fn put_values(
+pub fn put_values(
     alloc: Global,
     out: &mut Seq<u8>,
     start: &Resolved,

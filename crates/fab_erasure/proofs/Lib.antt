@@ -1,0 +1,11 @@
+pub mod AllSeen
+pub mod Views
+pub mod Near
+pub mod Steps
+pub mod Settles
+pub mod Expressions
+pub mod Arguments
+pub mod Rights
+pub mod Statements
+pub mod Methods
+pub mod Agrees
