@@ -1,5 +1,5 @@
 -- Answers on the way: a Fetch without the right, an inquiry of what wasn't decided, and an object of a store that wasn't asked.
-use Rattle.std.proofs.Common.{◌≡◌, ℕ, List, [], ◌∷◌, ◌++◌, map, pos, None, refl, true}
+use Rattle.std.proofs.Common.{◌≡◌, List, [], ◌∷◌, ◌++◌, map, pos, None, refl, true}
 use Rattle.fab_base.specs.declared.object.Tid.{Tid}
 use Rattle.fab_base.specs.declared.message.Message.{Message}
 use Rattle.fab_base.specs.declared.message.Message.TheVariants.{Fetch, Object, Deny, Inquire, Abort, Boot}
@@ -14,7 +14,7 @@ use Rattle.fab_protocol.proofs.Toy.{account, holding, accounts, attempt, rights}
 use Rattle.fab_world.specs.Machine.{Setting, Move, outcome, shelf}
 use Rattle.fab_world.specs.Serial.{held_map, serial_replay, commits_in, world_of}
 use Rattle.fab_world.specs.Workers.{kept_of}
-use Rattle.fab_world.proofs.Toy.{setting, no_posts, posts_of, plain, is_run, is_hostile, is_account, both_written, transfers, until_prepare}
+use Rattle.fab_world.proofs.Toy.{setting, no_posts, posts_of, plain, is_run, is_hostile, is_account, transfers, until_prepare}
 
 abbrev first : Tid
 first = attempt 0 1 1
@@ -97,6 +97,37 @@ held_as_before = refl
 replayed_as_before : serial_replay Q is_account (commits_in Q is_hostile asked) ≡ accounts (pos 100) (pos 0)
 unfolding kept_of shelf_of
 replayed_as_before = refl
+
+-- ---- one that crashed behind its decision knows of it in its next boot, and tells a store that asks to commit
+
+-- the Commit, the one of the recovery and the Boot are lost
+abbrev knowing : List Move
+knowing = map plain (until_prepare 0 ++ Deliver 0 1 ∷ Deliver 1 0 ∷ Crash 1 ∷ Crash 0 ∷ Recover 0 ∷ [])
+
+abbrev told : List Move
+told = knowing ++ map plain (Recover 1 ∷ Deliver 1 0 ∷ Deliver 0 1 ∷ [])
+
+told_is_run : is_run Q told ≡ true
+unfolding kept_of shelf_of
+told_is_run = refl
+
+still_decided : held_map Q is_hostile is_account (world_of Q knowing) ≡ accounts (pos 95) (pos 5)
+unfolding kept_of shelf_of
+still_decided = refl
+
+applied : ((world_of Q told).node 1).entries
+    ≡ e.Prepared first (record { reads = []; writes = (account 0, 1, holding (pos 95)) ∷ (account 1, 1, holding (pos 5)) ∷ []; creates = [] })
+    ∷ e.Applied first ∷ []
+unfolding kept_of shelf_of
+applied = refl
+
+told_is_held : held_map Q is_hostile is_account (world_of Q told) ≡ accounts (pos 95) (pos 5)
+unfolding kept_of shelf_of
+told_is_held = refl
+
+told_is_replayed : serial_replay Q is_account (commits_in Q is_hostile told) ≡ accounts (pos 95) (pos 5)
+unfolding kept_of shelf_of
+told_is_replayed = refl
 
 -- ---- the Fetch went to store 1, and store 4 answers
 

@@ -1,12 +1,12 @@
--- What crash lines make of runs: a crash, a cut, one line behind the other, what may follow while a crash is due, and when a run is over.
-use Rattle.std.proofs.Common.{◌≡◌, ℕ, ◌==◌, if◌then◌else◌, Bool, List, [], ◌∷◌, ◌++◌, map, pos, Some, None, refl, sym, ◌∙◌, true, false, true≢false}
+-- What crash lines make of runs: a crash, a cut, one line behind the other, what may follow while a crash is due, and when a run
+-- isn't over.
+use Rattle.std.proofs.Common.{◌≡◌, ℕ, ◌==◌, if◌then◌else◌, Bool, List, [], ◌∷◌, ◌++◌, map, pos, Some, None, refl, true, false, true≢false}
 use Rattle.std.specs.List.{filter}
 use Rattle.fab_base.specs.declared.object.Tid.{Tid}
 use Rattle.fab_base.specs.declared.message.Message.{Message}
 use Rattle.fab_base.specs.declared.message.Message.TheVariants.{Boot, Object}
-use Rattle.fab_base.specs.declared.entry.Entry.TheVariants as e
 use Rattle.fab_net.specs.declared.event.Event.{Event}
-use Rattle.fab_net.specs.declared.event.Event.TheVariants.{Begin, Resume, Deliver, Post, Crash, CrashIn, Recover}
+use Rattle.fab_net.specs.declared.event.Event.TheVariants.{Begin, Resume, Deliver, Crash, CrashIn, Recover}
 use Rattle.fab_net.specs.declared.event.Inner.TheVariants as i
 use Rattle.fab_rights.specs.Computed.{nodes_in}
 use Rattle.fab_protocol.specs.Stores.{shelf_of}
@@ -16,7 +16,7 @@ use Rattle.fab_world.specs.Serial.{world_of}
 use Rattle.fab_world.specs.Workers.{kept_of}
 use Rattle.fab_world.specs.Crashing.{CrashLine, IsOver, must_crash, is_due, may_follow, keeps_lines}
 use Rattle.fab_world.proofs.LiveExamples.{forms_of, only_first}
-use Rattle.fab_world.proofs.Toy.{setting, no_posts, posts_of, plain, is_run, transfers, until_prepare}
+use Rattle.fab_world.proofs.Toy.{setting, no_posts, posts_of, plain, transfers, until_prepare}
 
 abbrev first : Tid
 first = attempt 0 1 1

@@ -7,7 +7,7 @@ use Rattle.fab_base.specs.declared.message.Answer.TheVariants.{Yes}
 use Rattle.fab_base.specs.declared.entry.Entry.TheVariants as e
 use Rattle.fab_base.specs.MessageSpelling.{spelled}
 use Rattle.fab_net.specs.declared.event.Event.{Event}
-use Rattle.fab_net.specs.declared.event.Event.TheVariants.{Begin, Resume, Deliver, Post, Idle, Crash, CrashIn, Recover}
+use Rattle.fab_net.specs.declared.event.Event.TheVariants.{Deliver, Post, Crash, CrashIn}
 use Rattle.fab_net.specs.declared.event.Inner.{Inner}
 use Rattle.fab_net.specs.declared.event.Inner.TheVariants as i
 use Rattle.fab_net.specs.declared.outcome.ReqOutcome.TheVariants.{Committed}
@@ -15,7 +15,7 @@ use Rattle.fab_net.specs.declared.note.Note.{Note}
 use Rattle.fab_net.specs.declared.note.Note.TheVariants as note
 use Rattle.fab_protocol.specs.Stores.{shelf_of}
 use Rattle.fab_protocol.proofs.Toy.{account, holding, attempt}
-use Rattle.fab_world.specs.Machine.{Setting, Move, Form, Does, Cuts, Fails, Crashes, Posts, World, form_of, enabled, logged, at_start}
+use Rattle.fab_world.specs.Machine.{Setting, Move, Form, Does, Cuts, Crashes, Posts, World, form_of, enabled, logged, at_start}
 use Rattle.fab_world.specs.Serial.{world_of}
 use Rattle.fab_world.specs.Workers.{kept_of}
 use Rattle.fab_world.proofs.Toy.{setting, posts_of, plain, failing, is_run, both_written, transfers, until_prepare}
