@@ -401,4 +401,4 @@ module _ (sees shows : ℕ → Bool) (r : Resolved) (view : IsView sees shows r)
     answer = by_slot (slice_get r.methods request.method) refl
 
 pub erasure_agrees : ErasureAgrees
-erasure_agrees sees shows r known request tid fuel view up shaped unmade fits = answer sees shows r view tid known request fuel up shaped fits
+erasure_agrees sees shows r known request tid fuel view up shaped fits = answer sees shows r view tid known request fuel up shaped fits

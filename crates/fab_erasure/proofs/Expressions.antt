@@ -7,7 +7,6 @@ use Rattle.std.proofs.lemmas.Bool.Decides.{nat_tests}
 use Rattle.fab_base.specs.Arith.{java_quotient}
 use Rattle.fab_base.specs.declared.object.Oid.{Oid}
 use Rattle.fab_base.specs.declared.object.Object.{Object}
-use Rattle.fab_base.specs.declared.object.Tid.{Tid}
 use Rattle.fab_base.specs.declared.object.Value.{Value}
 use Rattle.fab_base.specs.declared.object.Value.TheVariants.{Int, Null, Ref}
 use Rattle.fab_tree.specs.declared.expression.Operator.{Operator}

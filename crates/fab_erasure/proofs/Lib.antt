@@ -1,4 +1,5 @@
 pub mod AllSeen
+pub mod Places
 pub mod Views
 pub mod Near
 pub mod Steps

@@ -4,7 +4,6 @@ use Rattle.std.specs.Prelude.{slice_get}
 use Rattle.std.specs.List.{list_all, flat_map, AllByRecursion}
 use Rattle.std.proofs.lemmas.Bool.{and_parts}
 use Rattle.fab_base.specs.declared.object.Stop.TheVariants.{Depth}
-use Rattle.fab_base.specs.declared.object.Tid.{Tid}
 use Rattle.fab_base.specs.declared.object.Value.{Value}
 use Rattle.fab_base.specs.declared.object.Value.TheVariants.{Int, Null, Ref}
 use Rattle.fab_tree.specs.declared.resolved.Local.{Local}
@@ -12,7 +11,6 @@ use Rattle.fab_tree.specs.declared.resolved.Expression.{Expression}
 use Rattle.fab_tree.specs.declared.resolved.Return.{Return}
 use Rattle.fab_tree.specs.declared.resolved.Returns.{Returns}
 use Rattle.fab_tree.specs.declared.resolved.Method.{Method}
-use Rattle.fab_tree.specs.declared.resolved.Resolved.{Resolved}
 use Rattle.fab_labelling.specs.Obligations as ob
 use Rattle.fab_labelling.specs.Obligations.{Owed, all_flow, label_of_returns, parameter_labels, failure_of, authority_of, method_owes}
 use Rattle.fab_labelling.specs.declared.rule.LabelRule.TheVariants.{Write}

@@ -5,7 +5,6 @@ use Rattle.std.specs.List.{list_all, flat_map, AllByRecursion}
 use Rattle.std.proofs.lemmas.Bool.{and_parts}
 use Rattle.fab_base.specs.declared.object.Oid.{Oid}
 use Rattle.fab_base.specs.declared.object.Object.{Object}
-use Rattle.fab_base.specs.declared.object.Tid.{Tid}
 use Rattle.fab_base.specs.declared.object.Value.{Value}
 use Rattle.fab_base.specs.declared.object.Value.TheVariants.{Null, Ref}
 use Rattle.fab_tree.specs.declared.statement.Downgrade.{Downgrade}
@@ -17,7 +16,6 @@ use Rattle.fab_tree.specs.declared.resolved.Returns.{Returns}
 use Rattle.fab_tree.specs.declared.resolved.Expression.{Expression}
 use Rattle.fab_tree.specs.declared.resolved.Right.{Right}
 use Rattle.fab_tree.specs.declared.resolved.Right.TheVariants as rights
-use Rattle.fab_tree.specs.declared.resolved.Resolved.{Resolved}
 use Rattle.fab_labelling.specs.Obligations as ob
 use Rattle.fab_labelling.specs.Obligations.{Owed, all_flow, all_fail, label_of_returns, parameter_labels, failing, for_each}
 use Rattle.fab_labelling.specs.declared.rule.LabelRule.TheVariants.{Write, Begin, Access}

@@ -6,7 +6,6 @@ use Rattle.std.proofs.lemmas.Bool.{and_parts, and_from}
 use Rattle.fab_base.specs.declared.object.Oid.{Oid}
 use Rattle.fab_base.specs.declared.object.Object.{Object}
 use Rattle.fab_base.specs.declared.object.Stop.TheVariants.{Fuel}
-use Rattle.fab_base.specs.declared.object.Tid.{Tid}
 use Rattle.fab_base.specs.declared.object.Value.{Value}
 use Rattle.fab_base.specs.declared.object.Value.TheVariants.{Int, Null, Ref}
 use Rattle.fab_tree.specs.declared.resolved.Use.{Use}
@@ -16,7 +15,6 @@ use Rattle.fab_tree.specs.declared.resolved.Expression.{Expression}
 use Rattle.fab_tree.specs.declared.resolved.Right.{Right}
 use Rattle.fab_tree.specs.declared.resolved.Statement.{Statement, ind-Statement, roll-Statement, fold-roll-Statement, map-Statement}
 use Rattle.fab_tree.specs.declared.resolved.Statement.TheOpen as s
-use Rattle.fab_tree.specs.declared.resolved.Resolved.{Resolved}
 use Rattle.fab_labelling.specs.Obligations as ob
 use Rattle.fab_labelling.specs.Obligations.{Owed, all_flow, all_fail, under, label_of_local, class_of_local}
 use Rattle.fab_labelling.specs.declared.rule.LabelRule.TheVariants.{Write, Atomic}
@@ -892,11 +890,11 @@ module _ (sight : Sight) (view : IsLabelled sight.sees sight.shows sight.program
   abbrev claims_in : Statement → List Claim
   claims_in = statement_claims sight.program.classes sight.program.methods (kinds_of ls)
 
-  abbrev Good_one : Statement → Type 0
-  Good_one y = Stands (full y) (one y) (owes_of y) (sites_at y) (downgrades_in y) (claims_in y)
+  abbrev StandsWhole : Statement → Type 0
+  StandsWhole y = Stands (full y) (one y) (owes_of y) (sites_at y) (downgrades_in y) (claims_in y)
 
   abbrev Known : Type 0
-  Known = (y : Statement) × Good_one y
+  Known = (y : Statement) × StandsWhole y
 
   abbrev bare : List Known → List Statement
   bare ks = map (λ (k : Known). k.0) ks
@@ -925,9 +923,9 @@ module _ (sight : Sight) (view : IsLabelled sight.sees sight.shows sight.program
   layer (s.Atomic label a b at) = atomic_stands _ _ _ _ _ _ _ _ _ _ _ _ (orders a) (orders b) label.number at
   layer (s.Fail at) = fail_stands at
 
-  pub statements : (y : Statement) → Good_one y
-  statements = ind-Statement Good_one (λ y z is.
-      subst (λ p. Good_one (roll-Statement p)) is
+  pub statements : (y : Statement) → StandsWhole y
+  statements = ind-Statement StandsWhole (λ y z is.
+      subst (λ p. StandsWhole (roll-Statement p)) is
       (rw (
         fold-roll-Statement (M (Unit {0})) (statement_step sight.tid call) (pieces z),
         fold-roll-Statement (M (Unit {0}))

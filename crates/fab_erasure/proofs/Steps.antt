@@ -9,13 +9,11 @@ use Rattle.std.proofs.lemmas.List.Elements.{filter-append}
 use Rattle.fab_base.specs.declared.object.Oid.{Oid}
 use Rattle.fab_base.specs.declared.object.Object.{Object}
 use Rattle.fab_base.specs.declared.object.Stop.TheVariants.{Fuel, Reads, Writes}
-use Rattle.fab_base.specs.declared.object.Tid.{Tid}
 use Rattle.fab_base.specs.declared.object.Value.{Value}
 use Rattle.fab_base.specs.FlatMap.{FlatMap, get, put, is_same, ascends}
 use Rattle.fab_map.proofs.Order.{one_name}
 use Rattle.fab_map.proofs.Rows.{get-put_same, get-put_other, ascends-put}
 use Rattle.fab_tree.specs.declared.resolved.Local.{Local}
-use Rattle.fab_tree.specs.declared.resolved.Resolved.{Resolved}
 use Rattle.fab_labelling.specs.Obligations.{label_of_local}
 use Rattle.fab_language.specs.Heaps.{Heap, found, full, reach_in, reach_before, is_among, touched, noted, is_full, is_spent, is_changed, with_row, created, index_at}
 use Rattle.fab_language.specs.Meaning.{State, stopped, Run, goes, ends, and_then, charge, assign, reached, access, settled, replace, next_name, noted_down}

@@ -21,7 +21,6 @@ use Rattle.fab_language.specs.declared.ending.Ending.TheVariants.{Ended, Failed,
 use Rattle.fab_language.specs.Meaning.{Meant, meaning}
 use Rattle.fab_labelling.specs.Obligations.{Claim, flows, conf, nowhere, declassifies, endorses, holds, answers_for, owed}
 use Rattle.fab_labelling.specs.Sites.{sites_of}
-use Rattle.fab_laws.specs.Changes.{IsUnmade}
 use Rattle.fab_laws.specs.Shapes.{is_fitting, IsFitting, AreShaped}
 use Rattle.fab_erasure.specs.Erased.{erased, skips, shown_if, sees_result}
 
@@ -153,7 +152,7 @@ pub record Agrees (sees shows : ℕ → Bool) (r : Resolved) (request : Request)
 abbrev pub ErasureAgrees : Type 0
 ErasureAgrees =
     (sees shows : ℕ → Bool) (r : Resolved) (known : FlatMap) (request : Request) (tid : Tid) (fuel : ℕ) → IsView sees shows r
-    → IsTrue (ascends known) → AreShaped r.classes known → IsUnmade tid known → IsFitting r request
+    → IsTrue (ascends known) → AreShaped r.classes known → IsFitting r request
     → let full = meaning r known request tid fuel in
     Agrees sees shows r request full (erased sees shows r (rows_shown sees shows r known) request tid fuel (given_by sees shows r full))
 
