@@ -1,8 +1,9 @@
 -- Who isn't declared hostile has nothing to post.
-use Rattle.std.proofs.Common.{◌≡◌, ℕ, zero, suc, ◌+◌, ◌==◌, Bool, true, false, cond, List, [], ◌∷◌, ◌++◌, map, Option, Some, None, option_map, unwrap_or, refl, sym, ap, ◌∙◌, subst, arith}
+use Rattle.std.proofs.Common.{◌≡◌, ℕ, zero, suc, ◌+◌, ◌==◌, Bool, true, false, cond, List, [], ◌∷◌, ◌++◌, map, length, take, Option, Some, None, option_map, unwrap_or, refl, sym, ap, ◌∙◌, subst, arith}
 use Rattle.std.specs.Prelude.{slice_get}
 use Rattle.std.specs.List.{AllByRecursion, filter, flat_map}
 use Rattle.std.proofs.lemmas.Bool.{true≢false, false≢true, eq-eqb, ne_eqb, eqb-true}
+use Rattle.std.proofs.lemmas.List.Sums.{sum_by-cons}
 use Rattle.fab_tree.specs.declared.name.Name.{Name}
 use Rattle.fab_tree.specs.declared.declaration.Node.{Node}
 use Rattle.fab_tree.specs.declared.declaration.Role.{Role}
@@ -25,9 +26,21 @@ use Rattle.fab_labelling.specs.Readers.{is_numbered, place_from}
 use Rattle.fab_rights.specs.declared.rights.Rights.{Rights}
 use Rattle.fab_shapes.proofs.Lists.{left_nil, right_nil, each_nil, from_two}
 use Rattle.fab_shapes.proofs.Named.{found}
-use Rattle.fab_attempts.proofs.Programs.{before_cons, allowed}
 use Rattle.fab_world.specs.Serial.{ArePosts}
 use Rattle.fab_settings.specs.Settings.{IsAcceptedWith, is_hostile_node, setting_of}
+
+-- one node more before the others
+before_cons : (k : ℕ) (z : Node) (zs : List Node) → nodes_before (suc k) (z ∷ zs) ≡ cond (is_node z.role) (suc (nodes_before k zs)) (nodes_before k zs)
+before_cons k z zs = sum_by-cons (λ (w : Node). cond (is_node w.role) 1 0) z (take k zs) ∙ by (is_node z.role)
+  where
+    by : (b : Bool) → cond b 1 0 + nodes_before k zs ≡ cond b (suc (nodes_before k zs)) (nodes_before k zs)
+    by true = omega arith
+    by false = omega arith
+
+-- what is no fault is allowed
+allowed : {A : Type 0} (b : Bool) (fault : A) → cond b [] (fault ∷ []) ≡ [] → b ≡ true
+allowed true fault e = refl
+allowed false fault e = absurd (omega (arith, ap length e))
 
 -- ---- what a node is, by its number
 
