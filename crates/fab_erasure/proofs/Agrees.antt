@@ -17,8 +17,8 @@ use Rattle.fab_labelling.specs.Obligations.{Owed, parameter_labels, method_owes,
 use Rattle.fab_labelling.specs.Sites.{sites_of, method_sites}
 use Rattle.fab_language.specs.declared.ending.Ending.{Ending}
 use Rattle.fab_language.specs.declared.ending.Ending.TheVariants.{Ended, Failed, Stopped, Missing}
-use Rattle.fab_language.specs.Heaps.{Heap}
-use Rattle.fab_language.specs.Meaning.{State, missing, Run, goes, ends, called, meant_at, meant_by, state_at_start}
+use Rattle.fab_language.specs.Heaps.{Heap, is_among, touched}
+use Rattle.fab_language.specs.Meaning.{State, Meant, Run, goes, ends, called, meant_at, meant_by, state_at_start}
 use Rattle.fab_laws.specs.Runs.{state_behind}
 use Rattle.fab_laws.specs.Shapes.{AreShaped, IsFitting}
 use Rattle.fab_laws.specs.Kinds.{parameter_kinds}
@@ -34,6 +34,7 @@ use Rattle.fab_erasure.proofs.Expressions.{IsLabelled}
 use Rattle.fab_erasure.proofs.Arguments.{ArgsSame}
 use Rattle.fab_erasure.proofs.Rights.{Calls, ResultSame, ResultHidden}
 use Rattle.fab_erasure.proofs.Methods.{MethodOwing, all_followed}
+use Rattle.fab_erasure.proofs.Plain as alone
 
 -- ---- lists
 
@@ -181,6 +182,26 @@ module _ (sees shows : ℕ → Bool) (r : Resolved) (view : IsView sees shows r)
       downs = m.downs;
     }
 
+    abbrev Plain : State → Type 0
+    Plain = alone.Plain (sight whole)
+
+    -- what the erased meaning keeps
+    pub record IsPlain (part : Meant) : Type 0 where
+      pub touches : filter (touch_in_view sees shows r) part.touches ≡ part.touches
+      pub written : filter (λ (o : Oid). shows o.class) part.written ≡ part.written
+      pub made : filter (λ (o : Oid). in_view sees shows r o.site) part.made ≡ part.made
+
+    behind_plain : (q : Run (Option Value)) → Plain (state_behind q) → IsPlain (meant_by q)
+    behind_plain (goes a u) p = record { touches = p.touches; written = p.written; made = p.made }
+    behind_plain (ends e u) p = record { touches = p.touches; written = p.written; made = p.made }
+
+    -- what is written and shown was touched in view, as it was beside it
+    wrote_by : (u v : State) → Done u v → Plain v → AllByRecursion
+        (λ (o : Oid). is_among o (touched (filter (touch_in_view sees shows r) u.touches)) ≡ true) (filter (λ (o : Oid). shows o.class) u.heap.written)
+    wrote_by u v d p = subst (λ os. AllByRecursion (λ (o : Oid). is_among o (touched (filter (touch_in_view sees shows r) u.touches)) ≡ true) os)
+        (sym (d.written ∙ p.written))
+        (subst (λ ts. AllByRecursion (λ (o : Oid). is_among o (touched ts) ≡ true) v.heap.written) (sym (d.touches ∙ p.touches)) p.wrote)
+
     whole_front : {A : Type 0} (xs ys : List A) → xs ≡ ys → IsFront xs ys
     whole_front xs ys e = record { rest = []; is = append-nil xs ∙ e }
 
@@ -205,9 +226,9 @@ module _ (sees shows : ℕ → Bool) (r : Resolved) (view : IsView sees shows r)
     missed_name : (a b : ℕ) (o p : Oid) → Missing a o ≡ Missing b p → o ≡ p
     missed_name a b o p e = cc
 
-    agrees_end : (a b : Option Value) (u v : State) → Done u v → (begins_in_view sees shows r request ≡ true → b ≡ result_seen sees shows r slot a) → Agrees sees shows
+    agrees_end : (a b : Option Value) (u v : State) → Done u v → Plain v → (begins_in_view sees shows r request ≡ true → b ≡ result_seen sees shows r slot a) → Agrees sees shows
         r request (meant_at (Ended a) u) (meant_at (Ended b) v)
-    agrees_end a b u v d f = record {
+    agrees_end a b u v d p f = record {
       ended = λ x i e. ap Ended (f i ∙ ap (result_seen sees shows r slot) (ended_as a x e));
       failed = λ i e. absurd (not_failed a e);
       touches = λ i. d.touches;
@@ -216,15 +237,19 @@ module _ (sees shows : ℕ → Bool) (r : Resolved) (view : IsView sees shows r)
       made = λ i. d.made;
       names = λ i. d.names;
       downs = λ i. d.downs;
+      wrote = λ i. wrote_by u v d p;
+      plain = p.touches;
+      plain_written = p.written;
+      plain_made = p.made;
       touches_so_far = whole_front _ _ d.touches;
       downs_so_far = whole_front _ _ d.downs;
       missing = λ site o e i. absurd (not_missing a site o e);
     }
 
     -- what failed; beside it nothing need have failed where the method doesn't begin in view
-    agrees_fail : (ending : Ending) (u v : State) → Done u v → (begins_in_view sees shows r request ≡ true → ending ≡ Failed) → Agrees sees shows r request
+    agrees_fail : (ending : Ending) (u v : State) → Done u v → Plain v → (begins_in_view sees shows r request ≡ true → ending ≡ Failed) → Agrees sees shows r request
         (meant_at Failed u) (meant_at ending v)
-    agrees_fail ending u v d f = record {
+    agrees_fail ending u v d p f = record {
       ended = λ x i e. absurd (failed_not x e);
       failed = λ i e. f i;
       touches = λ i. d.touches;
@@ -233,6 +258,10 @@ module _ (sees shows : ℕ → Bool) (r : Resolved) (view : IsView sees shows r)
       made = λ i. d.made;
       names = λ i. d.names;
       downs = λ i. d.downs;
+      wrote = λ i. wrote_by u v d p;
+      plain = p.touches;
+      plain_written = p.written;
+      plain_made = p.made;
       touches_so_far = whole_front _ _ d.touches;
       downs_so_far = whole_front _ _ d.downs;
       missing = λ site o e i. absurd (fails_not site o e);
@@ -261,8 +290,9 @@ module _ (sees shows : ℕ → Bool) (r : Resolved) (view : IsView sees shows r)
     behind_downs (goes a u) = refl
     behind_downs (ends e u) = refl
 
-    agrees_stop : (s : Stop) (u : State) (q : Run (Option Value)) → Fronts u (state_behind q) → Agrees sees shows r request (meant_at (Stopped s) u) (meant_by q)
-    agrees_stop s u q f = record {
+    agrees_stop : (s : Stop) (u : State) (q : Run (Option Value)) → Fronts u (state_behind q) → Plain (state_behind q) → Agrees sees shows r request
+        (meant_at (Stopped s) u) (meant_by q)
+    agrees_stop s u q f p = record {
       ended = λ x i e. absurd (stop_not s x e);
       failed = λ i e. absurd (stop_no_fail s e);
       touches = λ i. absurd i;
@@ -271,28 +301,57 @@ module _ (sees shows : ℕ → Bool) (r : Resolved) (view : IsView sees shows r)
       made = λ i. absurd i;
       names = λ i. absurd i;
       downs = λ i. absurd i;
+      wrote = λ i. absurd i;
+      plain = (behind_plain q p).touches;
+      plain_written = (behind_plain q p).written;
+      plain_made = (behind_plain q p).made;
       touches_so_far = subst (λ l. IsFront (filter (touch_in_view sees shows r) u.touches) (filter (touch_in_view sees shows r) l)) (sym (behind_touches q)) f.touches;
       downs_so_far = subst (λ l. IsFront (filter (λ (d : ℕ × Value). goes_into_view sees shows r d.0) u.downs)
           (filter (λ (d : ℕ × Value). goes_into_view sees shows r d.0) l)) (sym (behind_downs q)) f.downs;
       missing = λ site o e i. absurd (stop_no_miss s site o e);
     }
 
-    agrees_miss : (site : ℕ) (o : Oid) (u : State) (q : Run (Option Value)) → Fronts u (state_behind q)
-        → (touch_in_view sees shows r (site, o) ≡ true → (meant_by q).ending ≡ Missing site o) → Agrees sees shows r request (meant_at (Missing site o) u) (meant_by q)
-    agrees_miss site o u q f k = record {
+    -- an object is missing on both sides
+    agrees_both : (site : ℕ) (o : Oid) (u v : State) → Done u v → Plain v → Agrees sees shows r request (meant_at (Missing site o) u) (meant_at (Missing site o) v)
+    agrees_both site o u v d p = record {
       ended = λ x i e. absurd (miss_not site o x e);
       failed = λ i e. absurd (miss_no_fail site o e);
-      touches = λ i. absurd i;
-      rows = λ i. absurd i;
-      written = λ i. absurd i;
-      made = λ i. absurd i;
-      names = λ i. absurd i;
-      downs = λ i. absurd i;
+      touches = λ i. d.touches;
+      rows = λ i. d.rows;
+      written = λ i. d.written;
+      made = λ i. d.made;
+      names = λ i. d.names;
+      downs = λ i. d.downs;
+      wrote = λ i. wrote_by u v d p;
+      plain = p.touches;
+      plain_written = p.written;
+      plain_made = p.made;
+      touches_so_far = whole_front _ _ d.touches;
+      downs_so_far = whole_front _ _ d.downs;
+      missing = λ at p e i. e;
+    }
+
+    -- an object is missing that isn't in view
+    agrees_miss : (site : ℕ) (o : Oid) (u : State) (q : Run (Option Value)) → Fronts u (state_behind q) → Plain (state_behind q) → touch_in_view sees shows r (site, o)
+        ≡ false → Agrees sees shows r request (meant_at (Missing site o) u) (meant_by q)
+    agrees_miss site o u q f p out = record {
+      ended = λ x i e. absurd (miss_not site o x e);
+      failed = λ i e. absurd (miss_no_fail site o e);
+      touches = λ i. absurd (true≢false (sym i ∙ out));
+      rows = λ i. absurd (true≢false (sym i ∙ out));
+      written = λ i. absurd (true≢false (sym i ∙ out));
+      made = λ i. absurd (true≢false (sym i ∙ out));
+      names = λ i. absurd (true≢false (sym i ∙ out));
+      downs = λ i. absurd (true≢false (sym i ∙ out));
+      wrote = λ i. absurd (true≢false (sym i ∙ out));
+      plain = (behind_plain q p).touches;
+      plain_written = (behind_plain q p).written;
+      plain_made = (behind_plain q p).made;
       touches_so_far = subst (λ l. IsFront (filter (touch_in_view sees shows r) u.touches) (filter (touch_in_view sees shows r) l)) (sym (behind_touches q)) f.touches;
       downs_so_far = subst (λ l. IsFront (filter (λ (d : ℕ × Value). goes_into_view sees shows r d.0) u.downs)
           (filter (λ (d : ℕ × Value). goes_into_view sees shows r d.0) l)) (sym (behind_downs q)) f.downs;
-      missing = λ at p e i. k (subst (λ z. touch_in_view sees shows r (z, o) ≡ true) (sym (missed_site site at o p e))
-          (subst (λ z. touch_in_view sees shows r (at, z) ≡ true) (sym (missed_name site at o p e)) i)) ∙ e;
+      missing = λ at p e i. absurd (true≢false (sym (subst (λ z. touch_in_view sees shows r (z, o) ≡ true) (sym (missed_site site at o p e))
+          (subst (λ z. touch_in_view sees shows r (at, z) ≡ true) (sym (missed_name site at o p e)) i)) ∙ out));
     }
 
     abbrev Compared : Run (Option Value) → Run (Option Value) → Type 0
@@ -300,22 +359,22 @@ module _ (sees shows : ℕ → Bool) (r : Resolved) (view : IsView sees shows r)
 
     by_match : (R : Option Value → Option Value → Type 0) (p q : Run (Option Value))
         → ((a b : Option Value) → R a b → begins_in_view sees shows r request ≡ true → b ≡ result_seen sees shows r slot a) → Match (sight whole) {A = Option Value}
-        {B = Option Value} [] R p q → Compared p q
-    by_match R _ _ f (both_go a b u v m x) = agrees_end a b u v (done u v m.heap m.trace) (f a b x)
-    by_match R _ _ f (both_fail u v h m) = agrees_fail Failed u v (done u v h m) (λ i. refl)
-    by_match R _ _ f (both_miss site o u v g) = agrees_miss site o u (ends (missing site o) v) g (λ i. refl)
-    by_match R _ q f (miss site o u p e g) = agrees_miss site o u p g (λ i. absurd (true≢false (sym i ∙ e)))
-    by_match R _ q f (cut stop u p g) = agrees_stop stop u p g
+        {B = Option Value} [] R p q → Plain (state_behind q) → Compared p q
+    by_match R _ _ f (both_go a b u v m x) k = agrees_end a b u v (done u v m.heap m.trace) k (f a b x)
+    by_match R _ _ f (both_fail u v h m) k = agrees_fail Failed u v (done u v h m) k (λ i. refl)
+    by_match R _ _ f (both_miss site o u v h m) k = agrees_both site o u v (done u v h m) k
+    by_match R _ q f (miss site o u p e g) k = agrees_miss site o u p g k e
+    by_match R _ q f (cut stop u p g) k = agrees_stop stop u p g k
 
     by_hidden : (P : Option Value → Type 0) (may : Type 0) (s t : State) (b : Option Value) (p : Run (Option Value)) → (begins_in_view sees shows r request ≡ true → ⊥)
-        → HeapNear s.heap t.heap → TraceNear s t → Hidden (sight whole) {A = Option Value} [] P may s p → Compared p (goes b t)
-    by_hidden P may s t b _ no_begin h m (went a u q x) = agrees_end a b u t
-        (done u t (n.near_heap (sight whole) s.heap u.heap t.heap h q.heap) (n.near_trace (sight whole) s u t m q.trace)) (λ i. absurd (no_begin i))
-    by_hidden P may s t b _ no_begin h m (fell u g q x) = agrees_fail (Ended b) u t
-        (done u t (n.near_heap (sight whole) s.heap u.heap t.heap h g) (n.near_trace (sight whole) s u t m q)) (λ i. absurd (no_begin i))
-    by_hidden P may s t b _ no_begin h m (lost site o u e q) = agrees_miss site o u (goes b t) (n.fronts_at (sight whole) u t (n.near_trace (sight whole) s u t m q))
-        (λ i. absurd (true≢false (sym i ∙ e)))
-    by_hidden P may s t b _ no_begin h m (halted stop u q) = agrees_stop stop u (goes b t) (n.fronts_at (sight whole) u t (n.near_trace (sight whole) s u t m q))
+        → HeapNear s.heap t.heap → TraceNear s t → Plain t → Hidden (sight whole) {A = Option Value} [] P may s p → Compared p (goes b t)
+    by_hidden P may s t b _ no_begin h m k (went a u q x) = agrees_end a b u t
+        (done u t (n.near_heap (sight whole) s.heap u.heap t.heap h q.heap) (n.near_trace (sight whole) s u t m q.trace)) k (λ i. absurd (no_begin i))
+    by_hidden P may s t b _ no_begin h m k (fell u g q x) = agrees_fail (Ended b) u t
+        (done u t (n.near_heap (sight whole) s.heap u.heap t.heap h g) (n.near_trace (sight whole) s u t m q)) k (λ i. absurd (no_begin i))
+    by_hidden P may s t b _ no_begin h m k (lost site o u e q) = agrees_miss site o u (goes b t) (n.fronts_at (sight whole) u t (n.near_trace (sight whole) s u t m q))
+        k e
+    by_hidden P may s t b _ no_begin h m k (halted stop u q) = agrees_stop stop u (goes b t) (n.fronts_at (sight whole) u t (n.near_trace (sight whole) s u t m q)) k
 
   -- ---- a request
 
@@ -364,6 +423,14 @@ module _ (sees shows : ℕ → Bool) (r : Resolved) (view : IsView sees shows r)
     calls : Calls (sight all_given) labelled (called r tid 64) (erase.called sees shows r tid 64)
     calls = all_followed (sight all_given) labelled (owing all_given) 64
 
+    plain_start : alone.Plain (sight all_given) blank_start
+    plain_start = record { touches = refl; written = refl; made = refl; wrote = tt }
+
+    plain_run : alone.Plain (sight all_given) (state_behind blank_run)
+    plain_run =
+        let stays = alone.all_stay (sight all_given) labelled (λ i m e. (owing all_given i m e).placed) 64 request.method request.args in
+        (stays.by blank_start plain_start).plain
+
     abbrev Answer : Type 0
     Answer = Agrees sees shows r request (meant_by run) (meant_by blank_run)
 
@@ -383,18 +450,18 @@ module _ (sees shows : ℕ → Bool) (r : Resolved) (view : IsView sees shows r)
     by_begin m e true b =
         by_match request all_given (ResultSame (sight all_given) labelled m) run blank_run (λ x y h i. h ∙ ap (λ z. result_seen sees shows r z x) (sym e))
         (calls.seen [] request.method m e b request.args request.args start blank_start near_start (subst (λ z. AllSuit (parameter_kinds z) request.args) e fits)
-        (args_same (parameter_labels m) request.args) good)
+        (args_same (parameter_labels m) request.args) good) plain_run
     by_begin m e false b =
         subst (λ q. Agrees sees shows r request (meant_by run) (meant_by q)) (sym (calls.skipped request.method m e b request.args blank_start))
         (by_hidden request all_given (ResultHidden (sight all_given) labelled m) (m.fails ≡ true) start blank_start (returns_blank m.returns) run (hidden_begin m e b)
-        near_start.heap near_start.trace
+        near_start.heap near_start.trace plain_start
         (calls.hidden [] request.method m e b request.args start near_start.shaped (subst (λ z. AllSuit (parameter_kinds z) request.args) e fits)))
 
     by_slot : (m : Option Method) → slice_get r.methods request.method ≡ m → Answer
     by_slot None e =
         by_match request all_given (λ x y. (x ≡ None) × (y ≡ None)) run blank_run
         (λ x y h i. h.1 ∙ no_result (slice_get r.methods request.method) ∙ ap (result_seen sees shows r (slice_get r.methods request.method)) (sym h.0))
-        (calls.none_seen [] request.method e request.args request.args start blank_start near_start)
+        (calls.none_seen [] request.method e request.args request.args start blank_start near_start) plain_run
     by_slot (Some m) e = by_begin m e (sees m.begin.number) refl
 
     pub answer : Answer

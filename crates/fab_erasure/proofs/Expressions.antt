@@ -190,7 +190,7 @@ module _ (sight : Sight) (view : IsLabelled sight.sees sight.shows sight.program
   blanked : (b : Bool) (r q : Run Value) → Beside (Same b) r q → Beside (Same b) r (and_then q (λ v. gives (shown_if b v)))
   blanked b _ _ (both_go a c u v m p) = both_go a (shown_if b c) u v m (shown_same b a c p)
   blanked b _ _ (both_fail u v h m) = both_fail u v h m
-  blanked b _ _ (both_miss site o u v g) = both_miss site o u v g
+  blanked b _ _ (both_miss site o u v h m) = both_miss site o u v h m
   blanked b _ q (miss site o u p e g) = miss site o u (and_then p (λ v. gives (shown_if b v))) e
       (n.fronts_on sight u (state_behind p) _ g (n.grows_past sight p (λ v. gives (shown_if b v)) (λ v. grows_gives (shown_if b v))))
   blanked b _ q (cut stop u p g) = cut stop u (and_then p (λ v. gives (shown_if b v)))

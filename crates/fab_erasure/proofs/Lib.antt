@@ -9,4 +9,5 @@ pub mod Arguments
 pub mod Rights
 pub mod Statements
 pub mod Methods
+pub mod Plain
 pub mod Agrees

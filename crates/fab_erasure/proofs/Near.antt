@@ -282,7 +282,7 @@ module _ (sight : Sight) where
   pub data Match {A B : Type 0} (ls : List Local) (R : A → B → Type 0) : Run A → Run B → Type 0 where
     both_go : (a : A) (b : B) (u v : State) → Near ls u v → R a b → Match ls R (goes a u) (goes b v)
     both_fail : (u v : State) → HeapNear u.heap v.heap → TraceNear u v → Match ls R (ends failed u) (ends failed v)
-    both_miss : (site : ℕ) (o : Oid) (u v : State) → Fronts u v → Match ls R (ends (missing site o) u) (ends (missing site o) v)
+    both_miss : (site : ℕ) (o : Oid) (u v : State) → HeapNear u.heap v.heap → TraceNear u v → Match ls R (ends (missing site o) u) (ends (missing site o) v)
     miss : (site : ℕ) (o : Oid) (u : State) (q : Run B) → touch_seen (site, o) ≡ false → Fronts u (state_behind q) → Match ls R (ends (missing site o) u) q
     cut : (stop : Stop) (u : State) (q : Run B) → Fronts u (state_behind q) → Match ls R (ends (stopped stop) u) q
 
@@ -320,7 +320,7 @@ module _ (sight : Sight) where
       (and_then r g) (and_then q h)
   join ls R P Q _ _ g h (both_go a b u v n p) good out grow k = k a b u v refl n p out good
   join ls R P Q _ _ g h (both_fail u v n m) good out grow k = both_fail u v n m
-  join ls R P Q _ _ g h (both_miss site o u v f) good out grow k = both_miss site o u v f
+  join ls R P Q _ _ g h (both_miss site o u v n m) good out grow k = both_miss site o u v n m
   join ls R P Q _ q g h (miss site o u p e f) good out grow k = miss site o u (and_then p h) e
       (fronts_on u (state_behind p) (state_behind (and_then p h)) f (grows_past p h grow))
   join ls R P Q _ q g h (cut stop u p f) good out grow k = cut stop u (and_then p h) (fronts_on u (state_behind p) (state_behind (and_then p h)) f (grows_past p h grow))
@@ -360,7 +360,7 @@ module _ (sight : Sight) where
   pub match_more : {A B : Type 0} (ls : List Local) (R Q : A → B → Type 0) (r : Run A) (q : Run B) → ((a : A) (b : B) → R a b → Q a b) → Match ls R r q → Match ls Q r q
   match_more ls R Q _ _ f (both_go a b u v n p) = both_go a b u v n (f a b p)
   match_more ls R Q _ _ f (both_fail u v n m) = both_fail u v n m
-  match_more ls R Q _ _ f (both_miss site o u v g) = both_miss site o u v g
+  match_more ls R Q _ _ f (both_miss site o u v n m) = both_miss site o u v n m
   match_more ls R Q _ q f (miss site o u p e g) = miss site o u p e g
   match_more ls R Q _ q f (cut stop u p g) = cut stop u p g
 
@@ -397,7 +397,7 @@ module _ (sight : Sight) where
   else_by ls s t _ _ other blank n (both_go a b u v m p) good grow k = both_go a b u v m p
   else_by ls s t _ _ other blank n (both_fail u v h m) good grow k = k (record u { locals = s.locals; heap = s.heap }) (record v { locals = t.locals; heap = t.heap })
       (put_back ls s t u v n m) good
-  else_by ls s t _ _ other blank n (both_miss site o u v f) good grow k = both_miss site o u v f
+  else_by ls s t _ _ other blank n (both_miss site o u v h m) good grow k = both_miss site o u v h m
   else_by ls s t _ q other blank n (miss site o u p e f) good grow k = miss site o u (or_else t p blank) e
       (fronts_on u (state_behind p) (state_behind (or_else t p blank)) f (after_longer t p blank grow))
   else_by ls s t _ q other blank n (cut stop u p f) good grow k = cut stop u (or_else t p blank)
@@ -439,8 +439,8 @@ module _ (sight : Sight) where
   }) p
   follow_back ls ms R s t _ _ n (both_fail u v h m) = both_fail (record u { locals = s.locals }) (record v { locals = t.locals }) h
       (record { touches = m.touches; downs = m.downs; given = m.given; fuel = m.fuel; few = m.few })
-  follow_back ls ms R s t _ _ n (both_miss site o u v f) = both_miss site o (record u { locals = s.locals }) (record v { locals = t.locals })
-      (record { touches = f.touches; downs = f.downs })
+  follow_back ls ms R s t _ _ n (both_miss site o u v h m) = both_miss site o (record u { locals = s.locals }) (record v { locals = t.locals }) h
+      (record { touches = m.touches; downs = m.downs; given = m.given; fuel = m.fuel; few = m.few })
   follow_back ls ms R s t _ q n (miss site o u p e f) = miss site o (record u { locals = s.locals }) (back_with t.locals p) e (back_fronts u t.locals s.locals p f)
   follow_back ls ms R s t _ q n (cut stop u p f) = cut stop (record u { locals = s.locals }) (back_with t.locals p) (back_fronts u t.locals s.locals p f)
 

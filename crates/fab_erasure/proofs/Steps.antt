@@ -75,9 +75,6 @@ module _ (sight : Sight) where
   fronts : (ls : List Local) (s t w : State) → Near ls s t → Longer t w → n.Fronts sight s w
   fronts ls s t w m l = n.fronts_on sight s t w (n.fronts_at sight s t m.trace) l
 
-  near_fronts : (ls : List Local) (s t : State) → Near ls s t → n.Fronts sight s t
-  near_fronts ls s t m = n.fronts_at sight s t m.trace
-
   here : (ls : List Local) (s : State) → Shaped sight.program sight.tid (kinds_of ls) s → Quiet ls s s
   here = n.quiet_here sight
 
@@ -176,7 +173,7 @@ module _ (sight : Sight) where
 
     by_row : (v : Option Object) → get s.heap.rows o ≡ v → Beside ls (Found o) (reached site o (reach_in site o v s.heap.made s.touches) s)
         (reached site o (reach_in site o v t.heap.made t.touches) t)
-    by_row None e = both_miss site o s t (near_fronts ls s t m)
+    by_row None e = both_miss site o s t m.heap m.trace
     by_row (Some x) e = by_made x (m.shaped.rows o x e) (is_among o s.heap.made) refl
 
     pub access_seen : Beside ls (Found o) (access site o s) (access site o t)

@@ -18,6 +18,7 @@ use Rattle.fab_tree.specs.declared.resolved.Resolved.{Resolved}
 use Rattle.fab_tree.specs.declared.resolved.Request.{Request}
 use Rattle.fab_language.specs.declared.ending.Ending.{Ending}
 use Rattle.fab_language.specs.declared.ending.Ending.TheVariants.{Ended, Failed, Stopped, Missing}
+use Rattle.fab_language.specs.Heaps.{is_among, touched}
 use Rattle.fab_language.specs.Meaning.{Meant, meaning}
 use Rattle.fab_labelling.specs.Obligations.{Claim, flows, conf, nowhere, declassifies, endorses, holds, answers_for, owed}
 use Rattle.fab_labelling.specs.Sites.{sites_of}
@@ -123,11 +124,12 @@ pub record IsFront {A : Type 0} (xs ys : List A) : Type 0 where
   pub rest : List A
   pub is : xs ++ rest ≡ ys
 
-abbrev pub IsDone : Ending → Type 0
-IsDone (Ended v) = Unit {0}
-IsDone Failed = Unit {0}
-IsDone (Stopped stop) = ⊥
-IsDone (Missing site o) = ⊥
+-- it wasn't stopped, and no object is missing out of view
+abbrev pub IsSettled : (ℕ → Bool) → (ℕ → Bool) → Resolved → Ending → Type 0
+IsSettled sees shows r (Ended v) = Unit {0}
+IsSettled sees shows r Failed = Unit {0}
+IsSettled sees shows r (Stopped stop) = ⊥
+IsSettled sees shows r (Missing site o) = IsTrue (touch_in_view sees shows r (site, o))
 
 -- of one request, what is done and what the erased meaning gives
 pub record Agrees (sees shows : ℕ → Bool) (r : Resolved) (request : Request) (full part : Meant) : Type 0 where
@@ -135,18 +137,25 @@ pub record Agrees (sees shows : ℕ → Bool) (r : Resolved) (request : Request)
   pub ended : (v : Option Value) → IsTrue (begins_in_view sees shows r request) → full.ending ≡ Ended v
       → part.ending ≡ Ended (result_seen sees shows r (slice_get r.methods request.method) v)
   pub failed : IsTrue (begins_in_view sees shows r request) → full.ending ≡ Failed → part.ending ≡ Failed
-  -- then it touched, wrote and made the same, as far as these are in view
-  pub touches : IsDone full.ending → touches_in_view sees shows r full ≡ touches_in_view sees shows r part
-  pub rows : IsDone full.ending → rows_shown sees shows r full.map ≡ rows_shown sees shows r part.map
-  pub written : IsDone full.ending → filter (λ o. shows o.class) full.written ≡ filter (λ o. shows o.class) part.written
-  pub made : IsDone full.ending → filter (λ o. shows o.class) full.made ≡ filter (λ o. shows o.class) part.made
-  pub names : IsDone full.ending → filter (λ o. in_view sees shows r o.site) full.made ≡ filter (λ o. in_view sees shows r o.site) part.made
-  pub downs : IsDone full.ending → downs_in_view sees shows r full ≡ downs_in_view sees shows r part
+  -- then, and where an object is missing that is in view, it touched, wrote and made the same, as far as these are in view
+  pub touches : IsSettled sees shows r full.ending → touches_in_view sees shows r full ≡ touches_in_view sees shows r part
+  pub rows : IsSettled sees shows r full.ending → rows_shown sees shows r full.map ≡ rows_shown sees shows r part.map
+  pub written : IsSettled sees shows r full.ending → filter (λ o. shows o.class) full.written ≡ filter (λ o. shows o.class) part.written
+  pub made : IsSettled sees shows r full.ending → filter (λ o. shows o.class) full.made ≡ filter (λ o. shows o.class) part.made
+  pub names : IsSettled sees shows r full.ending → filter (λ o. in_view sees shows r o.site) full.made ≡ filter (λ o. in_view sees shows r o.site) part.made
+  pub downs : IsSettled sees shows r full.ending → downs_in_view sees shows r full ≡ downs_in_view sees shows r part
+  -- and touched in view what it wrote of shown classes
+  pub wrote : IsSettled sees shows r full.ending → AllByRecursion (λ o. IsTrue (is_among o (touched (touches_in_view sees shows r full))))
+      (filter (λ o. shows o.class) full.written)
   -- if it was stopped or lacks an object, the erased meaning goes at least as far
   pub touches_so_far : IsFront (touches_in_view sees shows r full) (touches_in_view sees shows r part)
   pub downs_so_far : IsFront (downs_in_view sees shows r full) (downs_in_view sees shows r part)
   -- and lacks the same, if that is in view
   pub missing : (site : ℕ) (o : Oid) → full.ending ≡ Missing site o → IsTrue (touch_in_view sees shows r (site, o)) → part.ending ≡ Missing site o
+  -- however it ends, the erased meaning touches nothing out of view, writes only what is shown and makes only at sites in view
+  pub plain : touches_in_view sees shows r part ≡ part.touches
+  pub plain_written : filter (λ o. shows o.class) part.written ≡ part.written
+  pub plain_made : filter (λ o. in_view sees shows r o.site) part.made ≡ part.made
 
 -- the erased meaning over the known objects that are shown, given what was downgraded into view
 abbrev pub ErasureAgrees : Type 0

@@ -8,7 +8,7 @@ pub fn everything_seen()
 
 /// Who sees some labels that are closed under what a program owes them computes by the erased
 /// meaning, over the objects that are shown and with the values that were downgraded into view, what
-/// of a request is in view.
+/// of a request is in view, and touches nothing else.
 pub fn erasing_agrees()
     ensures { ErasureAgrees }
 {}
