@@ -423,3 +423,57 @@ fn recovery(rt: HostRuntime) -> Result<(), Fail> {
     assert!(rt; sent(&step).is_empty());
     Ok(())
 }
+
+/// What a store with an object of this name from the start votes on worker 0's attempt that makes it.
+fn voted_on_another(alloc: Global, oid: Oid) -> Result<Option<Answer>, NoMemory> {
+    let roots = [(oid, holding(alloc, 0, 100)?)];
+    let mut store = Store::make(alloc, 1, &rights(alloc)?, &roots)?;
+    let bytes = prepare(alloc, tid(0, 1), &[], &[], &[(oid, 0)])?;
+    let step = store.handle(0, bytes.as_slice())?;
+    Ok(match decode(alloc, sent(&step)) {
+        Ok(Message::Vote { answer, .. }) => Some(answer),
+        _ => None,
+    })
+}
+
+#[test]
+fn an_object_that_is_there(rt: HostRuntime) -> Result<(), Fail> {
+    assert_eq!(rt;
+        voted_on_another(rt.alloc(), made(1))?,
+        Some(Answer::Exists(made(1)))
+    );
+    Ok(())
+}
+
+/// A Fetch of account 0, and what is sent of it at the start.
+const FETCH: &[u8] =
+    b"\x01\x01\x00\x00\x00\x00\x00\x01\x00\x00\x00\x01\x00\x01\x00\x00\xff\xff\x00\x00\x00\x00\x00\x00\x00\x00\xff\xff\x00\x00";
+
+const FETCHED: &[u8] =
+    b"\x01\x02\x00\x00\x00\x00\x00\x01\x00\x00\x00\x01\x00\x01\x00\x00\xff\xff\x00\x00\x00\x00\x00\x00\x00\x00\xff\xff\x00\x00\x00\x00\x00\x01\x00\x00\x01\x00\x00\x00\x00\x64";
+
+/// Whether account 0 is fetched.
+fn is_fetched(store: &mut Store) -> bool {
+    match replies(store, 0, FETCH, FETCHED) {
+        Ok(same) => same,
+        Err(_) => false,
+    }
+}
+
+/// How many of so many fetches of account 0 get it.
+fn fetched(store: &mut Store, times: u32) -> u32 {
+    let mut count = 0u32;
+    for _ in 0..times {
+        if is_fetched(store) {
+            count = count.saturating_add(1);
+        }
+    }
+    count
+}
+
+#[test]
+fn ten_thousand_fetches(rt: HostRuntime) -> Result<(), Fail> {
+    let mut store = store(rt.alloc())?;
+    assert_eq!(rt; fetched(&mut store, 10_000), 10_000);
+    Ok(())
+}
