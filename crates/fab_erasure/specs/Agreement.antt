@@ -167,5 +167,6 @@ ErasureAgrees =
 
 -- with everything seen and nothing given it is the meaning
 abbrev pub SeesAllAlike : Type 0
-SeesAllAlike = (r : Resolved) (known : FlatMap) (request : Request) (tid : Tid) (fuel : ℕ) → erased (λ l. true) (λ c. true) r known request tid fuel [] ≡ meaning r
-    known request tid fuel
+SeesAllAlike =
+    (r : Resolved) (known : FlatMap) (request : Request) (tid : Tid) (fuel : ℕ)
+    → erased (λ l. true) (λ c. true) r known request tid fuel [] ≡ meaning r known request tid fuel

@@ -115,7 +115,9 @@ outcomes_text r n (xs ∷ more) = outcomes_of r n 0 xs ++ outcomes_text r (suc n
 -- ---- what is held, by node
 
 abbrev pub held_line : Resolved → ℕ → Oid × ℕ × Object → List ℕ
-held_line r s row = line (codes "object" ++ spaced (node_text r s ∷ name_text r row.0 ∷ class_text r row.0.class ∷ decimal row.1 ∷ map (value_text r) row.2.fields))
+held_line r s row =
+    line (codes "object"
+    ++ spaced (node_text r s ∷ name_text r row.0 ∷ class_text r row.0.class ∷ decimal row.1 ∷ map (value_text r) row.2.fields))
 
 abbrev pub held_text : Resolved → ℕ → List (List (Oid × ℕ × Object)) → List ℕ
 held_text r s [] = []
