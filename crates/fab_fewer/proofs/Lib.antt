@@ -1,0 +1,10 @@
+pub mod Touches
+pub mod Walk
+pub mod Fewer
+pub mod InPart
+pub mod Blanks
+pub mod Asking
+pub mod AsksInView
+mod FewerExamples
+mod BlanksExamples
+mod InViewExamples

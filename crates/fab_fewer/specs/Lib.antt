@@ -1,0 +1,4 @@
+pub mod Fewer
+pub mod InPart
+pub mod Blanks
+pub mod Asking
