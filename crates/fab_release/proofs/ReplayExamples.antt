@@ -1,0 +1,265 @@
+-- Runs of a small setting: what they release to a set of nodes, and that the public replay of it is what was sent into the set.
+use Rattle.std.proofs.Common.{◌≡◌, ℕ, true, false, List, [], ◌∷◌, ◌++◌, map, pos, Option, Some, None, refl, ◌==◌, ◌||◌}
+use Rattle.fab_base.specs.declared.object.Object.{Object as Thing}
+use Rattle.fab_base.specs.declared.object.Tid.{Tid}
+use Rattle.fab_base.specs.declared.object.Value.TheVariants.{Int}
+use Rattle.fab_base.specs.declared.message.Message.{Message}
+use Rattle.fab_base.specs.declared.message.Message.TheVariants.{Fetch, Object, Prepare, Vote, Commit, Boot}
+use Rattle.fab_base.specs.declared.message.Answer.TheVariants.{Yes, OldTid, Rights as NoRights}
+use Rattle.fab_base.specs.FlatMap.{FlatMap, get, put}
+use Rattle.fab_base.specs.MessageSpelling.{spelled}
+use Rattle.fab_language.specs.declared.ending.Ending.TheVariants.{Ended, Missing}
+use Rattle.fab_language.specs.Meaning.{Meant}
+use Rattle.fab_net.specs.declared.event.Event.TheVariants as e
+use Rattle.fab_net.specs.declared.event.Inner.TheVariants as i
+use Rattle.fab_protocol.specs.Stores.{shelf_of}
+use Rattle.fab_protocol.proofs.Toy.{account, box, holding, accounts, attempt, rights}
+use Rattle.fab_world.specs.Workers.{kept_of}
+use Rattle.fab_world.specs.Machine.{Setting, Move}
+use Rattle.fab_world.specs.Serial.{world_of}
+use Rattle.fab_world.proofs.Toy.{setting, means, no_posts, posts_of, plain, is_run, is_hostile, both_written, transfers, until_applied}
+use Rattle.fab_release.specs.declared.release.Release.{Release}
+use Rattle.fab_release.specs.declared.release.Release.TheVariants as r
+use Rattle.fab_release.specs.declared.release.Released.{Released}
+use Rattle.fab_release.specs.Sights.{Sight, Public}
+use Rattle.fab_release.specs.Replay.{public}
+use Rattle.fab_release.specs.Isolation.{released_in}
+
+abbrev told : Release → Released
+told x = record { quiet = false; release = x }
+
+abbrev quietly : Release → Released
+quietly x = record { quiet = true; release = x }
+
+abbrev first : Tid
+first = attempt 0 1 1
+
+-- ---- a worker opens a box at a store of the set, and leaves 7 in it
+
+abbrev boxed : ℕ → Thing
+boxed n = record { class = 1; fields = Int (pos n) ∷ [] }
+
+abbrev opened : Option Thing → FlatMap → Meant
+opened None N = record { ending = Missing 0 box; map = N; written = []; touches = []; downs = []; made = [] }
+opened (Some x) N = record { ending = Ended None; map = put box (boxed 7) N; written = box ∷ []; touches = (0, box) ∷ []; downs = []; made = [] }
+
+abbrev opens : FlatMap → Meant
+opens N = opened (get N box) N
+
+-- the hostile nodes, which see boxes and each site
+abbrev strangers : Sight
+strangers = record { has = is_hostile; shows = λ class. class == 1; in_view = λ site. true; into_view = λ site. false }
+
+abbrev box_messages : List Message
+box_messages = Object first box 3 (boxed 2) ∷ Vote first Yes ∷ []
+
+abbrev S : Setting
+S = record (setting 0 1 0 (posts_of 4 0 box_messages) box_messages) { means = λ w request t N. opens N }
+
+abbrev P : Public
+P = record { rights = rights; cache = 0; roots = []; read = S.read; means = λ w request t known given. opens known }
+
+abbrev opening : List Move
+opening = map plain (e.Begin 0 ∷ e.Resume 0 ∷ e.Post 4 ∷ e.Deliver 4 0 ∷ e.Resume 0 ∷ e.Post 4 ∷ e.Deliver 4 0 ∷ [])
+
+opening_is_run : is_run S opening ≡ true
+unfolding kept_of shelf_of
+opening_is_run = refl
+
+opening_releases : released_in strangers S opening
+    ≡ map told (r.Begin 0 1 ∷ r.Ask 0 ∷ r.Received 0 4 (spelled (Object first box 3 (boxed 2))) ∷ r.Ended 0
+    ∷ r.Received 0 4 (spelled (Vote first Yes)) ∷ r.Decided 0 true ∷ [])
+unfolding kept_of shelf_of
+opening_releases = refl
+
+abbrev box_sent : List (List ℕ)
+box_sent =
+    map spelled (Fetch first box ∷ Prepare first (record { reads = []; writes = (box, 3, boxed 7) ∷ []; creates = [] }) ∷ Commit first ∷ [])
+
+opening_sends : (world_of S opening).sent 0 4 ≡ box_sent
+unfolding kept_of shelf_of
+opening_sends = refl
+
+opening_is_replayed : public strangers P (released_in strangers S opening) 0 4 ≡ box_sent
+unfolding kept_of shelf_of
+opening_is_replayed = refl
+
+-- ---- its decision is cut, and it comes back: what is quiet isn't sent, and the Commit is sent again
+
+abbrev cut_short : List Move
+cut_short =
+    map plain (e.Begin 0 ∷ e.Resume 0 ∷ e.Post 4 ∷ e.Deliver 4 0 ∷ e.Resume 0 ∷ e.Post 4 ∷ e.CrashIn 24 (i.Deliver 4 0) ∷ e.Recover 0 ∷ [])
+
+cut_is_run : is_run S cut_short ≡ true
+unfolding kept_of shelf_of
+cut_is_run = refl
+
+cut_releases : released_in strangers S cut_short
+    ≡ map told (r.Begin 0 1 ∷ r.Ask 0 ∷ r.Received 0 4 (spelled (Object first box 3 (boxed 2))) ∷ r.Ended 0 ∷ [])
+    ++ map quietly (r.Received 0 4 (spelled (Vote first Yes)) ∷ r.Decided 0 true ∷ []) ++ map told (r.Crash 0 ∷ r.Recover 0 ∷ [])
+unfolding kept_of shelf_of
+cut_releases = refl
+
+cut_is_replayed : public strangers P (released_in strangers S cut_short) 0 4 ≡ box_sent ++ spelled (Boot 2) ∷ []
+unfolding kept_of shelf_of
+cut_is_replayed = refl
+
+cut_sends : (world_of S cut_short).sent 0 4 ≡ box_sent ++ spelled (Boot 2) ∷ []
+unfolding kept_of shelf_of
+cut_sends = refl
+
+-- with one byte less the record is torn: the decision is a crash and no more, and the attempt is forgotten
+abbrev torn : List Move
+torn =
+    map plain (e.Begin 0 ∷ e.Resume 0 ∷ e.Post 4 ∷ e.Deliver 4 0 ∷ e.Resume 0 ∷ e.Post 4 ∷ e.CrashIn 23 (i.Deliver 4 0) ∷ e.Recover 0 ∷ [])
+
+torn_releases : released_in strangers S torn
+    ≡ map told (r.Begin 0 1 ∷ r.Ask 0 ∷ r.Received 0 4 (spelled (Object first box 3 (boxed 2))) ∷ r.Ended 0 ∷ r.Crash 0 ∷ r.Recover 0 ∷ [])
+unfolding kept_of shelf_of
+torn_releases = refl
+
+abbrev torn_sent : List (List ℕ)
+torn_sent =
+    map spelled (Fetch first box ∷ Prepare first (record { reads = []; writes = (box, 3, boxed 7) ∷ []; creates = [] }) ∷ Boot 2 ∷ [])
+
+torn_is_replayed : public strangers P (released_in strangers S torn) 0 4 ≡ torn_sent
+unfolding kept_of shelf_of
+torn_is_replayed = refl
+
+torn_sends : (world_of S torn).sent 0 4 ≡ torn_sent
+unfolding kept_of shelf_of
+torn_sends = refl
+
+-- a record without the Ask waits for nothing, and so knows nothing of the box
+without_asking : public strangers P
+    (map told (r.Begin 0 1 ∷ r.Received 0 4 (spelled (Object first box 3 (boxed 2))) ∷ r.Ended 0
+    ∷ r.Received 0 4 (spelled (Vote first Yes)) ∷ r.Decided 0 true ∷ [])) 0 4 ≡ []
+without_asking = refl
+
+-- ---- the second attempt finds the box in the cache
+
+abbrev again : Tid
+again = attempt 0 1 2
+
+abbrev cached_messages : List Message
+cached_messages = box_messages ++ Vote again Yes ∷ []
+
+abbrev C : Setting
+C = record (setting 0 2 1 (posts_of 4 0 cached_messages) cached_messages) { means = λ w request t N. opens N }
+
+abbrev caching : Public
+caching = record P { cache = 1; read = C.read }
+
+abbrev twice : List Move
+twice = opening ++ map plain (e.Begin 0 ∷ e.Resume 0 ∷ e.Resume 0 ∷ e.Post 4 ∷ e.Deliver 4 0 ∷ [])
+
+twice_is_run : is_run C twice ≡ true
+unfolding kept_of shelf_of
+twice_is_run = refl
+
+abbrev twice_sent : List (List ℕ)
+twice_sent =
+    box_sent
+    ++ map spelled (Prepare again (record { reads = []; writes = (box, 4, boxed 7) ∷ []; creates = [] }) ∷ Commit again ∷ [])
+
+twice_sends : (world_of C twice).sent 0 4 ≡ twice_sent
+unfolding kept_of shelf_of
+twice_sends = refl
+
+twice_is_replayed : public strangers caching (released_in strangers C twice) 0 4 ≡ twice_sent
+unfolding kept_of shelf_of
+twice_is_replayed = refl
+
+-- ---- a worker of the set transfers: the store's answers and its vote
+
+abbrev partners : Sight
+partners = record { has = λ n. is_hostile n || (n == 0); shows = λ class. true; in_view = λ site. true; into_view = λ site. false }
+
+abbrev T : ℕ → Setting
+T n = record (setting 0 1 0 no_posts (transfers first)) { roots = accounts (pos n) (pos 0) }
+
+abbrev accounts_known : Public
+accounts_known = record { rights = rights; cache = 0; roots = accounts (pos 100) (pos 0); read = (T 100).read; means = λ w request t known given. means 0 t known }
+
+abbrev transferring : List Move
+transferring = map plain (until_applied 0)
+
+abbrev store_sent : List (List ℕ)
+store_sent = map spelled (Object first (account 0) 1 (holding (pos 100)) ∷ Object first (account 1) 1 (holding (pos 0)) ∷ Vote first Yes ∷ [])
+
+store_sends : (world_of (T 100) transferring).sent 1 0 ≡ store_sent
+unfolding kept_of shelf_of
+store_sends = refl
+
+store_is_replayed : public partners accounts_known (released_in partners (T 100) transferring) 1 0 ≡ store_sent
+unfolding kept_of shelf_of
+store_is_replayed = refl
+
+-- ---- the hostile nodes see no accounts: a transfer of a secret releases the same, whatever is on the accounts
+
+abbrev secret_messages : List Message
+secret_messages = transfers first ++ Object first (account 0) 1 (holding (pos 70)) ∷ both_written first 1 (pos 65) (pos 5) ∷ []
+
+abbrev U : ℕ → Setting
+U n = record (setting 0 1 0 no_posts secret_messages) { roots = accounts (pos n) (pos 0) }
+
+abbrev secret_released : List Released
+secret_released = map told (r.Begin 0 1 ∷ r.Ended 0 ∷ r.Decided 0 true ∷ [])
+
+poor_is_run : is_run (U 70) transferring ≡ true
+unfolding kept_of shelf_of
+poor_is_run = refl
+
+rich_releases : released_in strangers (U 100) transferring ≡ secret_released
+unfolding kept_of shelf_of
+rich_releases = refl
+
+poor_releases : released_in strangers (U 70) transferring ≡ secret_released
+unfolding kept_of shelf_of
+poor_releases = refl
+
+-- who sees the accounts is told when they are read, in which version, and when they are applied, and never what is on them
+abbrev auditors : Sight
+auditors = record strangers { shows = λ class. true }
+
+audit_releases : released_in auditors (U 70) transferring
+    ≡ map told (r.Begin 0 1 ∷ r.Got 0 1 ∷ r.Got 0 1 ∷ r.Ended 0 ∷ r.Decided 0 true ∷ r.Applied 1 first ∷ [])
+unfolding kept_of shelf_of
+audit_releases = refl
+
+-- ---- a hostile worker asks a store to prepare what it may not write, and then an older attempt
+
+abbrev strange : ℕ → Tid
+strange n = attempt 2 1 n
+
+abbrev strange_prepare : ℕ → Message
+strange_prepare n = Prepare (strange n) (record { reads = []; writes = (account 0, 1, holding (pos 1000)) ∷ []; creates = [] })
+
+abbrev strange_messages : List Message
+strange_messages = strange_prepare 5 ∷ strange_prepare 4 ∷ []
+
+abbrev H : Setting
+H = setting 0 1 0 (posts_of 2 1 strange_messages) strange_messages
+
+abbrev hostile_known : Public
+hostile_known = record accounts_known { read = H.read; roots = [] }
+
+abbrev asking : List Move
+asking = map plain (e.Post 2 ∷ e.Deliver 2 1 ∷ e.Post 2 ∷ e.Deliver 2 1 ∷ [])
+
+asking_releases : released_in strangers H asking
+    ≡ map told (r.Received 1 2 (spelled (strange_prepare 5)) ∷ r.Voted 1 (strange 5) (NoRights (account 0))
+    ∷ r.Received 1 2 (spelled (strange_prepare 4)) ∷ r.Voted 1 (strange 4) (OldTid (strange 5)) ∷ [])
+unfolding kept_of shelf_of
+asking_releases = refl
+
+abbrev votes_sent : List (List ℕ)
+votes_sent = map spelled (Vote (strange 5) (NoRights (account 0)) ∷ Vote (strange 4) (OldTid (strange 5)) ∷ [])
+
+asking_sends : (world_of H asking).sent 1 2 ≡ votes_sent
+unfolding kept_of shelf_of
+asking_sends = refl
+
+asking_is_replayed : public strangers hostile_known (released_in strangers H asking) 1 2 ≡ votes_sent
+unfolding kept_of shelf_of
+asking_is_replayed = refl

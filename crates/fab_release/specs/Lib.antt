@@ -1,0 +1,5 @@
+pub mod Bundles
+pub mod Isolation
+pub mod Record
+pub mod Replay
+pub mod Sights
