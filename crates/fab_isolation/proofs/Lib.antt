@@ -1,0 +1,5 @@
+pub mod Asking
+pub mod Followed
+pub mod Requests
+pub mod Roots
+pub mod Sights

@@ -1,0 +1,77 @@
+-- What a set of nodes of an accepted bundle sees: the classes that its stores may hold and its workers may fetch.
+use Rattle.std.proofs.Common.{◌≡◌, ℕ, zero, suc, ◌<◌, ◌||◌, Bool, true, false, IsTrue, List, [], ◌∷◌, length, Option, Some, None, refl, sym, ◌∙◌, arith, IsBitSet, IsSomeAnd}
+use Rattle.std.specs.Prelude.{slice_get, option_map}
+use Rattle.std.specs.List.{list_any}
+use Rattle.std.proofs.lemmas.Bool.{true≢false}
+use Rattle.fab_tree.specs.declared.declaration.Role.{Role}
+use Rattle.fab_tree.specs.declared.resolved.Class.{Class}
+use Rattle.fab_tree.specs.declared.resolved.Resolved.{Resolved}
+use Rattle.fab_language.specs.Flows.{delegations_of}
+use Rattle.fab_labelling.specs.Readers.{IsNode, IsReader, label_at, principal_of}
+use Rattle.fab_labelling.specs.Placement.{role_of, HoldsClass}
+use Rattle.fab_places.specs.Places.{AreRights}
+use Rattle.fab_rights.specs.Computed as computed
+use Rattle.fab_rights.specs.Computed.{has_bit, may_fetch, may_hold}
+use Rattle.fab_rights.specs.declared.rights.ClassRights.{ClassRights}
+use Rattle.fab_rights.specs.declared.rights.Rights.{Rights}
+use Rattle.fab_rights.proofs.Bits.{has_bit_exact}
+use Rattle.fab_settings.proofs.Nodes.{holds_number}
+use Rattle.fab_fewer.specs.Asking.{access_of, is_asked_in_view}
+use Rattle.fab_views.specs.Views.{IsSeenBy}
+
+some_below : {A : Type 0} (P : A → Type 0) (xs : List A) (i : ℕ) → IsSomeAnd (slice_get xs i) P → i < length xs
+some_below P [] i h = absurd h
+some_below P (x ∷ xs) zero h = omega arith
+some_below P (x ∷ xs) (suc i) h = let k = some_below P xs i h in omega (arith, k)
+
+some_mapped : {A B : Type 0} (f : A → B) (P : B → Type 0) (o : Option A) → IsSomeAnd (option_map f o) P → IsSomeAnd o (λ x. P (f x))
+some_mapped f P None h = absurd h
+some_mapped f P (Some x) h = h
+
+-- what has a role is a node
+role_is_node : (r : Resolved) (n : ℕ) (P : Role → Type 0) → IsSomeAnd (role_of r n) P → IsNode r n
+role_is_node r n P h = some_below _ r.nodes (principal_of r n) (some_mapped (λ x. x.role) P (slice_get r.nodes (principal_of r n)) h)
+
+either_true : (b : Bool) → b ≡ true → (b || false) ≡ true
+either_true true e = refl
+either_true false e = e
+
+fetched_bit : (o : Option ClassRights) (n : ℕ) → IsTrue (computed.fetches o n) → IsSomeAnd o (λ c. IsBitSet c.fetchers n)
+fetched_bit None n h = absurd (true≢false (sym h))
+fetched_bit (Some c) n h = (has_bit_exact c.fetchers n).0 h
+
+module _ (r : Resolved) (nodes : ℕ) (sees shows : ℕ → Bool) (seen : IsSeenBy r nodes sees shows) where
+  -- a label that a node of the set reads is seen
+  pub reads_are_seen : (n l : ℕ) → has_bit nodes n ≡ true → IsNode r n → IsReader (delegations_of r) (label_at r l) (principal_of r n) → IsTrue (sees l)
+  reads_are_seen n l bit node reads = (seen.labels l).1 (n, (has_bit_exact nodes n).0 bit, node, reads)
+
+  -- and so is a class of such a label
+  read_classes : (n class : ℕ) → has_bit nodes n ≡ true → IsNode r n
+      → (o : Option Class) → slice_get r.classes class ≡ o → IsSomeAnd o (λ c. IsReader (delegations_of r) (label_at r c.label.number) (principal_of r n)) → shows class ≡ true
+  read_classes n class bit node None e h = absurd h
+  read_classes n class bit node (Some c) e h = seen.classes class c e ∙ reads_are_seen n c.label.number bit node h
+
+  module _ (rights : Rights) (are : AreRights r rights) where
+    pub held_is_shown : (n class : ℕ) → has_bit nodes n ≡ true → IsTrue (may_hold rights n class) → shows class ≡ true
+    held_is_shown n class bit may =
+        let number = holds_number r rights are n class may in
+        read_classes n class bit (role_is_node r n _ number.0) (slice_get r.classes class) refl (weaker (slice_get r.classes class) number.1)
+      where
+        weaker : (o : Option Class) → IsSomeAnd o (λ c. HoldsClass r (delegations_of r) n c) → IsSomeAnd o (λ c. IsReader (delegations_of r) (label_at r c.label.number) (principal_of r n))
+        weaker None h = absurd h
+        weaker (Some c) h = h.reads
+
+    pub fetched_is_shown : (n class : ℕ) → has_bit nodes n ≡ true → IsTrue (may_fetch rights n class) → shows class ≡ true
+    fetched_is_shown n class bit may =
+        let number = (are.fetched n class).0 (fetched_bit (slice_get rights.classes class) n may) in
+        read_classes n class bit (role_is_node r n _ number.0) (slice_get r.classes class) refl number.1
+
+    -- the access label of a class that a store of the set may hold is seen
+    pub held_is_asked : (n class : ℕ) → has_bit nodes n ≡ true → IsTrue (may_hold rights n class) → IsTrue (is_asked_in_view sees shows r class)
+    held_is_asked n class bit may =
+        let number = holds_number r rights are n class may in
+        by (slice_get r.classes class) (role_is_node r n _ number.0) number.1
+      where
+        by : (o : Option Class) → IsNode r n → IsSomeAnd o (λ c. HoldsClass r (delegations_of r) n c) → IsTrue (list_any sees (access_of o))
+        by None node h = absurd h
+        by (Some c) node h = either_true (sees c.access.number) (reads_are_seen n c.access.number bit node h.learns)

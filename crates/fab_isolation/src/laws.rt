@@ -1,0 +1,9 @@
+//! What isolation asks of bundles.
+ghost use Rattle.fab_isolation.specs.Owed.{BundlesAreFollowed};
+
+/// Every accepted bundle gives what isolation asks, of whatever set of nodes contains the hostile ones: what
+/// everybody may know of it is a function of its public part, and whoever learns of a request the objects
+/// that it touches in view, one after the other, computes of it what is in view.
+pub fn bundles_are_followed()
+    ensures { BundlesAreFollowed }
+{}

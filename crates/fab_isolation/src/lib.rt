@@ -1,0 +1,6 @@
+//! Isolation: what the nodes outside a set have sent into it is the public replay of what was released.
+#![tactic(auto)]
+
+mod laws;
+
+pub use laws::bundles_are_followed;
