@@ -9,4 +9,5 @@ mod sequence;
 mod single;
 mod text;
 
+pub use objects::at_start;
 pub use text::evaluation;

@@ -26,7 +26,7 @@ fn rows(alloc: Global, roots: &[Root]) -> Result<Vec<(Oid, Object)>, NoMemory>
 }
 
 /// The objects that there are from the start.
-pub(crate) fn at_start(alloc: Global, start: &Resolved) -> Result<ObjectMap, NoMemory>
+pub fn at_start(alloc: Global, start: &Resolved) -> Result<ObjectMap, NoMemory>
     requires { AreNumbered start.now.roots }
     ensures { IfOk result (λ m. m ≡ map_at_start start.now) }
 {

@@ -1,7 +1,7 @@
 //! What a worker is about to do.
 
-ghost use Rattle.std.specs.Prelude.{◌≡◌, IfOk, Some, None};
-ghost use Rattle.fab_base.specs.JournalSpelling.{KeepsEntry, record_bytes as record_of};
+ghost use Rattle.std.specs.Prelude.{◌≡◌, IfOk, IfSome, Some, None};
+ghost use Rattle.fab_base.specs.JournalSpelling.{IsEntry, KeepsEntry, record_bytes as record_of};
 
 use crate::change::Change;
 use fab_base::{Entry, NoMemory, Seq};
@@ -20,17 +20,22 @@ pub struct WorkerPlan {
 }
 
 impl Model for WorkerPlan {
+    ghost use Rattle.std.specs.Prelude.{IfSome};
+    ghost use Rattle.fab_base.specs.JournalSpelling.{IsEntry};
     ghost use Rattle.fab_worker.specs.Plans.{Plan};
 
     ghost Value = { Plan };
 
     ghost view = { λ p. record { entry = p.entry; change = p.change; step = p.step } };
+
+    ghost invariant = { λ p. IfSome p.entry (IsEntry 1) };
 }
 
 impl WorkerPlan {
-    /// What is to be written and sent.
+    /// What is to be written and sent. What each plan writes can be read back.
     pub fn step(&self) -> &Step
-        ensures { result.now ≡ self.now.step }
+        ensures step { result.now ≡ self.now.step }
+        ensures fits { IfSome self.now.entry (IsEntry 1) }
     {
         &self.step
     }

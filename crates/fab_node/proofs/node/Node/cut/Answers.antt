@@ -1,0 +1,38 @@
+use Rattle.std.proofs.Common.{refl, sym, ap, subst}
+use Rattle.fab_node.specs.declared.role.Role.{Role}
+use Rattle.fab_node.specs.Standing.{NodeModel, RoleStands}
+use Rattle.fab_node.specs.Deeds.{IsPlanOf}
+use Rattle.fab_node.proofs.Carried.{cut_all, failed_stands, writes_here}
+use Rattle.fab_node.proofs.node.Node.cut.Goals as goal
+
+pub accept_whole-requires : goal.accept_whole-requires
+accept_whole-requires g c =
+    let node = c.args.self.now in
+    let role = ap (λ (m : NodeModel). m.role) c.self.view_is in
+    let p = c.requires.plan in
+    record { plan = (p.0, p.1, p.2, node.number, subst (λ (r : Role). IsPlanOf p.0 p.1 p.2 node.number r c.args.plan) (sym role) p.4.is) }
+
+pub returns-in-Ok-clause-ok : goal.returns-in-Ok-clause-ok
+returns-in-Ok-clause-ok g c = λ given x act s p.
+    let node = c.args.self.now in
+    let role = ap (λ (m : NodeModel). m.role) c.self.view_is in
+    let content = ap (λ (m : NodeModel). m.journal.content) c.self.view_is in
+    let synced = ap (λ (m : NodeModel). m.journal.synced) c.self.view_is in
+    let here = subst (λ (r : Role). RoleStands given node.number x r) (sym role) s.role in
+    cut_all given x act node s c.args.plan p c.requires.can _ (ap (λ (m : NodeModel). m.number) c.self.view_is) (ap (λ (m : NodeModel). m.failed) c.self.view_is)
+    c.args.keep c.in-Ok.is_whole
+    (λ whole. c.accept_whole.ensures.whole whole given x act node.number here (subst (λ (r : Role). IsPlanOf given x act node.number r c.args.plan) (sym role) p.is))
+    (λ part. subst (λ (r : Role). RoleStands given node.number x r) (sym (c.accept_whole.ensures.part part)) here)
+    refl
+    (c.in-Ok.ensures.ok given node.number x act
+    (writes_here given x act node s c.args.plan p c.requires.can (g.J.Journal.content c.self.inside.journal) (g.J.Journal.synced c.self.inside.journal) content synced))
+    c.requires.record c.requires.keep c.in-Ok.ensures.whole
+
+pub returns-in-Err-clause-err : goal.returns-in-Err-clause-err
+returns-in-Err-clause-err g c = λ given x act s p.
+    let node = c.args.self.now in
+    let content = ap (λ (m : NodeModel). m.journal.content) c.self.view_is in
+    let synced = ap (λ (m : NodeModel). m.journal.synced) c.self.view_is in
+    failed_stands given x node _ (ap (λ (m : NodeModel). m.number) c.self.view_is) (ap (λ (m : NodeModel). m.role) c.self.view_is) c.fail.ensures.up s c.fail.ensures.failed
+    (c.in-Err.ensures.err node.number x act
+    (writes_here given x act node s c.args.plan p c.requires.can (g.J.Journal.content c.self.inside.journal) (g.J.Journal.synced c.self.inside.journal) content synced))
