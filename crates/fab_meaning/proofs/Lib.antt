@@ -1,2 +1,9 @@
+pub mod Arguments
+pub mod AtStart
+pub mod Chains
 pub mod Ending
+mod ErasedExamples
+pub mod ErasedForms
 pub mod Running
+mod SecretExamples
+pub mod Toy

@@ -1,97 +1,51 @@
--- Statements and calls: what is left of each piece once the calls before have given what they did.
-use Rattle.std.proofs.Common.{◌≡◌, ℕ, zero, suc, ◌<◌, ◌≤◌, Bool, true, false, List, drop, length, get_or, Option, Result, Ok, Err, refl, sym, ap, ◌∙◌, subst, arith}
-use Rattle.fab_base.specs.declared.object.Tid.{Tid}
+-- Two forms of statement, deeper calls, and a loop that can't pay for a test.
+use Rattle.std.proofs.Common.{◌≡◌, ℕ, zero, suc, ◌-◌, ◌≤◌, List, Option, Result, Err, refl, sym, ap, ◌∙◌, subst, arith}
 use Rattle.fab_base.specs.declared.object.Value.{Value}
-use Rattle.fab_tree.specs.declared.resolved.Statement.{Statement}
-use Rattle.fab_tree.specs.declared.resolved.Resolved.{Resolved}
-use Rattle.fab_language.specs.Heaps.{Heap}
-use Rattle.fab_language.specs.Meaning.{State, Run, goes, M, charge, holds, turns, or_else, statement, block, called, back_with}
-use Rattle.fab_values.specs.Pieces.{choice}
-use Rattle.fab_values.proofs.Steps.{next_statement, charge_none, turns_on}
-use Rattle.fab_meaning.specs.declared.halt.End.TheVariants.{Failed, Stopped, Missing}
+use Rattle.fab_tree.specs.declared.resolved.Expression.{Expression}
+use Rattle.fab_tree.specs.declared.resolved.Method.{Method}
+use Rattle.fab_tree.specs.declared.resolved.Right.{Right}
+use Rattle.fab_tree.specs.declared.resolved.Statement.{Statement, roll-Statement, fold-roll-Statement, map-Statement}
+use Rattle.fab_tree.specs.declared.resolved.Statement.TheVariants as statements
+use Rattle.fab_tree.specs.declared.resolved.Statement.TheOpen as s
+use Rattle.fab_language.specs.Meaning.{State, Run, M, charge, turns}
+use Rattle.fab_values.proofs.Steps.{charge_none}
+use Rattle.fab_erasure.specs.Erased as e
 use Rattle.fab_meaning.specs.declared.halt.Halt.{Halt}
 use Rattle.fab_meaning.specs.declared.halt.Halt.TheVariants.{Memory, Ended}
-use Rattle.fab_meaning.specs.Points.{Point, with_locals, put_back}
-use Rattle.fab_meaning.specs.Gives.{Gives, went_on}
+use Rattle.fab_meaning.specs.declared.setting.Setting.{Setting}
+use Rattle.fab_meaning.specs.Gives.{Gives}
+use Rattle.fab_meaning.specs.Pieces.{choice}
+use Rattle.fab_meaning.specs.Sights.{sees, shows}
+use Rattle.fab_meaning.specs.Settings.{value, is_seen, call, entered, entered_below, entered_from, assignment, statement, block}
 
--- ---- the attempt is the same
+-- ---- statements and deeper calls
 
--- a block in an attempt, where so many calls more may be open
-abbrev pub block_in : Resolved → ℕ → List Statement → Tid → M (Unit {0})
-block_in program depth ss tid = block tid (called program tid depth) ss
+module _ (c : Setting) (m : Method) where
+  opened : (x : s.Statement-F Statement) → statement c m (roll-Statement x) ≡ e.statement_step (sees c.sight) (shows c.sight) c.program.now.classes m.locals c.tid (call c) (map-Statement Statement (M (Unit {0})) (statement c m) x)
+  opened x = fold-roll-Statement (M (Unit {0})) (e.statement_step (sees c.sight) (shows c.sight) c.program.now.classes m.locals c.tid (call c)) x
 
-pub in_same : {A : Type 0} (result : Result A Halt) (new : Point) (run : Tid → Run A) (a b : Tid) → a ≡ b → Gives result new (run a) → Gives result new (run b)
-in_same result new run a b e g = subst (λ (x : Tid). Gives result new (run x)) e g
+  pub if_means : (test : Expression) (body otherwise : List Statement) → statement c m (statements.If test body otherwise) ≡ choice (is_seen c m test) (value c m test) (block c m body) (block c m otherwise)
+  if_means test body otherwise = ap (statement c m) (sym (statements.rolls-If test body otherwise)) ∙ opened (s.If test body otherwise)
 
--- ---- blocks
+  pub assign_means : (x : ℕ) (r : Right) (at : ℕ) → statement c m (statements.Assign x r at) ≡ assignment c m x r
+  assign_means x r at = ap (statement c m) (sym (statements.rolls-Assign x r at)) ∙ opened (s.Assign x r at)
 
--- a statement ended
-pub block_ends : (tid : Tid) (call : ℕ → List Value → M (Option Value)) (ss : List Statement) (i : ℕ) (x : Statement) (p : State) (q : Point) (h : Halt) (all : Run (Unit {0})) → i < length ss → x ≡ get_or ss i x → Gives {A = Unit {0}} (Err h) q (statement tid call x p) → block tid call (drop i ss) p ≡ all → Gives {A = Unit {0}} (Err h) q all
-block_ends tid call ss i x p q Memory all le e g same = tt
-block_ends tid call ss i x p q (Ended end) all le e g same = sym same ∙ next_statement tid call ss i x p le e ∙ rw g refl
+  one_less : (n : ℕ) → n ≡ suc n - 1
+  one_less n = omega arith
 
--- ---- choices
+  entered_at : (vs : List Value) (depth : ℕ) → ¬ (depth ≡ 0) → entered_from c depth m vs ≡ entered (record c { depth = depth - 1 }) m vs
+  entered_at vs zero not = absurd (not refl)
+  entered_at vs (suc depth) not = ap (λ (n : ℕ). entered (record c { depth = n }) m vs) (one_less depth)
 
-pub choice_first : (result : Result (Unit {0}) Halt) (new : Point) (test : M Value) (first second : M (Unit {0})) (p q r : State) (v : Value) → charge p ≡ goes tt q → test q ≡ goes v r → holds v ≡ true → Gives result new (first r) → Gives result new (choice test first second p)
-choice_first result new test first second p q r v e1 e2 e3 g = rw (e1, e2, e3) g
-
-pub choice_second : (result : Result (Unit {0}) Halt) (new : Point) (test : M Value) (first second : M (Unit {0})) (p q r : State) (v : Value) → charge p ≡ goes tt q → test q ≡ goes v r → holds v ≡ false → Gives result new (second r) → Gives result new (choice test first second p)
-choice_second result new test first second p q r v e1 e2 e3 g = rw (e1, e2, e3) g
+  -- a call where one more may be open
+  pub below_gives : (result : Result (Option Value) Halt) (new : State) (vs : List Value) (t : State) → ¬ (c.depth ≡ 0) → Gives result new (entered (record c { depth = c.depth - 1 }) m vs t)
+      → Gives result new (entered_below c m vs t)
+  below_gives result new vs t not g = subst (λ (r : M (Option Value)). Gives result new (r t)) (sym (entered_at vs c.depth not)) g
 
 -- ---- loops
 
 -- where the cost of a test can't be paid, the loop ends so
-pub turns_end : (n : ℕ) (test : M Value) (body : M (Unit {0})) (p : State) (new : Point) (h : Halt) (all : Run (Unit {0})) → p.fuel ≤ n → Gives {A = Unit {0}} (Err h) new (charge p) → turns n test body p ≡ all → Gives {A = Unit {0}} (Err h) new all
+pub turns_end : (n : ℕ) (test : M Value) (body : M (Unit {0})) (p : State) (new : State) (h : Halt) (all : Run (Unit {0})) → p.fuel ≤ n → Gives {A = Unit {0}} (Err h) new (charge p) → turns n test body p ≡ all → Gives {A = Unit {0}} (Err h) new all
 turns_end n test body p new Memory all le g same = tt
 turns_end zero test body p new (Ended e) all le g same = sym same ∙ sym (charge_none p (omega arith)) ∙ g
 turns_end (suc n) test body p new (Ended e) all le g same = sym same ∙ rw g refl
-
--- the block ends in a turn
-pub turn_ends : (n : ℕ) (test : M Value) (body : M (Unit {0})) (p q r : State) (v : Value) (new : Point) (h : Halt) (all : Run (Unit {0})) → p.fuel ≤ n → q.fuel < p.fuel → charge p ≡ goes tt q → test q ≡ goes v r → holds v ≡ true → Gives {A = Unit {0}} (Err h) new (body r) → turns n test body p ≡ all → Gives {A = Unit {0}} (Err h) new all
-turn_ends n test body p q r v new Memory all le lt e1 e2 e3 g same = tt
-turn_ends zero test body p q r v new (Ended e) all le lt e1 e2 e3 g same = absurd (omega arith)
-turn_ends (suc n) test body p q r v new (Ended e) all le lt e1 e2 e3 g same = sym same ∙ turns_on n test body p q r v e1 e2 e3 ∙ rw g refl
-
--- ---- attempts
-
--- the block ended as no other goes on from
-pub attempt_ends : (result : Result (Unit {0}) Halt) (h : Halt) (new : Point) (before : State) (run : Run (Unit {0})) (other : M (Unit {0})) → went_on result ≡ Err h → Gives result new run → Gives {A = Unit {0}} (Err h) new (or_else before run other)
-attempt_ends (Ok u) h new before run other w g = cc
-attempt_ends (Err Memory) Memory new before run other w g = tt
-attempt_ends (Err Memory) (Ended e) new before run other w g = cc
-attempt_ends (Err (Ended Failed)) h new before run other w g = cc
-attempt_ends (Err (Ended (Stopped stop))) h new before run other w g = subst (λ (r : Result Bool Halt). at r) w (rw g refl)
-  where
-    at : Result Bool Halt → Type 0
-    at (Ok b) = Unit {0}
-    at (Err k) = Gives {A = Unit {0}} (Err k) new (or_else before run other)
-attempt_ends (Err (Ended (Missing site o))) h new before run other w g = subst (λ (r : Result Bool Halt). at r) w (rw g refl)
-  where
-    at : Result Bool Halt → Type 0
-    at (Ok b) = Unit {0}
-    at (Err k) = Gives {A = Unit {0}} (Err k) new (or_else before run other)
-
--- the block went on
-pub attempt_goes : (result : Result (Unit {0}) Halt) (new : Point) (before : State) (run : Run (Unit {0})) (other : M (Unit {0})) → went_on result ≡ Ok true → Gives result new run → or_else before run other ≡ goes tt new.state
-attempt_goes (Ok u) new before run other w g = rw g refl
-attempt_goes (Err Memory) new before run other w g = cc
-attempt_goes (Err (Ended Failed)) new before run other w g = cc
-attempt_goes (Err (Ended (Stopped stop))) new before run other w g = cc
-attempt_goes (Err (Ended (Missing site o))) new before run other w g = cc
-
--- the block failed, what was saved is put back, and the other one is run
-pub attempt_failed : (result last : Result (Unit {0}) Halt) (before : State) (q z new : Point) (locals : List Value) (h : Heap) (run : Run (Unit {0})) (other : M (Unit {0})) → went_on result ≡ Ok false → Gives result q run → locals ≡ before.locals → h ≡ before.heap → z ≡ put_back locals h q → Gives last new (other z.state) → Gives last new (or_else before run other)
-attempt_failed (Ok u) last before q z new locals h run other w g l k e f = cc
-attempt_failed (Err Memory) last before q z new locals h run other w g l k e f = cc
-attempt_failed (Err (Ended Failed)) last before q z new locals h run other w g l k e f =
-    rw g (subst (λ (p : State). Gives last new (other p)) (ap (λ (y : Point). y.state) e ∙ (λ i. record q.state { locals = l i; heap = k i })) f)
-attempt_failed (Err (Ended (Stopped stop))) last before q z new locals h run other w g l k e f = cc
-attempt_failed (Err (Ended (Missing site o))) last before q z new locals h run other w g l k e f = cc
-
--- ---- calls
-
--- the caller's locals come back at any end
-pub back_gives : {A : Type 0} (result : Result A Halt) (last new : Point) (callers locals : List Value) (run : Run A) → Gives result last run → callers ≡ locals → new ≡ with_locals callers last → Gives result new (back_with locals run)
-back_gives (Ok a) last new callers locals run g e f = rw (g, f, ← e) refl
-back_gives (Err Memory) last new callers locals run g e f = tt
-back_gives (Err (Ended end)) last new callers locals run g e f = rw (g, f, ← e) refl

@@ -1,3 +1,6 @@
+pub mod Sights
 pub mod Points
 pub mod Gives
 pub mod Ends
+pub mod Settings
+pub mod Pieces

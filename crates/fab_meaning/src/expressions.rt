@@ -1,69 +1,83 @@
-//! Expressions.
+//! Expressions. A value that isn't seen is blank.
 ghost use Rattle.std.specs.Prelude.{◌≡◌, map};
-ghost use Rattle.fab_language.specs.Meaning.{chained, operate, value, values};
+ghost use Rattle.fab_language.specs.Meaning.{State as Point, chained, operate};
 ghost use Rattle.fab_meaning.specs.Gives.{Gives};
-ghost use Rattle.fab_meaning.specs.Points.{Point};
+ghost use Rattle.fab_meaning.specs.Settings.{others_of, value, values};
 
 use crate::halt::{End, Halt};
+use crate::setting::Setting;
+use crate::shown::{is_seen, read_shown, shown_if};
 use crate::state::State;
 use fab_base::{Seq, Value, java_sub};
 use fab_tree::Operator;
-use fab_tree::resolved::{Expression, Form, Operand};
+use fab_tree::resolved::{Expression, Form, Method, Operand};
 use fab_values::{compares, holds, int_of, operate, truth};
 
 /// The value of an expression.
 #[cycle(value)]
-pub(crate) fn value(state: &mut State, expression: &Expression) -> Result<Value, Halt>
-    ensures gives { Gives result state.new (value expression.now state.old.state) }
-    ensures tid { state.new.tid ≡ state.old.tid }
-    ensures fuel { state.new.state.fuel ≡ state.old.state.fuel }
+pub(crate) fn value(
+    setting: &Setting<'_>,
+    method: &Method,
+    state: &mut State,
+    expression: &Expression,
+) -> Result<Value, Halt>
+    ensures gives { Gives result state.new (value setting.now method.now expression.now state.old) }
+    ensures fuel { state.new.fuel ≡ state.old.fuel }
 {
+    let seen = is_seen(setting, method, expression);
     match &expression.form {
         Form::Number(n) => Ok(Value::Int(*n)),
         Form::Null => Ok(Value::Null),
-        Form::Local(x) => Ok(state.local(x.number)),
+        Form::Local(x) => Ok(shown_if(seen, state.local(x.number))),
         Form::Read {
             object,
             field,
             site,
         } => {
             let at = state.local(object.number);
-            state.read(*site, *field, at)
+            let v = read_shown(setting.sight, state, *site, *field, at)?;
+            Ok(shown_if(seen, v))
         }
         Form::Negative(operand) => {
-            let v = value(state, operand.get())?;
-            Ok(Value::Int(java_sub(0, int_of(v))))
+            let v = value(setting, method, state, operand.get())?;
+            Ok(shown_if(seen, Value::Int(java_sub(0, int_of(v)))))
         }
         Form::Not(operand) => {
-            let v = value(state, operand.get())?;
-            Ok(truth(!holds(v)))
+            let v = value(setting, method, state, operand.get())?;
+            Ok(shown_if(seen, truth(!holds(v))))
         }
         Form::Chain { first, others } => {
-            let v = value(state, first.get())?;
-            chained(state, others.as_slice(), v)
+            let v = value(setting, method, state, first.get())?;
+            let w = chained(setting, method, state, others.as_slice(), v)?;
+            Ok(shown_if(seen, w))
         }
         Form::Compared {
             left,
             comparison,
             right,
         } => {
-            let a = value(state, left.get())?;
-            let b = value(state, right.get())?;
-            Ok(truth(compares(*comparison, a, b)))
+            let a = value(setting, method, state, left.get())?;
+            let b = value(setting, method, state, right.get())?;
+            Ok(shown_if(seen, truth(compares(*comparison, a, b))))
         }
     }
 }
 
 /// A value, and what the other operands of a chain make of it, from the left.
 #[cycle(value)]
-fn chained(state: &mut State, others: &[Operand], first: Value) -> Result<Value, Halt>
-    ensures gives { Gives result state.new (chained operate (map (λ u. (u.operator, value u.operand)) others.now) first state.old.state) }
-    ensures tid { state.new.tid ≡ state.old.tid }
-    ensures fuel { state.new.state.fuel ≡ state.old.state.fuel }
+fn chained(
+    setting: &Setting<'_>,
+    method: &Method,
+    state: &mut State,
+    others: &[Operand],
+    first: Value,
+) -> Result<Value, Halt>
+    ensures gives { Gives result state.new (chained operate (map (λ u. (u.0, u.1.run)) (others_of setting.now method.now others.now)) first state.old) }
+    ensures fuel { state.new.fuel ≡ state.old.fuel }
 {
     let mut v = first;
     for other in others {
-        let w = value(state, &other.operand)?;
+        let w = value(setting, method, state, &other.operand)?;
         v = operated(other.operator, v, w)?;
     }
     Ok(v)
@@ -71,7 +85,7 @@ fn chained(state: &mut State, others: &[Operand], first: Value) -> Result<Value,
 
 /// What an operator makes of two values, or a failure.
 fn operated(operator: Operator, left: Value, right: Value) -> Result<Value, Halt>
-    ensures { (p : Point) → Gives result p (operate operator left right p.state) }
+    ensures { (p : Point) → Gives result p (operate operator left right p) }
 {
     match operate(operator, left, right) {
         Some(value) => Ok(value),
@@ -80,14 +94,18 @@ fn operated(operator: Operator, left: Value, right: Value) -> Result<Value, Halt
 }
 
 /// The values of arguments, from the left.
-pub(crate) fn values(state: &mut State, arguments: &[Expression]) -> Result<Seq<Value>, Halt>
-    ensures gives { Gives result state.new (values arguments.now state.old.state) }
-    ensures tid { state.new.tid ≡ state.old.tid }
-    ensures fuel { state.new.state.fuel ≡ state.old.state.fuel }
+pub(crate) fn values(
+    setting: &Setting<'_>,
+    method: &Method,
+    state: &mut State,
+    arguments: &[Expression],
+) -> Result<Seq<Value>, Halt>
+    ensures gives { Gives result state.new (values setting.now method.now arguments.now state.old) }
+    ensures fuel { state.new.fuel ≡ state.old.fuel }
 {
     let mut all = Seq::new(state.alloc());
     for argument in arguments {
-        let v = value(state, argument)?;
+        let v = value(setting, method, state, argument)?;
         all.push(v)?;
     }
     Ok(all)

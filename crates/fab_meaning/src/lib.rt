@@ -1,14 +1,19 @@
-//! What a request does over a flat map, by the words of its meaning: with whatever fuel, and with a
-//! copy of the whole heap for each block that may fail.
+//! What a request does over a flat map, by the words of its meaning, as far as who sees some labels
+//! can compute it: with whatever fuel, and with a copy of the whole heap for each block that may fail.
 #![tactic(auto)]
 
 mod expressions;
 mod halt;
 mod heap;
+mod methods;
+#[cfg(test)]
+mod secret;
+mod setting;
+mod shown;
 mod state;
 mod statements;
 #[cfg(test)]
 mod tests;
 mod whole;
 
-pub use whole::{Meant, meaning};
+pub use whole::{Meant, meaning, plain_meaning};

@@ -1,9 +1,10 @@
 //! What a run has at a point, and the steps that change it.
 ghost use Rattle.std.specs.Prelude.{◌≡◌, ◌<◌, ◌≤◌, OnOk, IfOk};
 ghost use Rattle.fab_language.specs.Meaning.{access, assign, charge, create, local, meant_at, noted_down, read, replace, with_field, write};
+ghost use Rattle.fab_erasure.specs.Erased.{take_given};
 ghost use Rattle.fab_meaning.specs.Ends.{IsMeant};
 ghost use Rattle.fab_meaning.specs.Gives.{Gives};
-ghost use Rattle.fab_meaning.specs.Points.{point_at_start, put_back, with_locals};
+ghost use Rattle.fab_meaning.specs.Points.{put_back, state_given, with_locals};
 
 use crate::halt::{End, Halt};
 use crate::heap::Heap;
@@ -16,27 +17,29 @@ use std::alloc::Global;
 use std::marker::Model;
 use std::mem;
 
-/// What a run has at a point: the attempt that it is of, the fuel that is left, the locals of the
-/// method that it is in, the objects, the touches, and the values that were downgraded. Contracts see
-/// it as the state that the meaning has, and the attempt.
+/// What a run has at a point: the fuel that is left, the locals of the method that it is in, the
+/// objects, the touches, the values that were downgraded, and those that are given, with how many of
+/// them were taken. Contracts see it as the state that the meaning has, with the given values that are
+/// left.
 #[derive(Drop)]
 pub(crate) struct State {
     alloc: Global,
-    tid: Tid,
     fuel: u32,
     locals: Vec<Value>,
     heap: Heap,
     touches: Touches,
     downs: Vec<(u16, Value)>,
+    given: Seq<Value>,
+    taken: usize,
 }
 
 impl Model for State {
-    ghost use Rattle.std.specs.Prelude.{[]};
-    ghost use Rattle.fab_meaning.specs.Points.{Point};
+    ghost use Rattle.std.specs.Prelude.{drop};
+    ghost use Rattle.fab_language.specs.Meaning.{State};
 
-    ghost Value = { Point };
+    ghost Value = { State };
 
-    ghost view = { λ s. record { state = record { fuel = s.fuel; locals = s.locals.items; heap = s.heap; touches = s.touches; downs = s.downs.items; given = [] }; tid = s.tid } };
+    ghost view = { λ s. record { fuel = s.fuel; locals = s.locals.items; heap = s.heap; touches = s.touches; downs = s.downs.items; given = drop s.taken s.given } };
 }
 
 /// What a failure puts back.
@@ -47,23 +50,24 @@ pub(crate) struct Saved {
 }
 
 impl State {
-    /// The state in which a request begins, over a map.
+    /// The state in which a request begins, over a map and with these given values.
     pub(crate) fn begin(
         alloc: Global,
         known: &ObjectMap,
-        tid: Tid,
         fuel: u32,
+        given: &[Value],
     ) -> Result<State, NoMemory>
-        ensures { IfOk result (λ s. s ≡ point_at_start tid known.now fuel) }
+        ensures { IfOk result (λ s. s ≡ state_given known.now fuel given.now) }
     {
         Ok(State {
             alloc,
-            tid,
             fuel,
             locals: Vec::new(alloc),
             heap: Heap::unchanged(alloc, known)?,
             touches: Touches::new(alloc),
             downs: Vec::new(alloc),
+            given: Seq::from_slice(alloc, given)?,
+            taken: 0,
         })
     }
 
@@ -74,10 +78,9 @@ impl State {
 
     /// A step that costs 1.
     pub(crate) fn charge(&mut self) -> Result<(), Halt>
-        ensures gives { Gives result self.new (charge self.old.state) }
-        ensures tid { self.new.tid ≡ self.old.tid }
-        ensures fuel { self.new.state.fuel ≤ self.old.state.fuel }
-        ensures spent { OnOk result (self.new.state.fuel < self.old.state.fuel) }
+        ensures gives { Gives result self.new (charge self.old) }
+        ensures fuel { self.new.fuel ≤ self.old.fuel }
+        ensures spent { OnOk result (self.new.fuel < self.old.fuel) }
     {
         if self.fuel == 0 {
             return Err(Halt::Ended(End::Stopped(Stop::Fuel)));
@@ -88,16 +91,15 @@ impl State {
 
     /// The value of a local.
     pub(crate) fn local(&self, x: u16) -> Value
-        ensures { Gives (Ok result) self.now (local x self.now.state) }
+        ensures { Gives (Ok result) self.now (local x self.now) }
     {
         self.locals.get(x as usize).copied().unwrap_or(Value::Null)
     }
 
     /// Gives a local a value.
     pub(crate) fn assign(&mut self, x: u16, value: Value)
-        ensures gives { Gives (Ok tt) self.new (assign x value self.old.state) }
-        ensures tid { self.new.tid ≡ self.old.tid }
-        ensures fuel { self.new.state.fuel ≡ self.old.state.fuel }
+        ensures gives { Gives (Ok tt) self.new (assign x value self.old) }
+        ensures fuel { self.new.fuel ≡ self.old.fuel }
     {
         if (x as usize) < self.locals.len() {
             self.locals[x as usize] = value;
@@ -106,7 +108,7 @@ impl State {
 
     /// Takes other locals, and gives those that were there.
     pub(crate) fn exchange(&mut self, locals: Vec<Value>) -> Vec<Value>
-        ensures before { result.items ≡ self.old.state.locals }
+        ensures before { result.items ≡ self.old.locals }
         ensures after { self.new ≡ with_locals locals.items self.old }
     {
         mem::replace(&mut self.locals, locals)
@@ -114,9 +116,8 @@ impl State {
 
     /// An object is reached at a site: a copy of it.
     fn access(&mut self, site: u16, oid: Oid) -> Result<Object, Halt>
-        ensures gives { Gives result self.new (access site oid self.old.state) }
-        ensures tid { self.new.tid ≡ self.old.tid }
-        ensures fuel { self.new.state.fuel ≡ self.old.state.fuel }
+        ensures gives { Gives result self.new (access site oid self.old) }
+        ensures fuel { self.new.fuel ≡ self.old.fuel }
     {
         let Some(object) = self.heap.get(self.alloc, oid)? else {
             return Err(Halt::Ended(End::Missing { site, oid }));
@@ -130,9 +131,8 @@ impl State {
 
     /// An object takes the place of the one of its name.
     fn replace(&mut self, oid: Oid, object: Object) -> Result<(), Halt>
-        ensures gives { Gives result self.new (replace oid object self.old.state) }
-        ensures tid { self.new.tid ≡ self.old.tid }
-        ensures fuel { self.new.state.fuel ≡ self.old.state.fuel }
+        ensures gives { Gives result self.new (replace oid object self.old) }
+        ensures fuel { self.new.fuel ≡ self.old.fuel }
     {
         if self.heap.replace(oid, object)? {
             Ok(())
@@ -143,9 +143,8 @@ impl State {
 
     /// A field of the object behind a value.
     pub(crate) fn read(&mut self, site: u16, field: u16, at: Value) -> Result<Value, Halt>
-        ensures gives { Gives result self.new (read site field at self.old.state) }
-        ensures tid { self.new.tid ≡ self.old.tid }
-        ensures fuel { self.new.state.fuel ≡ self.old.state.fuel }
+        ensures gives { Gives result self.new (read site field at self.old) }
+        ensures fuel { self.new.fuel ≡ self.old.fuel }
     {
         let Value::Ref(oid) = at else {
             return Err(Halt::Ended(End::Failed));
@@ -162,9 +161,8 @@ impl State {
         value: Value,
         at: Value,
     ) -> Result<(), Halt>
-        ensures gives { Gives result self.new (write site field value at self.old.state) }
-        ensures tid { self.new.tid ≡ self.old.tid }
-        ensures fuel { self.new.state.fuel ≡ self.old.state.fuel }
+        ensures gives { Gives result self.new (write site field value at self.old) }
+        ensures fuel { self.new.fuel ≡ self.old.fuel }
     {
         let Value::Ref(oid) = at else {
             return Err(Halt::Ended(End::Failed));
@@ -173,24 +171,24 @@ impl State {
         self.replace(oid, with_field(object, field, value))
     }
 
-    /// Makes an object of a class at a store.
+    /// Makes an object of a class at a store, in an attempt.
     pub(crate) fn create(
         &mut self,
+        tid: Tid,
         store: u16,
         class: u16,
         site: u16,
         fields: Seq<Value>,
     ) -> Result<Value, Halt>
-        ensures gives { Gives result self.new (create self.old.tid store class site fields self.old.state) }
-        ensures tid { self.new.tid ≡ self.old.tid }
-        ensures fuel { self.new.state.fuel ≡ self.old.state.fuel }
+        ensures gives { Gives result self.new (create tid store class site fields self.old) }
+        ensures fuel { self.new.fuel ≡ self.old.fuel }
     {
         let oid = Oid {
             store,
             class,
-            worker: self.tid.worker,
-            boot: self.tid.boot,
-            number: self.tid.number,
+            worker: tid.worker,
+            boot: tid.boot,
+            number: tid.number,
             site,
             index: self.heap.index_at(site),
         };
@@ -203,18 +201,31 @@ impl State {
 
     /// Notes the value of a downgrade.
     pub(crate) fn note_down(&mut self, site: u16, value: Value) -> Result<Value, Halt>
-        ensures gives { Gives result self.new (noted_down site value self.old.state) }
-        ensures tid { self.new.tid ≡ self.old.tid }
-        ensures fuel { self.new.state.fuel ≡ self.old.state.fuel }
+        ensures gives { Gives result self.new (noted_down site value self.old) }
+        ensures fuel { self.new.fuel ≡ self.old.fuel }
     {
         self.downs.push((site, value))?;
         Ok(value)
     }
 
+    /// The next given value, or a default where none is left.
+    pub(crate) fn take_given(&mut self, blank: Value) -> Value
+        ensures gives { Gives (Ok result) self.new (take_given blank self.old) }
+        ensures fuel { self.new.fuel ≡ self.old.fuel }
+    {
+        match self.given.as_slice().get(self.taken).copied() {
+            Some(value) => {
+                self.taken += 1;
+                value
+            }
+            None => blank,
+        }
+    }
+
     /// Copies of the locals and of the whole heap.
     pub(crate) fn saved(&self) -> Result<Saved, NoMemory>
-        ensures locals { IfOk result (λ s. s.locals.items ≡ self.now.state.locals) }
-        ensures heap { IfOk result (λ s. s.heap ≡ self.now.state.heap) }
+        ensures locals { IfOk result (λ s. s.locals.items ≡ self.now.locals) }
+        ensures heap { IfOk result (λ s. s.heap ≡ self.now.heap) }
     {
         Ok(Saved {
             locals: Vec::from_slice(self.alloc, self.locals.as_slice())?,
@@ -233,7 +244,7 @@ impl State {
 
     /// What stands at the end of a request that ends so.
     pub(crate) fn meant(self, ending: Ending) -> Result<Meant, NoMemory>
-        ensures { IfOk result (λ m. IsMeant m (meant_at ending self.state)) }
+        ensures { IfOk result (λ m. IsMeant m (meant_at ending self)) }
     {
         let touches = Seq::from_slice(self.alloc, self.touches.pairs())?;
         let State { heap, downs, .. } = self;

@@ -1,43 +1,51 @@
-//! Statements and calls.
-ghost use Rattle.std.specs.Prelude.{◌≡◌, ◌≤◌, IfOk, Some};
-ghost use Rattle.fab_language.specs.Meaning.{block, body_of, called, default, entered, locals_at_start, loop, right, statement, value};
+//! Statements and calls. What only unseen values decide isn't done.
+ghost use Rattle.std.specs.Prelude.{◌≡◌, ◌≤◌};
+ghost use Rattle.fab_language.specs.Meaning.{loop};
 ghost use Rattle.fab_meaning.specs.Gives.{Gives, went_on};
-ghost use Rattle.fab_values.specs.Pieces.{assignment, attempt, choice, making};
+ghost use Rattle.fab_meaning.specs.Pieces.{attempt, choice, repeat};
+ghost use Rattle.fab_meaning.specs.Settings.{assignment, blank_of, block, body_of, call, downgraded, entered, entered_below, is_seen, making, right, statement, value};
+ghost use Rattle.fab_meaning.specs.Sights.{sees};
 
 use crate::expressions::{value, values};
 use crate::halt::{End, Halt};
+use crate::methods::{blank_result, default, locals_at_start, sees_result};
+use crate::setting::{Setting, Sight};
+use crate::shown::{fields_shown, is_seen, sees_local, shown_if, write_shown};
 use crate::state::State;
-use fab_base::{NoMemory, Seq, Stop, Value};
-use fab_tree::resolved::{Expression, Method, Resolved, Return, Right, Sort, Statement};
+use fab_base::{Seq, Stop, Value};
+use fab_tree::resolved::{Expression, Method, Right, Statement};
 use fab_values::holds;
 
 /// The statements of a block, in order.
 #[cycle(run)]
-fn in_order(
-    program: &Resolved,
-    depth: u32,
+pub(crate) fn in_order(
+    setting: &Setting<'_>,
+    method: &Method,
     state: &mut State,
     statements: &Seq<Statement>,
 ) -> Result<(), Halt>
-    ensures gives { Gives result state.new (block state.old.tid (called program.now state.old.tid depth) statements.now state.old.state) }
-    ensures tid { state.new.tid ≡ state.old.tid }
-    ensures fuel { state.new.state.fuel ≤ state.old.state.fuel }
+    ensures gives { Gives result state.new (block setting.now method.now statements.now state.old) }
+    ensures fuel { state.new.fuel ≤ state.old.fuel }
 {
     for s in statements.as_slice() {
-        statement(program, depth, state, s)?;
+        statement(setting, method, state, s)?;
     }
     Ok(())
 }
 
 /// One statement.
 #[cycle(run)]
-fn statement(program: &Resolved, depth: u32, state: &mut State, s: &Statement) -> Result<(), Halt>
-    ensures gives { Gives result state.new (statement state.old.tid (called program.now state.old.tid depth) s.now state.old.state) }
-    ensures tid { state.new.tid ≡ state.old.tid }
-    ensures fuel { state.new.state.fuel ≤ state.old.state.fuel }
+fn statement(
+    setting: &Setting<'_>,
+    method: &Method,
+    state: &mut State,
+    s: &Statement,
+) -> Result<(), Halt>
+    ensures gives { Gives result state.new (statement setting.now method.now s.now state.old) }
+    ensures fuel { state.new.fuel ≤ state.old.fuel }
 {
     match s {
-        Statement::Assign { local, right, .. } => assignment(program, depth, state, *local, right),
+        Statement::Assign { local, right, .. } => assignment(setting, method, state, *local, right),
         Statement::Write {
             object,
             field,
@@ -45,27 +53,33 @@ fn statement(program: &Resolved, depth: u32, state: &mut State, s: &Statement) -
             site,
         } => {
             state.charge()?;
-            let v = value(state, e)?;
+            let v = value(setting, method, state, e)?;
             let at = state.local(object.number);
-            state.write(*site, *field, v, at)
+            write_shown(setting.sight, state, *site, *field, v, at)
         }
-        Statement::Call { method, arguments } => {
+        Statement::Call {
+            method: other,
+            arguments,
+        } => {
             state.charge()?;
-            let args = values(state, arguments.as_slice())?;
-            called(program, depth, state, method.number, args)?;
+            let args = values(setting, method, state, arguments.as_slice())?;
+            called(setting, state, other.number, args)?;
             Ok(())
         }
         Statement::If {
             condition,
             block,
             otherwise,
-        } => { choice(program, depth, state, condition, block, otherwise) }
-        Statement::While { condition, block } => { repeat(program, depth, state, condition, block) }
+        } => { choice(setting, method, state, condition, block, otherwise) }
+        Statement::While { condition, block } => {
+            repeat(setting, method, state, condition, block)
+        }
         Statement::Atomic {
+            label,
             block,
             otherwise,
             ..
-        } => { atomic(program, depth, state, block, otherwise) }
+        } => { atomic(setting, method, state, label.number, block, otherwise) }
         Statement::Fail { .. } => {
             state.charge()?;
             Err(Halt::Ended(End::Failed))
@@ -76,34 +90,51 @@ fn statement(program: &Resolved, depth: u32, state: &mut State, s: &Statement) -
 /// Gives a local what a right side comes to.
 #[cycle(run)]
 fn assignment(
-    program: &Resolved,
-    depth: u32,
+    setting: &Setting<'_>,
+    method: &Method,
     state: &mut State,
     local: u16,
     r: &Right,
 ) -> Result<(), Halt>
-    ensures gives { Gives result state.new (assignment state.old.tid (called program.now state.old.tid depth) local r.now state.old.state) }
-    ensures tid { state.new.tid ≡ state.old.tid }
-    ensures fuel { state.new.state.fuel ≤ state.old.state.fuel }
+    ensures gives { Gives result state.new (assignment setting.now method.now local r.now state.old) }
+    ensures fuel { state.new.fuel ≤ state.old.fuel }
 {
     state.charge()?;
-    let v = right(program, depth, state, r)?;
-    state.assign(local, v);
+    let v = right(setting, method, state, blank_of(method, local), r)?;
+    state.assign(local, shown_if(sees_local(setting, method, local), v));
     Ok(())
 }
 
-/// What is assigned to a local.
+/// What a local holds before it is assigned.
+fn blank_of(method: &Method, local: u16) -> Value
+    ensures { result ≡ blank_of method.now local }
+{
+    match method.locals.as_slice().get(usize::from(local)) {
+        Some(found) => default(found.sort),
+        None => Value::Null,
+    }
+}
+
+/// What is assigned to a local that had this before it was assigned.
 #[cycle(run)]
-fn right(program: &Resolved, depth: u32, state: &mut State, r: &Right) -> Result<Value, Halt>
-    ensures gives { Gives result state.new (right state.old.tid (called program.now state.old.tid depth) r.now state.old.state) }
-    ensures tid { state.new.tid ≡ state.old.tid }
-    ensures fuel { state.new.state.fuel ≤ state.old.state.fuel }
+fn right(
+    setting: &Setting<'_>,
+    method: &Method,
+    state: &mut State,
+    blank: Value,
+    r: &Right,
+) -> Result<Value, Halt>
+    ensures gives { Gives result state.new (right setting.now method.now blank r.now state.old) }
+    ensures fuel { state.new.fuel ≤ state.old.fuel }
 {
     match r {
-        Right::Plain(e) => value(state, e),
-        Right::Call { method, arguments } => {
-            let args = values(state, arguments.as_slice())?;
-            let returned = called(program, depth, state, method.number, args)?;
+        Right::Plain(e) => value(setting, method, state, e),
+        Right::Call {
+            method: other,
+            arguments,
+        } => {
+            let args = values(setting, method, state, arguments.as_slice())?;
+            let returned = called(setting, state, other.number, args)?;
             Ok(returned.unwrap_or(Value::Null))
         }
         Right::New {
@@ -114,6 +145,8 @@ fn right(program: &Resolved, depth: u32, state: &mut State, r: &Right) -> Result
             ..
         } => {
             making(
+                setting,
+                method,
                 state,
                 store.number,
                 class.number,
@@ -121,95 +154,153 @@ fn right(program: &Resolved, depth: u32, state: &mut State, r: &Right) -> Result
                 arguments.as_slice(),
             )
         }
-        Right::Downgrade { value: e, site, .. } => {
-            let v = value(state, e)?;
-            state.note_down(*site, v)
+        Right::Downgrade {
+            value: e,
+            from,
+            to,
+            site,
+            ..
+        } => {
+            let v = value(setting, method, state, e)?;
+            let down = downgraded(setting.sight, state, blank, from.number, to.number, v);
+            state.note_down(*site, down)
         }
     }
 }
 
-/// Makes an object of what arguments come to.
+/// Makes an object of what arguments come to, as far as its class is shown.
 fn making(
+    setting: &Setting<'_>,
+    method: &Method,
     state: &mut State,
     store: u16,
     class: u16,
     site: u16,
     arguments: &[Expression],
 ) -> Result<Value, Halt>
-    ensures gives { Gives result state.new (making state.old.tid store class site arguments.now state.old.state) }
-    ensures tid { state.new.tid ≡ state.old.tid }
-    ensures fuel { state.new.state.fuel ≡ state.old.state.fuel }
+    ensures gives { Gives result state.new (making setting.now method.now store class site arguments.now state.old) }
+    ensures fuel { state.new.fuel ≡ state.old.fuel }
 {
-    let fields = values(state, arguments)?;
-    state.create(store, class, site, fields)
+    let fields = values(setting, method, state, arguments)?;
+    let shown = fields_shown(state.alloc(), setting.sight, class, fields)?;
+    state.create(setting.tid, store, class, site, shown)
 }
 
-/// Runs one block where a condition is true, and the other where it isn't.
+/// What a value comes to that is downgraded from a label to another: where the first isn't seen and
+/// the second is, the next given value.
+fn downgraded(
+    sight: Sight,
+    state: &mut State,
+    blank: Value,
+    from: u16,
+    to: u16,
+    value: Value,
+) -> Value
+    ensures gives { Gives (Ok result) state.new (downgraded sight blank from to value state.old) }
+    ensures fuel { state.new.fuel ≡ state.old.fuel }
+{
+    if sight.sees(from) {
+        shown_if(sight.sees(to), value)
+    } else if sight.sees(to) {
+        state.take_given(blank)
+    } else {
+        Value::Null
+    }
+}
+
+/// Runs one block where a condition is true, and the other where it isn't; neither where it isn't
+/// seen.
 #[cycle(run)]
 fn choice(
-    program: &Resolved,
-    depth: u32,
+    setting: &Setting<'_>,
+    method: &Method,
     state: &mut State,
     condition: &Expression,
     body: &Seq<Statement>,
     otherwise: &Seq<Statement>,
 ) -> Result<(), Halt>
-    ensures gives { Gives result state.new (choice (value condition.now) (block state.old.tid (called program.now state.old.tid depth) body.now) (block state.old.tid (called program.now state.old.tid depth) otherwise.now) state.old.state) }
-    ensures tid { state.new.tid ≡ state.old.tid }
-    ensures fuel { state.new.state.fuel ≤ state.old.state.fuel }
+    ensures gives { Gives result state.new (choice (is_seen setting.now method.now condition.now) (value setting.now method.now condition.now) (block setting.now method.now body.now) (block setting.now method.now otherwise.now) state.old) }
+    ensures fuel { state.new.fuel ≤ state.old.fuel }
 {
     state.charge()?;
-    let v = value(state, condition)?;
+    let v = value(setting, method, state, condition)?;
+    if !is_seen(setting, method, condition) {
+        return Ok(());
+    }
     if holds(v) {
-        in_order(program, depth, state, body)
+        in_order(setting, method, state, body)
     } else {
-        in_order(program, depth, state, otherwise)
+        in_order(setting, method, state, otherwise)
+    }
+}
+
+/// Runs a block as long as a condition is true; one that isn't seen is tested once.
+#[cycle(run)]
+fn repeat(
+    setting: &Setting<'_>,
+    method: &Method,
+    state: &mut State,
+    condition: &Expression,
+    body: &Seq<Statement>,
+) -> Result<(), Halt>
+    ensures gives { Gives result state.new (repeat (is_seen setting.now method.now condition.now) (value setting.now method.now condition.now) (block setting.now method.now body.now) state.old) }
+    ensures fuel { state.new.fuel ≤ state.old.fuel }
+{
+    if is_seen(setting, method, condition) {
+        turns(setting, method, state, condition, body)
+    } else {
+        state.charge()?;
+        value(setting, method, state, condition)?;
+        Ok(())
     }
 }
 
 /// Runs a block as long as a condition is true.
 #[cycle(run)]
-fn repeat(
-    program: &Resolved,
-    depth: u32,
+fn turns(
+    setting: &Setting<'_>,
+    method: &Method,
     state: &mut State,
     condition: &Expression,
     body: &Seq<Statement>,
 ) -> Result<(), Halt>
-    ensures gives { Gives result state.new (loop (value condition.now) (block state.old.tid (called program.now state.old.tid depth) body.now) state.old.state) }
-    ensures tid { state.new.tid ≡ state.old.tid }
-    ensures fuel { state.new.state.fuel ≤ state.old.state.fuel }
+    ensures gives { Gives result state.new (loop (value setting.now method.now condition.now) (block setting.now method.now body.now) state.old) }
+    ensures fuel { state.new.fuel ≤ state.old.fuel }
 {
     loop {
         state.charge()?;
-        let v = value(state, condition)?;
+        let v = value(setting, method, state, condition)?;
         if !holds(v) {
             return Ok(());
         }
-        in_order(program, depth, state, body)?;
+        in_order(setting, method, state, body)?;
     }
 }
 
-/// Runs a block, and where it fails, puts back what was there and runs another.
+/// Runs a block, and where it fails, puts back what was there and runs another; neither where its
+/// label isn't seen.
 #[cycle(run)]
 fn atomic(
-    program: &Resolved,
-    depth: u32,
+    setting: &Setting<'_>,
+    method: &Method,
     state: &mut State,
+    label: u16,
     body: &Seq<Statement>,
     otherwise: &Seq<Statement>,
 ) -> Result<(), Halt>
-    ensures gives { Gives result state.new (attempt (block state.old.tid (called program.now state.old.tid depth) body.now) (block state.old.tid (called program.now state.old.tid depth) otherwise.now) state.old.state) }
-    ensures tid { state.new.tid ≡ state.old.tid }
-    ensures fuel { state.new.state.fuel ≤ state.old.state.fuel }
+    ensures gives { Gives result state.new (attempt (sees setting.now.sight label) (block setting.now method.now body.now) (block setting.now method.now otherwise.now) state.old) }
+    ensures fuel { state.new.fuel ≤ state.old.fuel }
 {
     state.charge()?;
+    if !setting.sight.sees(label) {
+        return Ok(());
+    }
     let saved = state.saved()?;
-    if went_on(in_order(program, depth, state, body))? {
+    if went_on(in_order(setting, method, state, body))? {
         return Ok(());
     }
     state.put_back(saved);
-    in_order(program, depth, state, otherwise)
+    in_order(setting, method, state, otherwise)
 }
 
 /// Whether a block went on, or else failed; where it ended otherwise, this is how.
@@ -227,87 +318,88 @@ fn went_on(outcome: Result<(), Halt>) -> Result<bool, Halt>
     }
 }
 
-/// Calls a method, where so many calls more may be open at once.
+/// Calls a method, if its begin label is seen.
 #[cycle(run)]
 pub(crate) fn called(
-    program: &Resolved,
-    depth: u32,
+    setting: &Setting<'_>,
     state: &mut State,
-    method: u16,
+    number: u16,
     args: Seq<Value>,
 ) -> Result<Option<Value>, Halt>
-    ensures gives { Gives result state.new (called program.now state.old.tid depth method args state.old.state) }
-    ensures tid { state.new.tid ≡ state.old.tid }
-    ensures fuel { state.new.state.fuel ≤ state.old.state.fuel }
+    ensures gives { Gives result state.new (call setting.now number args state.old) }
+    ensures fuel { state.new.fuel ≤ state.old.fuel }
 {
-    if depth == 0 {
+    match setting.program.methods.as_slice().get(usize::from(number)) {
+        Some(method) => {
+            if setting.sight.sees(method.begin.number) {
+                entered_below(setting, state, method, args)
+            } else {
+                Ok(blank_result(method))
+            }
+        }
+        None => {
+            if setting.depth == 0 {
+                Err(Halt::Ended(End::Stopped(Stop::Depth)))
+            } else {
+                Ok(None)
+            }
+        }
+    }
+}
+
+/// Runs a method, if one call more may be open.
+#[cycle(run)]
+fn entered_below(
+    setting: &Setting<'_>,
+    state: &mut State,
+    method: &Method,
+    args: Seq<Value>,
+) -> Result<Option<Value>, Halt>
+    ensures gives { Gives result state.new (entered_below setting.now method.now args state.old) }
+    ensures fuel { state.new.fuel ≤ state.old.fuel }
+{
+    if setting.depth == 0 {
         return Err(Halt::Ended(End::Stopped(Stop::Depth)));
     }
-    match program.methods.as_slice().get(method as usize) {
-        None => Ok(None),
-        Some(method) => entered(program, depth - 1, state, method, args),
-    }
+    let below = Setting {
+        program: setting.program,
+        sight: setting.sight,
+        tid: setting.tid,
+        depth: setting.depth - 1,
+    };
+    entered(&below, state, method, args)
 }
 
 /// Runs a method over locals of its own.
 #[cycle(run)]
 fn entered(
-    program: &Resolved,
-    depth: u32,
+    setting: &Setting<'_>,
     state: &mut State,
     method: &Method,
     args: Seq<Value>,
 ) -> Result<Option<Value>, Halt>
-    ensures gives { Gives result state.new (entered state.old.tid (called program.now state.old.tid depth) (Some method.now) args state.old.state) }
-    ensures tid { state.new.tid ≡ state.old.tid }
-    ensures fuel { state.new.state.fuel ≤ state.old.state.fuel }
+    ensures gives { Gives result state.new (entered setting.now method.now args state.old) }
+    ensures fuel { state.new.fuel ≤ state.old.fuel }
 {
-    let locals = locals_at_start(method, args)?;
+    let locals = locals_at_start(state.alloc(), setting.sight, method, args.as_slice())?;
     let callers = state.exchange(locals);
-    let returned = body_of(program, depth, state, method);
+    let returned = body_of(setting, state, method);
     state.exchange(callers);
     returned
 }
 
-/// Runs the statements of a method, and gives its result.
+/// Runs the statements of a method, and gives its result as far as it is seen.
 #[cycle(run)]
-fn body_of(
-    program: &Resolved,
-    depth: u32,
-    state: &mut State,
-    method: &Method,
-) -> Result<Option<Value>, Halt>
-    ensures gives { Gives result state.new (body_of state.old.tid (called program.now state.old.tid depth) method.now state.old.state) }
-    ensures tid { state.new.tid ≡ state.old.tid }
-    ensures fuel { state.new.state.fuel ≤ state.old.state.fuel }
+fn body_of(setting: &Setting<'_>, state: &mut State, method: &Method) -> Result<Option<Value>, Halt>
+    ensures gives { Gives result state.new (body_of setting.now method.now state.old) }
+    ensures fuel { state.new.fuel ≤ state.old.fuel }
 {
-    in_order(program, depth, state, &method.body)?;
+    in_order(setting, method, state, &method.body)?;
     match &method.result {
         None => Ok(None),
-        Some(returned) => Ok(Some(value(state, &returned.value)?)),
-    }
-}
-
-/// A method's locals at its start: what it is given, and then each other local's default.
-fn locals_at_start(method: &Method, args: Seq<Value>) -> Result<Vec<Value>, NoMemory>
-    ensures { IfOk result (λ v. v.items ≡ locals_at_start method.now args) }
-{
-    let mut values = args.into_vec();
-    let locals = method.locals.as_slice();
-    let mut i = values.len();
-    while i < locals.len() {
-        values.push(default(locals[i].sort))?;
-        i += 1;
-    }
-    Ok(values)
-}
-
-/// What a local holds before it is assigned.
-fn default(sort: Sort) -> Value
-    ensures { result ≡ default sort }
-{
-    match sort {
-        Sort::Int => Value::Int(0),
-        Sort::Class(_) => Value::Null,
+        Some(returned) => {
+            let v = value(setting, method, state, &returned.value)?;
+            Ok(Some(shown_if(sees_result(setting.sight, method), v)))
+        }
     }
 }

@@ -1,6 +1,6 @@
 //! A method that writes twice, and fails behind the second time inside of `atomic`.
 
-use crate::{Meant, meaning};
+use crate::{Meant, plain_meaning};
 use fab_base::{NoMemory, Object, Oid, Seq, Stop, Text, Tid, Value};
 use fab_language::Ending;
 use fab_map::ObjectMap;
@@ -102,7 +102,7 @@ fn found(alloc: Global, fuel: u32) -> Result<Meant, NoMemory> {
         boot: 1,
         number: 1,
     };
-    meaning(alloc, &program(alloc)?, &known, &request, tid, fuel)
+    plain_meaning(alloc, &program(alloc)?, &known, &request, tid, fuel)
 }
 
 fn holds(meant: &Meant, value: i32) -> bool {

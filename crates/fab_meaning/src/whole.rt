@@ -1,15 +1,21 @@
 //! A whole request.
 ghost use Rattle.std.specs.Prelude.{◌≡◌, IfOk};
 ghost use Rattle.fab_language.specs.Meaning.{ending_at, meaning as what_is_meant};
+ghost use Rattle.fab_rights.specs.Computed.{has_bit};
+ghost use Rattle.fab_erasure.specs.Erased.{erased};
 ghost use Rattle.fab_meaning.specs.Ends.{EndsIn, IsMeant};
 ghost use Rattle.fab_meaning.specs.Gives.{end_of};
+ghost use Rattle.fab_meaning.specs.Sights.{sees, shows};
 
 use crate::halt::{End, Halt};
+use crate::setting::{Setting, Sight};
 use crate::state::State;
 use crate::statements::called;
 use fab_base::{NoMemory, Oid, Seq, Tid, Value};
+use fab_erasure::everything_seen;
 use fab_language::Ending;
 use fab_map::ObjectMap;
+use fab_places::Seen;
 use fab_tree::resolved::{Request, Resolved};
 use std::alloc::{AllocError, Global};
 
@@ -27,8 +33,35 @@ pub struct Meant {
     pub downs: Seq<(u16, Value)>,
 }
 
-/// What a request means in a program, over a map, in an attempt and with so much fuel.
+/// What a request means in a program, as far as it can be computed by who sees the labels and is shown
+/// the classes that have their bits: over a map, given what was downgraded into what is seen, in an
+/// attempt and with so much fuel.
 pub fn meaning(
+    alloc: Global,
+    program: &Resolved,
+    seen: &Seen,
+    known: &ObjectMap,
+    given: &[Value],
+    request: &Request,
+    tid: Tid,
+    fuel: u32,
+) -> Result<Meant, NoMemory>
+    ensures { IfOk result (λ m. IsMeant m (erased (has_bit seen.now.labels) (has_bit seen.now.classes) program.now known.now request.now tid fuel given.now)) }
+{
+    found(
+        alloc,
+        program,
+        Sight::Part(*seen),
+        known,
+        given,
+        request,
+        tid,
+        fuel,
+    )
+}
+
+/// What a request means with everything seen: what it does.
+pub fn plain_meaning(
     alloc: Global,
     program: &Resolved,
     known: &ObjectMap,
@@ -38,9 +71,31 @@ pub fn meaning(
 ) -> Result<Meant, NoMemory>
     ensures { IfOk result (λ m. IsMeant m (what_is_meant program.now known.now request.now tid fuel)) }
 {
-    let mut state = State::begin(alloc, known, tid, fuel)?;
+    everything_seen();
+    found(alloc, program, Sight::Whole, known, &[], request, tid, fuel)
+}
+
+fn found(
+    alloc: Global,
+    program: &Resolved,
+    sight: Sight,
+    known: &ObjectMap,
+    given: &[Value],
+    request: &Request,
+    tid: Tid,
+    fuel: u32,
+) -> Result<Meant, NoMemory>
+    ensures { IfOk result (λ m. IsMeant m (erased (sees sight) (shows sight) program.now known.now request.now tid fuel given.now)) }
+{
+    let mut state = State::begin(alloc, known, fuel, given)?;
     let args = Seq::from_slice(alloc, request.args.as_slice())?;
-    let ended = called(program, DEPTH, &mut state, request.method, args);
+    let setting = Setting {
+        program,
+        sight,
+        tid,
+        depth: DEPTH,
+    };
+    let ended = called(&setting, &mut state, request.method, args);
     let ending = ending_of(ended)?;
     state.meant(ending)
 }

@@ -1,11 +1,10 @@
 use Rattle.std.proofs.Common.{◌≡◌, drop}
-use Rattle.fab_language.specs.Meaning.{values}
-use Rattle.fab_values.proofs.Arguments.{values_behind}
+use Rattle.fab_meaning.specs.Settings.{values}
+use Rattle.fab_meaning.proofs.Arguments.{values_behind}
 use Rattle.fab_meaning.proofs.expressions.values.Given as goal
 
 abbrev pub invariant-loop-argument : goal.invariant-loop-argument
 invariant-loop-argument l = record {
-  same : values_behind l.all (drop l.argument-index l.arguments) l.state.state ≡ values l.arguments l.initial.state.state;
-  tid : l.state.tid ≡ l.initial.state.tid;
-  fuel : l.state.state.fuel ≡ l.initial.state.state.fuel;
+  same : values_behind l.setting l.method l.all (drop l.argument-index l.arguments) l.state ≡ values l.setting l.method l.arguments l.initial.state;
+  fuel : l.state.fuel ≡ l.initial.state.fuel;
 }

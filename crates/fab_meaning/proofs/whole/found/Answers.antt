@@ -1,5 +1,5 @@
 use Rattle.fab_meaning.proofs.Ending.{found_meant}
-use Rattle.fab_meaning.proofs.whole.meaning.Goals as goal
+use Rattle.fab_meaning.proofs.whole.found.Goals as goal
 
 pub returns : goal.returns
 returns c =
