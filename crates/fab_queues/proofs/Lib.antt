@@ -1,0 +1,2 @@
+mod ChannelsExamples
+pub mod Pairs

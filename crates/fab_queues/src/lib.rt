@@ -1,0 +1,10 @@
+//! The queues between nodes: what each sends to each, in order, and how much of it has been taken.
+#![tactic(auto)]
+
+mod channel;
+mod queues;
+#[cfg(test)]
+mod tests;
+
+pub use channel::Channel;
+pub use queues::Queues;

@@ -1,0 +1,3 @@
+pub mod Honest
+mod ReplaysExamples
+pub mod Steps
