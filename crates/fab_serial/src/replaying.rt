@@ -13,7 +13,7 @@ use crate::objects::{at_start, beside, put_named};
 use crate::requests::request_at;
 use fab_base::{NoMemory, Tid};
 use fab_map::ObjectMap;
-use fab_meaning::{Meant, meaning};
+use fab_meaning::{Meant, plain_meaning};
 use fab_net::Commit;
 use fab_tree::resolved::{Request, Resolved};
 use std::alloc::Global;
@@ -70,7 +70,7 @@ fn meant_by(
 ) -> Result<Meant, NoMemory>
     ensures { IfOk result (λ m. IsMeant m (what_is_meant start.now known.now request.now tid 1000000)) }
 {
-    meaning(alloc, start, known, request, tid, FUEL)
+    plain_meaning(alloc, start, known, request, tid, FUEL)
 }
 
 /// Keeps what was written and made of these classes.
