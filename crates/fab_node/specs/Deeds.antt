@@ -1,5 +1,5 @@
 -- What one node does at an event, by itself: its records, its attempt, and the bytes that reach it.
-use Rattle.std.specs.Prelude.{◌≡◌, ℕ, ◌<◌, ◌≤◌, Bool, true, false, IsTrue, List, [], ◌∷◌, ◌++◌, map, length, Option, Some, None, option_map, IsSome, vec_len, vec_capacity}
+use Rattle.std.specs.Prelude.{◌≡◌, ℕ, ◌<◌, ◌≤◌, Bool, true, false, IsTrue, List, [], ◌∷◌, ◌++◌, map, length, Option, Some, None, option_map, unwrap_or, IsSome, vec_len, vec_capacity}
 use Rattle.fab_base.specs.declared.entry.Entry.{Entry}
 use Rattle.fab_base.specs.JournalSpelling.{record_bytes, journal_bytes, AreEntries, IsEntry}
 use Rattle.fab_base.specs.MessageSpelling.{spelled}
@@ -224,3 +224,14 @@ pub record HoldsRecords (n : ℕ) (entries : List Entry) (torn : List ℕ) (byte
   pub spelled : AreEntries 1 entries
   pub cut_off : IsTornPart torn
   pub is : bytes ≡ journal_bytes 1 n entries ++ torn
+
+-- ---- a record that is cut
+
+-- the bytes of the record of an act, if it has one
+abbrev pub record_in : Act → List ℕ
+record_in act = unwrap_or (option_map (record_bytes 1) act.entry) []
+
+-- the step of what was done in whole
+abbrev pub step_if : Bool → Act → Option Step
+step_if true act = Some (step_of act)
+step_if false act = None

@@ -3,7 +3,7 @@
 ghost use Rattle.std.specs.Prelude.{◌≡◌, ℕ, true, false, vec_len, vec_capacity};
 ghost use Rattle.fab_world.specs.Machine.{Node as Standing};
 ghost use Rattle.fab_world.specs.Workers.{Act};
-ghost use Rattle.fab_node.specs.Deeds.{IsBegin, IsPlanOf, IsStorePlan, IsWorkerPlan, done_by, readied_for, step_of};
+ghost use Rattle.fab_node.specs.Deeds.{step_if, IsBegin, IsPlanOf, IsStorePlan, IsWorkerPlan, done_by, readied_for, step_of};
 ghost use Rattle.fab_node.specs.Standing.{GivenModel, RoleStands};
 
 use crate::plan::NodePlan;
@@ -87,14 +87,17 @@ pub fn accept(alloc: Global, role: &mut Role, plan: NodePlan) -> Step
     }
 }
 
-/// Makes the change that is planned, if its whole record is written.
-pub fn accept_whole(alloc: Global, role: &mut Role, plan: NodePlan, whole: bool)
+/// Makes the change that is planned, if its whole record is written, and answers its step then.
+pub fn accept_whole(alloc: Global, role: &mut Role, plan: NodePlan, whole: bool) -> Option<Step>
     requires plan { (g : GivenModel) × (x : Standing) × (act : Act) × (n : ℕ) × IsPlanOf g x act n role.old plan }
     ensures whole { whole ≡ true → (g : GivenModel) (x : Standing) (act : Act) (n : ℕ) → RoleStands g n x role.old → IsPlanOf g x act n role.old plan
         → RoleStands g n (done_by act (readied_for plan x)) role.new }
     ensures part { whole ≡ false → role.new ≡ role.old }
+    ensures step { (g : GivenModel) (x : Standing) (act : Act) (n : ℕ) → IsPlanOf g x act n role.old plan → result ≡ step_if whole act }
 {
     if whole {
-        let _ = accept(alloc, role, plan);
+        Some(accept(alloc, role, plan))
+    } else {
+        None
     }
 }

@@ -1,11 +1,11 @@
 //! A node does what it has planned: the record is written and synced, and then the change is made.
 
-ghost use Rattle.std.specs.Prelude.{◌≡◌, ◌≤◌, IfOk, OnOk, OnErr, IsErr, IsSome, IfSome, length};
+ghost use Rattle.std.specs.Prelude.{◌≡◌, ◌==◌, ◌≤◌, IfOk, OnOk, OnErr, IsErr, IsSome, IfSome, length};
 ghost use Rattle.fab_base.specs.Faults.{HasCause};
 ghost use Rattle.fab_device.specs.Devices.{KeepsSure};
 ghost use Rattle.fab_world.specs.Machine.{Node as Standing};
 ghost use Rattle.fab_world.specs.Workers.{Act};
-ghost use Rattle.fab_node.specs.Deeds.{CallsJournal, CanDo, HasRoomFor, IsPlanFor, cut_at, done_by, entry_in, failed, readied_for, step_of};
+ghost use Rattle.fab_node.specs.Deeds.{record_in, step_if, CallsJournal, CanDo, HasRoomFor, IsPlanFor, cut_at, done_by, entry_in, failed, readied_for, step_of};
 ghost use Rattle.fab_node.specs.Standing.{GivenModel, Stands};
 
 use crate::accepting::{accept, accept_whole};
@@ -51,7 +51,7 @@ impl<J: Journal> Node<J> {
     /// Does what is planned up to its record, of which so many bytes stay, and goes down. Where all of
     /// them stay, the record counts. Where a call of the journal fails, nothing of the plan does, and the
     /// node has failed for good.
-    pub fn cut(&mut self, plan: NodePlan, keep: usize) -> Result<(), Failed>
+    pub fn cut(&mut self, plan: NodePlan, keep: usize) -> Result<Option<Step>, Failed>
         requires can { CanDo plan self.old }
         requires plan { (g : GivenModel) × (x : Standing) × (act : Act) × Stands g x self.old × IsPlanFor g x act self.old plan }
         requires record { IsSome (entry_in plan) }
@@ -62,15 +62,17 @@ impl<J: Journal> Node<J> {
             → Stands g (cut_at g keep act (readied_for plan x)) self.new) }
         ensures err { OnErr result ((g : GivenModel) (x : Standing) (act : Act) → Stands g x self.old → IsPlanFor g x act self.old plan
             → Stands g (failed x) self.new) }
+        ensures step { IfOk result (λ step. (g : GivenModel) (x : Standing) (act : Act) → Stands g x self.old → IsPlanFor g x act self.old plan
+            → step ≡ step_if (keep == length (record_in act)) act) }
         ensures cause { HasCause self.old.journal.faults self.new.journal.faults result }
         ensures success { OnOk result (self.new.journal.faults ≡ self.old.journal.faults) }
         ensures sure { KeepsSure self.old.journal.sure self.new.journal.sure (IsErr result) }
     {
         match write_front(&mut self.journal, &plan, keep) {
             Ok(is_whole) => {
-                accept_whole(self.alloc, &mut self.role, plan, is_whole);
+                let step = accept_whole(self.alloc, &mut self.role, plan, is_whole);
                 self.up = false;
-                Ok(())
+                Ok(step)
             }
             Err(failed) => {
                 drop(plan);

@@ -55,8 +55,8 @@ impl Given {
     }
 
     /// The bundle with numbers for names. What is given is always an accepted bundle's.
-    pub fn program(&self) -> &Resolved
-        ensures program { result.now ≡ self.now.program }
+    pub fn program(&self) -> &Arc<Resolved>
+        ensures program { result.now.value ≡ self.now.program }
         ensures given { IsGiven self.now }
     {
         &self.program

@@ -1,16 +1,14 @@
 //! An honest node at the start of a run.
 
-ghost use Rattle.std.specs.Prelude.{◌≡◌, ◌⊎◌, [], true, false, IsTrue, IfOk, OnOk, OnErr, IsErr, ◌≤◌, length};
-ghost use Rattle.fab_base.specs.Faults.{HasCause};
+ghost use Rattle.std.specs.Prelude.{◌≡◌, IsTrue, IfOk, length};
 ghost use Rattle.fab_base.specs.JournalSpelling.{header_bytes};
-ghost use Rattle.fab_device.specs.Devices.{KeepsSure};
 ghost use Rattle.fab_rights.specs.Computed.{is_node};
 ghost use Rattle.fab_node.specs.Standing.{GivenModel, RoleStands, Stands, node_at_start};
 
 use crate::given::Given;
 use crate::node::Node;
 use crate::role::Role;
-use fab_base::{Failed, NoMemory};
+use fab_base::NoMemory;
 use fab_device::Journal;
 use fab_store::Store;
 use fab_worker::Worker;

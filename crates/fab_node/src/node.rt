@@ -73,18 +73,14 @@ impl<J: Journal> Node<J> {
 
     /// Its journal.
     pub fn journal(&self) -> &J
-        ensures content { J.content result.now ≡ self.now.journal.content }
-        ensures synced { J.synced result.now ≡ self.now.journal.synced }
-        ensures faults { J.faults result.now ≡ self.now.journal.faults }
+        ensures { self.now.journal ≡ record { content = J.content result.now; synced = J.synced result.now; room = J.room result.now; faults = J.faults result.now; sure = J.sure result.now } }
     {
         &self.journal
     }
 
     /// Its journal, for whoever made it.
     pub fn into_journal(self) -> J
-        ensures content { J.content result ≡ self.journal.content }
-        ensures synced { J.synced result ≡ self.journal.synced }
-        ensures faults { J.faults result ≡ self.journal.faults }
+        ensures { self.journal ≡ record { content = J.content result; synced = J.synced result; room = J.room result; faults = J.faults result; sure = J.sure result } }
     {
         let Node { journal, .. } = self;
         journal

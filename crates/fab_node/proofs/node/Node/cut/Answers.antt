@@ -1,12 +1,15 @@
-use Rattle.std.proofs.Common.{refl, sym, ap, subst}
+use Rattle.std.proofs.Common.{◌≡◌, ◌==◌, ℕ, Bool, List, [], length, Option, Some, None, refl, sym, ap, subst, ◌∙◌, true≢false}
+use Rattle.std.specs.Prelude.{IsSome, IfSome, option_map, unwrap_or}
+use Rattle.fab_base.specs.declared.entry.Entry.{Entry}
+use Rattle.fab_base.specs.JournalSpelling.{record_bytes}
 use Rattle.fab_node.specs.declared.role.Role.{Role}
 use Rattle.fab_node.specs.Standing.{NodeModel, RoleStands}
-use Rattle.fab_node.specs.Deeds.{IsPlanOf}
+use Rattle.fab_node.specs.Deeds.{IsPlanOf, entry_in, step_if}
 use Rattle.fab_node.proofs.Carried.{cut_all, failed_stands, writes_here}
 use Rattle.fab_node.proofs.node.Node.cut.Goals as goal
 
-pub accept_whole-requires : goal.accept_whole-requires
-accept_whole-requires g c =
+pub accept_whole-step-requires : goal.accept_whole-step-requires
+accept_whole-step-requires g c =
     let node = c.args.self.now in
     let role = ap (λ (m : NodeModel). m.role) c.self.view_is in
     let p = c.requires.plan in
@@ -21,8 +24,8 @@ returns-in-Ok-clause-ok g c = λ given x act s p.
     let here = subst (λ (r : Role). RoleStands given node.number x r) (sym role) s.role in
     cut_all given x act node s c.args.plan p c.requires.can _ (ap (λ (m : NodeModel). m.number) c.self.view_is) (ap (λ (m : NodeModel). m.failed) c.self.view_is)
     c.args.keep c.in-Ok.is_whole
-    (λ whole. c.accept_whole.ensures.whole whole given x act node.number here (subst (λ (r : Role). IsPlanOf given x act node.number r c.args.plan) (sym role) p.is))
-    (λ part. subst (λ (r : Role). RoleStands given node.number x r) (sym (c.accept_whole.ensures.part part)) here)
+    (λ whole. c.accept_whole-step.ensures.whole whole given x act node.number here (subst (λ (r : Role). IsPlanOf given x act node.number r c.args.plan) (sym role) p.is))
+    (λ part. subst (λ (r : Role). RoleStands given node.number x r) (sym (c.accept_whole-step.ensures.part part)) here)
     refl
     (c.in-Ok.ensures.ok given node.number x act
     (writes_here given x act node s c.args.plan p c.requires.can (g.J.Journal.content c.self.inside.journal) (g.J.Journal.synced c.self.inside.journal) content synced))
@@ -36,3 +39,19 @@ returns-in-Err-clause-err g c = λ given x act s p.
     failed_stands given x node _ (ap (λ (m : NodeModel). m.number) c.self.view_is) (ap (λ (m : NodeModel). m.role) c.self.view_is) c.fail.ensures.up s c.fail.ensures.failed
     (c.in-Err.ensures.err node.number x act
     (writes_here given x act node s c.args.plan p c.requires.can (g.J.Journal.content c.self.inside.journal) (g.J.Journal.synced c.self.inside.journal) content synced))
+
+-- whether the whole record stays, by the record of the act
+whole_of : (o : Option (List ℕ)) (entry : Option Entry) (keep : ℕ) (whole : Bool) → o ≡ option_map (record_bytes 1) entry → IsSome o
+    → IfSome o (λ bytes. whole ≡ (keep == length bytes)) → whole ≡ (keep == length (unwrap_or (option_map (record_bytes 1) entry) []))
+whole_of None entry keep whole e some is = absurd (true≢false (sym some))
+whole_of (Some bytes) entry keep whole e some is = is ∙ ap (λ z. keep == length (unwrap_or z [])) e
+
+pub returns-in-Ok-clause-step : goal.returns-in-Ok-clause-step
+returns-in-Ok-clause-step g c = λ given x act s p.
+    let node = c.args.self.now in
+    let role = ap (λ (m : NodeModel). m.role) c.self.view_is in
+    let content = ap (λ (m : NodeModel). m.journal.content) c.self.view_is in
+    let synced = ap (λ (m : NodeModel). m.journal.synced) c.self.view_is in
+    let writes = writes_here given x act node s c.args.plan p c.requires.can (g.J.Journal.content c.self.inside.journal) (g.J.Journal.synced c.self.inside.journal) content synced in
+    c.accept_whole-step.ensures.step given x act node.number (subst (λ (r : Role). IsPlanOf given x act node.number r c.args.plan) (sym role) p.is)
+    ∙ ap (λ b. step_if b act) (whole_of (entry_in c.args.plan) act.entry c.args.keep c.in-Ok.is_whole writes.record_is c.requires.record c.in-Ok.ensures.whole)

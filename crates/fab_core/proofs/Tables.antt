@@ -1,0 +1,86 @@
+-- Tables by number with one place changed, and events of a node.
+use Rattle.std.specs.Prelude.{◌≡◌, ◌⊎◌, ◌<◌, ◌^◌, ℕ, Bool, true, false, not, ◌&&◌, ◌||◌, ◌==◌, if◌then◌else◌, IsTrue, List, [], ◌∷◌, ◌++◌, length, IsBitSet}
+use Rattle.std.proofs.Common.{refl, sym, ap, ◌∙◌, subst, inl, inr}
+use Rattle.std.proofs.lemmas.Bool.{and_parts, cases_eq, eq-eqb, ne_eqb}
+use Rattle.fab_net.specs.declared.event.Inner.{Inner}
+use Rattle.fab_net.specs.declared.event.Inner.TheVariants as i
+use Rattle.fab_queues.specs.Channels.{Network, queue_of}
+use Rattle.fab_rights.specs.declared.rights.Rights.{Rights}
+use Rattle.fab_rights.specs.Computed.{has_bit, is_node}
+use Rattle.fab_rights.proofs.Bits.{bit_below, has_bit_exact}
+use Rattle.fab_world.specs.Machine.{Setting, World, Does, Fails, Cuts, form_of, node_of, with_at, rest_of, front_of, ready, bytes_in, may, is_running, steps}
+use Rattle.fab_core.specs.Acts.{bytes_through, taken}
+use Rattle.fab_core.specs.Cores.{unmarked}
+use Rattle.fab_core.specs.Moved.{event_of}
+
+pub with_at_same : {A B : Type 0} (f g : ℕ → B → A) (n : ℕ) (x y : B → A) → ((a : ℕ) (b : B) → f a b ≡ g a b) → ((b : B) → x b ≡ y b)
+    → (a : ℕ) (b : B) → with_at f n x a b ≡ with_at g n y a b
+with_at_same f g n x y there here a b =
+    elim (a == n) as (λ t. (if t then x else f a) b ≡ (if t then y else g a) b) [ true ↦ here b | false ↦ there a b ]
+
+-- where it is the place itself, another is there already
+pub with_at_kept : {A : Type 0} (f : ℕ → ℕ → A) (n : ℕ) (x : ℕ → A) → ((b : ℕ) → x b ≡ f n b) → (a b : ℕ) → (a ≡ n → f n b ≡ f a b) → with_at f n x a b ≡ f a b
+with_at_kept f n x here a b same =
+    elim (cases_eq a n) [
+      | inl p ↦ ap (λ t. (if t then x else f a) b) (eq-eqb a n p) ∙ here b ∙ same p
+      | inr p ↦ ap (λ t. (if t then x else f a) b) (ne_eqb a n p)
+    ]
+
+taken_deliver : (f g : ℕ → ℕ → List (List ℕ)) (c d : ℕ) → ((a b : ℕ) → f a b ≡ g a b) → (a b : ℕ) → taken f (i.Deliver c d) a b ≡ taken g (i.Deliver c d) a b
+taken_deliver f g c d h a b =
+    with_at_same f g c (with_at (f c) d (rest_of (f c d))) (with_at (g c) d (rest_of (g c d))) h
+    (λ b. elim (b == d) as (λ t. (if t then rest_of (f c d) else f c b) ≡ (if t then rest_of (g c d) else g c b)) [ true ↦ ap rest_of (h c d) | false ↦ h c b ])
+    a b
+
+pub taken_same : (f g : ℕ → ℕ → List (List ℕ)) (e : Inner) → ((a b : ℕ) → f a b ≡ g a b) → (a b : ℕ) → taken f e a b ≡ taken g e a b
+taken_same f g (i.Begin n) h a b = h a b
+taken_same f g (i.Resume n) h a b = h a b
+taken_same f g (i.Idle n s) h a b = h a b
+taken_same f g (i.Recover n) h a b = h a b
+taken_same f g (i.Deliver c d) h a b = taken_deliver f g c d h a b
+
+pub bytes_same : (S : Setting) (w : World) (q : Network) (e : Inner) → ((a b : ℕ) → queue_of q a b ≡ w.queue a b) → bytes_in S w e ≡ bytes_through q e
+bytes_same S w q (i.Begin n) h = refl
+bytes_same S w q (i.Resume n) h = refl
+bytes_same S w q (i.Idle n s) h = refl
+bytes_same S w q (i.Recover n) h = refl
+bytes_same S w q (i.Deliver a b) h = ap front_of (sym (h a b))
+
+module _ (S : Setting) (w : World) where
+  pub ready_queue : (e : Inner) (a b : ℕ) → (ready S w e).queue a b ≡ taken w.queue e a b
+  ready_queue (i.Begin n) a b = refl
+  ready_queue (i.Resume n) a b = refl
+  ready_queue (i.Idle n s) a b = refl
+  ready_queue (i.Recover n) a b = refl
+  ready_queue (i.Deliver c d) a b = refl
+
+  pub ready_sent : (e : Inner) (a b : ℕ) → (ready S w e).sent a b ≡ w.sent a b
+  ready_sent (i.Begin n) a b = refl
+  ready_sent (i.Resume n) a b = refl
+  ready_sent (i.Idle n s) a b = refl
+  ready_sent (i.Recover n) a b = refl
+  ready_sent (i.Deliver c d) a b = refl
+
+  pub ready_posts : (e : Inner) (h : ℕ) → (ready S w e).posts h ≡ w.posts h
+  ready_posts (i.Begin n) h = refl
+  ready_posts (i.Resume n) h = refl
+  ready_posts (i.Idle n s) h = refl
+  ready_posts (i.Recover n) h = refl
+  ready_posts (i.Deliver c d) h = refl
+
+pub form_is : (e : Inner) → form_of (unmarked (event_of e)) ≡ Does e
+form_is (i.Begin n) = refl
+form_is (i.Resume n) = refl
+form_is (i.Idle n s) = refl
+form_is (i.Recover n) = refl
+form_is (i.Deliver a b) = refl
+
+-- ---- nodes have numbers below 64
+
+pub node_below : (r : Rights) (n : ℕ) → r.workers < 2 ^ 64 → r.stores < 2 ^ 64 → IsTrue (is_node r n) → n < 64
+node_below r n workers stores h = one_of (has_bit r.workers n) (has_bit r.stores n) refl refl h
+  where
+    one_of : (a b : Bool) → has_bit r.workers n ≡ a → has_bit r.stores n ≡ b → (a || b) ≡ true → n < 64
+    one_of true b p q h = bit_below r.workers n workers ((has_bit_exact r.workers n).0 p)
+    one_of false true p q h = bit_below r.stores n stores ((has_bit_exact r.stores n).0 q)
+    one_of false false p q h = absurd (cc)

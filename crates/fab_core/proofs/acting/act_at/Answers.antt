@@ -1,0 +1,47 @@
+use Rattle.std.proofs.Common.{◌≡◌, Some, Option, ◌∙◌}
+use Rattle.std.specs.Prelude.{slice_set}
+use Rattle.fab_net.specs.declared.note.Step.{Step}
+use Rattle.fab_world.specs.Machine.{Node, node_of}
+use Rattle.fab_node.specs.Standing.{Stands}
+use Rattle.fab_core.specs.Acts.{IsAbout, IsCutTo, IsDone}
+use Rattle.fab_core.specs.Places.{IsCutToAt, IsDoneAt}
+use Rattle.fab_core.proofs.Filled.{caused_by, closed_at, if_ok, opened, others_at}
+use Rattle.fab_core.proofs.acting.act_at.Goals as goal
+
+pub returns-clause-done : goal.returns-clause-done
+returns-clause-done g c =
+    let was = opened c.args.nodes.now.items (node_of c.args.inner) c.from.result c.index_mut.result.now c.in-Some.node c.requires.may.0 (c.from.ensures ∙ c.node_of.ensures)
+    c.requires.may.1 c.index_mut.ensures.value c.in-Some.is in
+    let is = closed_at c.args.nodes.now.items (node_of c.args.inner) c.from.result c.in-Some.node c.act.new.node (c.from.ensures ∙ c.node_of.ensures) was c.act.ensures.number in
+    if_ok c.act.result (λ step. (x : Node) → Stands c.args.given.now x c.in-Some.node → IsAbout c.args.inner x → IsDone c.args.given.now c.args.inner c.args.bytes.now x c.act.new.node step)
+    (IsDoneAt c.args.given.now c.args.inner c.args.bytes.now c.args.nodes.now.items (slice_set c.args.nodes.now.items c.from.result (Some c.act.new.node)))
+    (λ step h. record { before = c.in-Some.node; after = c.act.new.node; there = was; here = is; done = h }) c.act.ensures.done
+
+pub returns-clause-memory : goal.returns-clause-memory
+returns-clause-memory g c h =
+    let was = opened c.args.nodes.now.items (node_of c.args.inner) c.from.result c.index_mut.result.now c.in-Some.node c.requires.may.0 (c.from.ensures ∙ c.node_of.ensures)
+    c.requires.may.1 c.index_mut.ensures.value c.in-Some.is in
+    let is = closed_at c.args.nodes.now.items (node_of c.args.inner) c.from.result c.in-Some.node c.act.new.node (c.from.ensures ∙ c.node_of.ensures) was c.act.ensures.number in
+    record { before = c.in-Some.node; after = c.act.new.node; there = was; here = is; still = c.act.ensures.memory h }
+
+pub returns-clause-failed : goal.returns-clause-failed
+returns-clause-failed g c h =
+    let was = opened c.args.nodes.now.items (node_of c.args.inner) c.from.result c.index_mut.result.now c.in-Some.node c.requires.may.0 (c.from.ensures ∙ c.node_of.ensures)
+    c.requires.may.1 c.index_mut.ensures.value c.in-Some.is in
+    let is = closed_at c.args.nodes.now.items (node_of c.args.inner) c.from.result c.in-Some.node c.act.new.node (c.from.ensures ∙ c.node_of.ensures) was c.act.ensures.number in
+    record { before = c.in-Some.node; after = c.act.new.node; there = was; here = is; failed = c.act.ensures.failed h }
+
+pub returns-clause-others : goal.returns-clause-others
+returns-clause-others g c =
+    let was = opened c.args.nodes.now.items (node_of c.args.inner) c.from.result c.index_mut.result.now c.in-Some.node c.requires.may.0 (c.from.ensures ∙ c.node_of.ensures)
+    c.requires.may.1 c.index_mut.ensures.value c.in-Some.is in
+    let is = closed_at c.args.nodes.now.items (node_of c.args.inner) c.from.result c.in-Some.node c.act.new.node (c.from.ensures ∙ c.node_of.ensures) was c.act.ensures.number in
+    others_at c.args.nodes.now.items (node_of c.args.inner) c.from.result c.in-Some.node c.act.new.node (c.from.ensures ∙ c.node_of.ensures) was
+
+pub returns-clause-cause : goal.returns-clause-cause
+returns-clause-cause g c =
+    let was = opened c.args.nodes.now.items (node_of c.args.inner) c.from.result c.index_mut.result.now c.in-Some.node c.requires.may.0 (c.from.ensures ∙ c.node_of.ensures)
+    c.requires.may.1 c.index_mut.ensures.value c.in-Some.is in
+    let is = closed_at c.args.nodes.now.items (node_of c.args.inner) c.from.result c.in-Some.node c.act.new.node (c.from.ensures ∙ c.node_of.ensures) was c.act.ensures.number in
+    caused_by (node_of c.args.inner) c.args.nodes.now.items (slice_set c.args.nodes.now.items c.from.result (Some c.act.new.node)) c.in-Some.node c.act.new.node c.act.result was is
+    (others_at c.args.nodes.now.items (node_of c.args.inner) c.from.result c.in-Some.node c.act.new.node (c.from.ensures ∙ c.node_of.ensures) was) c.act.ensures.cause c.act.ensures.sure

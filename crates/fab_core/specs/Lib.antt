@@ -1,0 +1,10 @@
+pub mod Acts
+pub mod Cores
+pub mod Moved
+pub mod Places
+pub mod Planning
+pub mod Posts
+pub mod Seen
+pub mod Telling
+pub mod Transit
+pub mod Under

@@ -1,0 +1,23 @@
+//! All nodes together: what each does at an event, what is between them, and the log of the run.
+#![tactic(auto)]
+
+mod acting;
+mod applied;
+mod applying;
+mod core_state;
+mod crashing;
+mod cutting;
+mod enabled;
+mod gathering;
+mod holding;
+mod laws;
+mod noting;
+mod numbering;
+mod posting;
+mod reading;
+mod seen;
+mod sending;
+mod settled;
+
+pub use applied::Applied;
+pub use core_state::Core;
