@@ -87,6 +87,7 @@ module _ (few many : FlatMap) (part : IsPart few many) where
   like : (e : Ending) (t : State) (k : FlatMap) → w.Near few many part t.heap k → AreKnown few t.touches → IsOverFewer few many (meant_at e t) (meant_at e (w.over k t))
   like e t k n w = record {
     same = λ v i. alike e t k n;
+    ascending = λ v i. n.up;
     full = λ v i. inl (alike e t k n);
     lacks = λ before site o after i v z. absurd (all_known t.touches before site o after w i z);
   }
@@ -97,6 +98,7 @@ module _ (few many : FlatMap) (part : IsPart few many) where
       let is = touches_of r ∙ b.touches.1 in
       record {
         same = λ v i. absurd (none_one few o z (known_one few (meant_by r).touches u.touches (site, o) b.touches.0 is v));
+        ascending = λ v i. absurd (none_one few o z (known_one few (meant_by r).touches u.touches (site, o) b.touches.0 is v));
         full = λ v i. absurd (none_one few o z (known_one few (meant_by r).touches u.touches (site, o) b.touches.0 is v));
         lacks = λ before other p after i v y.
             let first = one_first few u.touches before (site, o) (other, p) b.touches.0 after w v z y (sym is ∙ i) in
@@ -111,6 +113,7 @@ module _ (few many : FlatMap) (part : IsPart few many) where
       → IsOverFewer few many (meant_at (Stopped Reads) t) (meant_at (Missing site o) (w.over k t))
   fewer_last site o t k z c n w = record {
     same = λ v i. absurd (i refl);
+    ascending = λ v i. absurd (i refl);
     full = λ v i. inr (record { site = site; object = o; unknown = z; there = c; ending = refl; touches = refl; downs = refl; written = refl; made = refl });
     lacks = λ before other p after i v y. absurd (all_known t.touches before other p after w i y);
   }
@@ -143,6 +146,7 @@ module _ (few many : FlatMap) (part : IsPart few many) where
     many_else = λ o e. refl;
     few_else = λ o e. refl;
     written = λ o e. absurd (true≢false (sym e));
+    up = λ h. h;
   }
 
   module _ (sees shows : ℕ → Bool) (r : Resolved) (request : Request) (tid : Tid) (fuel : ℕ) (given : List Value) where

@@ -138,6 +138,7 @@ second_unknown h = none_one one_root (root 2) refl h.1.0
 is_over_fewer : IsOverFewer one_root two_roots over_both over_one
 is_over_fewer = record {
   same = λ h e. absurd (second_unknown h);
+  ascending = λ h e. absurd (second_unknown h);
   full = λ h e. absurd (second_unknown h);
   lacks = λ before site o after e k z.
       let first = one_first one_root ((3, root 1) ∷ []) before (5, root 2) (site, o) [] after first_known k refl z e in

@@ -152,6 +152,7 @@ module _ (sees shows : ℕ → Bool) (r : Resolved) (view : IsView sees shows r)
       ends = λ w b v e. (same w (subst (IsSettled sees shows r) (sym e) tt)).ending ∙ agrees.ended v b e;
       fails = λ w b e. (same w (subst (IsSettled sees shows r) (sym e) tt)).ending ∙ agrees.failed b e;
       same = same_in_view;
+      ascending = λ w s. less.ascending (subst (AreKnown few) (same_touches s) w) (not_full s);
       skips = λ b. skipped sees shows r few request tid fuel given b;
     }
 

@@ -111,6 +111,7 @@ agrees = record {
   ends = λ w b v e. ap Ended (ap (λ x. blanked x) (ended_one None v e));
   fails = λ w b e. absurd (ended_failed None e);
   same = λ w s. same_in_view;
+  ascending = λ w s up. refl;
   skips = λ b. absurd (true≢false b);
 }
   where

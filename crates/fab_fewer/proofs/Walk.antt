@@ -10,9 +10,9 @@ use Rattle.fab_base.specs.declared.object.Tid.{Tid}
 use Rattle.fab_base.specs.declared.object.Value.{Value}
 use Rattle.fab_base.specs.declared.object.Value.TheVariants.{Int, Null, Ref}
 use Rattle.fab_base.specs.declared.object.Stop.TheVariants.{Fuel, Depth, Reads, Writes}
-use Rattle.fab_base.specs.FlatMap.{FlatMap, get, put, is_same}
+use Rattle.fab_base.specs.FlatMap.{FlatMap, get, put, is_same, ascends}
 use Rattle.fab_map.proofs.Order.{one_name}
-use Rattle.fab_map.proofs.Rows.{get-put_same, get-put_other}
+use Rattle.fab_map.proofs.Rows.{get-put_same, get-put_other, ascends-put}
 use Rattle.fab_tree.specs.declared.expression.Operator.{Operator}
 use Rattle.fab_tree.specs.declared.expression.Operator.TheVariants.{Or, And, Add, Subtract, Multiply, Divide}
 use Rattle.fab_tree.specs.declared.resolved.Class.{Class}
@@ -62,6 +62,7 @@ module _ (few many : FlatMap) (part : IsPart few many) where
     pub many_else : (o : Oid) → is_changed o h ≡ false → get h.rows o ≡ get many o
     pub few_else : (o : Oid) → is_changed o h ≡ false → get k o ≡ get few o
     pub written : (o : Oid) → is_among o h.written ≡ true → HasOne few o
+    pub up : ascends few ≡ true → ascends k ≡ true
 
   -- what was noted up to here, and then that one object was touched, and perhaps more
   pub record Began (u : State) (site : ℕ) (o : Oid) (t : State) : Type 0 where
@@ -291,6 +292,7 @@ module _ (few many : FlatMap) (part : IsPart few many) where
     many_else = λ p i. let q = apart p i in ap (λ m. get m p) e ∙ get-put_other o p y a.rows q.0 ∙ n.many_else p q.1;
     few_else = λ p i. let q = apart p i in get-put_other o p y k q.0 ∙ n.few_else p q.1;
     written = v;
+    up = λ h. ascends-put o y k (n.up h);
   }
     where
       apart : (p : Oid) → is_changed p b ≡ false → (is_same o p ≡ false) × (is_changed p a ≡ false)

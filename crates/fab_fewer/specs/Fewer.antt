@@ -1,11 +1,11 @@
 -- The erased meaning over fewer objects: it does the same until it lacks one.
-use Rattle.std.specs.Prelude.{◌≡◌, ◌≢◌, ◌⊎◌, ℕ, Bool, not, List, ◌∷◌, ◌++◌, None}
+use Rattle.std.specs.Prelude.{◌≡◌, ◌≢◌, ◌⊎◌, ℕ, Bool, IsTrue, not, List, ◌∷◌, ◌++◌, None}
 use Rattle.std.specs.List.{filter, AllByRecursion}
 use Rattle.fab_base.specs.declared.object.Oid.{Oid}
 use Rattle.fab_base.specs.declared.object.Tid.{Tid}
 use Rattle.fab_base.specs.declared.object.Value.{Value}
 use Rattle.fab_base.specs.declared.object.Stop.TheVariants.{Reads}
-use Rattle.fab_base.specs.FlatMap.{FlatMap, get, is_same}
+use Rattle.fab_base.specs.FlatMap.{FlatMap, get, is_same, ascends}
 use Rattle.fab_tree.specs.declared.resolved.Resolved.{Resolved}
 use Rattle.fab_tree.specs.declared.resolved.Request.{Request}
 use Rattle.fab_language.specs.declared.ending.Ending.TheVariants.{Stopped, Missing}
@@ -47,6 +47,8 @@ pub record IsOverFewer (few many : FlatMap) (over_many over_few : Meant) : Type 
   -- it is the same if the few have all that is touched; under the names that were written and made the maps have the same,
   -- and under every other name the map behind has what the few had
   pub same : AreKnown few over_many.touches → over_many.ending ≢ Stopped Reads → IsSameOver few over_many over_few
+  -- and the map behind it ascends where the few do
+  pub ascending : AreKnown few over_many.touches → over_many.ending ≢ Stopped Reads → IsTrue (ascends few) → IsTrue (ascends over_few.map)
   -- if it was stopped for one touch too many, the few may lack that object
   pub full : AreKnown few over_many.touches → over_many.ending ≡ Stopped Reads → IsSameOver few over_many over_few ⊎ LacksLast few many over_many over_few
   -- else the first object that is touched and that the few lack is missing

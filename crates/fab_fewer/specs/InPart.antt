@@ -41,6 +41,7 @@ module _ (sees shows : ℕ → Bool) (r : Resolved) where
     pub fails : AreKnown few (touches_in_view sees shows r full) → IsTrue (begins_in_view sees shows r request) → full.ending ≡ Failed → part.ending ≡ Failed
     -- and then all that is in view is the same
     pub same : AreKnown few (touches_in_view sees shows r full) → IsSettled sees shows r full.ending → IsSameInView full part
+    pub ascending : AreKnown few (touches_in_view sees shows r full) → IsSettled sees shows r full.ending → IsTrue (ascends few) → IsTrue (ascends part.map)
     -- a request whose begin label isn't seen comes to a blank
     pub skips : begins_in_view sees shows r request ≡ false → part.ending ≡ Ended (blank_result sees shows (slice_get r.methods request.method))
 

@@ -1,13 +1,13 @@
 -- An accepted bundle and a set of nodes give what isolation asks.
-use Rattle.std.proofs.Common.{◌≡◌, ℕ, ◌&&◌, ◌||◌, Bool, true, false, cond, IsTrue, List, [], ◌∷◌, ◌++◌, map, Option, Some, None, refl, sym, ap, ◌∙◌, subst}
+use Rattle.std.proofs.Common.{◌≡◌, ℕ, ◌&&◌, ◌||◌, Bool, true, false, cond, IsTrue, List, [], ◌∷◌, ◌++◌, Option, Some, None, refl, sym, ap, ◌∙◌, subst}
 use Rattle.std.specs.Prelude.{option_map, slice_get}
 use Rattle.std.specs.List.{filter, AllByRecursion}
 use Rattle.std.proofs.lemmas.Bool.{false≢true}
-use Rattle.std.proofs.lemmas.List.{map-append}
 use Rattle.fab_base.specs.declared.object.Object.{Object}
 use Rattle.fab_base.specs.declared.object.Oid.{Oid}
 use Rattle.fab_base.specs.declared.object.Tid.{Tid}
 use Rattle.fab_base.specs.declared.object.Value.{Value}
+use Rattle.fab_base.specs.FieldSpelling.{IsTid}
 use Rattle.fab_base.specs.FlatMap.{FlatMap, get, is_among, is_same, ascends}
 use Rattle.fab_map.proofs.Order.{one_name, same_self}
 use Rattle.fab_tree.specs.declared.start.Start.{Start}
@@ -20,14 +20,17 @@ use Rattle.fab_language.specs.Numbers.{resolved}
 use Rattle.fab_rights.specs.declared.rights.Rights.{Rights}
 use Rattle.fab_rights.specs.Computed.{has_bit, may_hold}
 use Rattle.fab_laws.specs.Shapes.{AreShaped, IsFitting}
-use Rattle.fab_laws.specs.Locality.{IsPart}
+use Rattle.fab_laws.specs.Locality.{IsPart, GoesOn}
+use Rattle.fab_laws.proofs.Changes.{leaves}
+use Rattle.fab_laws.proofs.Locality.{goes_on}
 use Rattle.fab_world.specs.Machine.{Setting}
 use Rattle.fab_world.specs.Serial.{AreFit, IsFit}
 use Rattle.fab_settings.specs.Settings.{meant_of, request_at, setting_of}
 use Rattle.fab_settings.proofs.Fitting.{sound_of}
+use Rattle.fab_settings.proofs.Meanings.{evaluates}
 use Rattle.fab_settings.proofs.Given.{asked_sound, few, fits}
 use Rattle.fab_erasure.specs.Erased.{blank_result, erased}
-use Rattle.fab_erasure.specs.Agreement.{IsFront, IsSettled, IsView, begins_in_view, downs_in_view, given_by, in_view, result_seen, rows_shown}
+use Rattle.fab_erasure.specs.Agreement.{IsSettled, IsView, begins_in_view, given_by, in_view, result_seen, rows_shown}
 use Rattle.fab_fewer.specs.Asking.{LearnsAsking, is_asked_in_view}
 use Rattle.fab_fewer.specs.Blanks.{blanked}
 use Rattle.fab_fewer.specs.Fewer.{AreKnown}
@@ -85,9 +88,6 @@ chosen_names p Q (o ∷ os) all within f = by (p o) refl (chosen_names p Q os al
     by : (b : Bool) → p o ≡ b → AllByRecursion Q (filter p os) → AllByRecursion Q (cond b (o ∷ filter p os) (filter p os))
     by true e later = (f o e (within o (or_left (is_same o o) (is_among o os) (same_self o))), later)
     by false e later = later
-
-front_mapped : {A B : Type 0} (f : A → B) (xs ys : List A) → IsFront xs ys → IsFront (map f xs) (map f ys)
-front_mapped f xs ys front = record { rest = map f front.rest; is = sym (map-append f xs front.rest) ∙ ap (map f) front.is }
 
 module _ (s : Start) (rights : Rights) (nodes : ℕ) (sees shows : ℕ → Bool) (h : IsSetOf s rights nodes sees shows) where
   abbrev r : Resolved
@@ -156,36 +156,58 @@ module _ (s : Start) (rights : Rights) (nodes : ℕ) (sees shows : ℕ → Bool)
     same = λ known v e. absurd (cc);
   }
 
-  one_follows : (q : Request) (t : Tid) (N K : FlatMap) → AgreesInPart sees shows r q (full_of (Some q) t N) K (computed (Some q) t K (given_by sees shows r (full_of (Some q) t N)))
+  -- what was made of a request has a store that may hold it
+  made_held : (w number : ℕ) (q : Request) → request_at r w number ≡ Some q → (t : Tid) (N : FlatMap) → IsTid t → IsTrue (ascends N) → AreFit S N
+      → (o : Oid) → is_among o (full_of (Some q) t N).made ≡ true → IsTrue (may_hold rights o.store o.class)
+  made_held w number q e t N is up fit o i =
+      let full = full_of (Some q) t N in
+      let there = (leaves N r t q 1000000).changes.there o (or_left (is_among o full.made) (is_among o full.written) i) in
+      (found_row (IsFit S) full.map (subst (λ z. AreFit S (full_of z t N).map) e ((evaluates s rights h.accepted).fits w number t N is up fit)) o there.0 there.1).name.placed
+
+  abbrev AtSeenStores : Oid → Type 0
+  AtSeenStores o = IsTrue (has_bit nodes o.store) → IsTrue (shows o.class)
+
+  one_follows : (w number : ℕ) (q : Request) → request_at r w number ≡ Some q → (t : Tid) (N K : FlatMap) → IsTid t → IsTrue (ascends N) → AreFit S N → IsTrue (ascends K)
+      → AgreesInPart sees shows r q (full_of (Some q) t N) K (computed (Some q) t K (given_by sees shows r (full_of (Some q) t N)))
       → Follows sight (full_of (Some q) t N) K (computed (Some q) t K (given_by sees shows r (full_of (Some q) t N)))
-  one_follows q t N K agrees = record {
+  one_follows w number q found t N K is up fit sorted agrees = record {
     goes = λ before site o after e known lacks. (agrees.goes before site o after e known lacks).0;
     misses = agrees.misses;
     ends = ending (begins_in_view sees shows r q) refl;
     same = λ known v e.
         let same = agrees.same known (settled v e) in
-        record { touches = same.touches; written = same.written; made = same.made; objects = same.objects };
+        record {
+          touches = same.touches;
+          written = same.written;
+          made = same.made;
+          elsewhere = subst (AllByRecursion AtSeenStores) (sym same.names)
+              (chosen_names (λ o. in_view sees shows r o.site) AtSeenStores full.made full.made (λ o i. i)
+              (λ o v i has. held_is_shown r nodes sees shows h.seen rights h.accepted.rights_are o.store o.class has (made_held w number q found t N is up fit o i)));
+          objects = same.objects;
+          ascending = agrees.ascending known (settled v e) sorted;
+        };
   }
     where
-      settled : (v : Option Value) → (full_of (Some q) t N).ending ≡ Ended v → IsSettled sees shows r (full_of (Some q) t N).ending
+      full : Meant
+      full = full_of (Some q) t N
+
+      settled : (v : Option Value) → full.ending ≡ Ended v → IsSettled sees shows r full.ending
       settled v e = subst (IsSettled sees shows r) (sym e) tt
 
-      ending : (b : Bool) → begins_in_view sees shows r q ≡ b → AreKnown K (seen_in sight (full_of (Some q) t N)) → (v : Option Value) → (full_of (Some q) t N).ending ≡ Ended v
-          → (u : Option Value) × ((computed (Some q) t K (given_by sees shows r (full_of (Some q) t N))).ending ≡ Ended u)
+      ending : (b : Bool) → begins_in_view sees shows r q ≡ b → AreKnown K (seen_in sight full) → (v : Option Value) → full.ending ≡ Ended v
+          → (u : Option Value) × ((computed (Some q) t K (given_by sees shows r full)).ending ≡ Ended u)
       ending true b known v e = (result_seen sees shows r (slice_get r.methods q.method) v, agrees.ends known b v e)
       ending false b known v e = (blank_result sees shows (slice_get r.methods q.method), agrees.skips b)
 
-  follows_by : (w number : ℕ) (o : Option Request) → request_at r w number ≡ o → (t : Tid) (N K : FlatMap) → IsTrue (ascends N) → AreFit S N
+  follows_by : (w number : ℕ) (o : Option Request) → request_at r w number ≡ o → (t : Tid) (N K : FlatMap) → IsTid t → IsTrue (ascends N) → AreFit S N → IsTrue (ascends K)
       → IsPart K (rows_shown sees shows r N) → Follows sight (full_of o t N) K (computed o t K (given_by sees shows r (full_of o t N)))
-  follows_by w number None e t N K up fit part = nothing_follows t N K
-  follows_by w number (Some q) e t N K up fit part = one_follows q t N K (replays.in_part N K q t 1000000 up (shaped N fit) (fitting w number q e) part)
+  follows_by w number None e t N K is up fit sorted part = nothing_follows t N K
+  follows_by w number (Some q) e t N K is up fit sorted part =
+      one_follows w number q e t N K is up fit sorted (replays.in_part N K q t 1000000 up (shaped N fit) (fitting w number q e) part)
 
-  grows_by : (o : Option Request) (t : Tid) (N M : FlatMap) → IsPart N M
-      → IsFront (seen_in sight (full_of o t N)) (seen_in sight (full_of o t M)) × IsFront (given_by sees shows r (full_of o t N)) (given_by sees shows r (full_of o t M))
-  grows_by None t N M part = (record { rest = []; is = refl }, record { rest = []; is = refl })
-  grows_by (Some q) t N M part =
-      let grows = replays.grows N M q t 1000000 part in
-      (grows.touches, front_mapped (λ d. d.1) (downs_in_view sees shows r (full_of (Some q) t N)) (downs_in_view sees shows r (full_of (Some q) t M)) grows.downs)
+  grows_by : (o : Option Request) (t : Tid) (N M : FlatMap) → IsPart N M → GoesOn (full_of o t N) (full_of o t M)
+  grows_by None t N M part = record { touches = ([], refl); downs = ([], refl) }
+  grows_by (Some q) t N M part = goes_on N M r q t 1000000 part
 
   wrote_by : (w number : ℕ) (o : Option Request) → request_at r w number ≡ o → (t : Tid) (N : FlatMap) (v : Option Value) → IsTrue (ascends N) → AreFit S N
       → (full_of o t N).ending ≡ Ended v
@@ -225,10 +247,10 @@ module _ (s : Start) (rights : Rights) (nodes : ℕ) (sees shows : ℕ → Bool)
     wrote = λ w number t N v up fit ends. wrote_by w number (request_at r w number) refl t N v up fit ends;
     asks = λ w number t N up fit. asks_by w number (request_at r w number) refl t N up fit;
     lacks = λ w number t N site x up fit ends has may. lacks_by w number (request_at r w number) refl t N site x up fit ends has may;
-    follows = λ w number t N K up fit part.
+    follows = λ w number t N K is up fit sorted part.
         subst (Follows sight (full_of (request_at r w number) t N) K)
         (sym (computed_is w number t K (given_by sees shows r (full_of (request_at r w number) t N))))
-        (follows_by w number (request_at r w number) refl t N K up fit part);
+        (follows_by w number (request_at r w number) refl t N K is up fit sorted part);
   }
 
 pub followed : BundlesAreFollowed

@@ -5,6 +5,7 @@ use Rattle.std.specs.List.{filter, AllByRecursion}
 use Rattle.fab_base.specs.declared.object.Oid.{Oid}
 use Rattle.fab_base.specs.declared.object.Tid.{Tid}
 use Rattle.fab_base.specs.declared.object.Value.{Value}
+use Rattle.fab_base.specs.FieldSpelling.{IsTid}
 use Rattle.fab_base.specs.FlatMap.{FlatMap, get, ascends, is_among}
 use Rattle.fab_tree.specs.declared.start.Start.{Start}
 use Rattle.fab_language.specs.declared.ending.Ending.TheVariants.{Ended, Missing}
@@ -13,8 +14,7 @@ use Rattle.fab_language.specs.Meaning.{Meant}
 use Rattle.fab_language.specs.Numbers.{resolved}
 use Rattle.fab_rights.specs.declared.rights.Rights.{Rights}
 use Rattle.fab_rights.specs.Computed.{has_bit, may_hold}
-use Rattle.fab_laws.specs.Locality.{IsPart}
-use Rattle.fab_erasure.specs.Agreement.{IsFront}
+use Rattle.fab_laws.specs.Locality.{IsPart, GoesOn}
 use Rattle.fab_fewer.specs.Fewer.{AreKnown}
 use Rattle.fab_views.specs.Views.{IsSeenBy}
 use Rattle.fab_world.specs.Machine.{Setting}
@@ -39,12 +39,15 @@ module _ (sight : Sight) where
   abbrev pub shown_names : List Oid → List Oid
   shown_names os = filter (λ o. sight.shows o.class) os
 
-  -- it touched, wrote and made what is in view of the full run, and has the same objects under these names
+  -- It touched, wrote and made what is in view of the full run, and has the same objects under these names; what it made besides
+  -- is at no store of the set. So what stores of the set are sent of it is the same, in the same order.
   pub record IsSame (full part : Meant) : Type 0 where
     pub touches : part.touches ≡ seen_in full
     pub written : part.written ≡ shown_names full.written
     pub made : shown_names part.made ≡ shown_names full.made
+    pub elsewhere : AllByRecursion (λ o. IsTrue (sight.has o.store) → IsTrue (sight.shows o.class)) part.made
     pub objects : (o : Oid) → IsTrue (sight.shows o.class) → IsTrue (is_among o full.made || is_among o full.written) → get part.map o ≡ get full.map o
+    pub ascending : IsTrue (ascends part.map)
 
   -- Of one request, the full run and what is computed of it over some known objects with the values that it downgraded into view.
   pub record Follows (full : Meant) (known : FlatMap) (part : Meant) : Type 0 where
@@ -64,10 +67,8 @@ pub record IsPublicOf (S : Setting) (sight : Sight) (P : Public) : Type 0 where
   pub read : (bytes : List ℕ) → P.read bytes ≡ S.read bytes
 
 pub record IsFollowed (S : Setting) (sight : Sight) (P : Public) : Type 0 where
-  -- over more objects a run begins in view with what was in view over fewer
-  pub grows : (w request : ℕ) (t : Tid) (N M : FlatMap) → IsPart N M
-      → IsFront (seen_in sight (S.means w request t N)) (seen_in sight (S.means w request t M))
-      × IsFront (given_by sight (S.means w request t N)) (given_by sight (S.means w request t M))
+  -- over more objects a run notes what it noted over fewer, and then perhaps more: what is told anew of an attempt goes on from what was told
+  pub grows : (w request : ℕ) (t : Tid) (N M : FlatMap) → IsPart N M → GoesOn (S.means w request t N) (S.means w request t M)
   -- what it writes of seen classes it touched in view
   pub wrote : (w request : ℕ) (t : Tid) (N : FlatMap) (v : Option Value) → IsTrue (ascends N) → AreFit S N → (S.means w request t N).ending ≡ Ended v
       → AllByRecursion (λ o. IsTrue (is_among o (touched (seen_in sight (S.means w request t N))))) (shown_names sight (S.means w request t N).written)
@@ -77,7 +78,8 @@ pub record IsFollowed (S : Setting) (sight : Sight) (P : Public) : Type 0 where
   pub lacks : (w request : ℕ) (t : Tid) (N : FlatMap) (site : ℕ) (o : Oid) → IsTrue (ascends N) → AreFit S N → (S.means w request t N).ending ≡ Missing site o
       → IsTrue (sight.has o.store) → IsTrue (may_hold S.rights o.store o.class) → IsTrue (is_seen sight (site, o))
   -- and over a part of the seen objects it is followed
-  pub follows : (w request : ℕ) (t : Tid) (N K : FlatMap) → IsTrue (ascends N) → AreFit S N → IsPart K (filter (λ row. sight.shows row.0.class) N)
+  pub follows : (w request : ℕ) (t : Tid) (N K : FlatMap) → IsTid t → IsTrue (ascends N) → AreFit S N → IsTrue (ascends K)
+      → IsPart K (filter (λ row. sight.shows row.0.class) N)
       → Follows sight (S.means w request t N) K (P.means w request t K (given_by sight (S.means w request t N)))
 
 -- ---- bundles

@@ -1,0 +1,34 @@
+-- Isolation as a law: of settings of which everybody may know something, and of bundles.
+use Rattle.std.specs.Prelude.{ℕ, Bool}
+use Rattle.fab_tree.specs.declared.start.Start.{Start}
+use Rattle.fab_language.specs.Numbers.{resolved}
+use Rattle.fab_rights.specs.declared.rights.Rights.{Rights}
+use Rattle.fab_rights.specs.Computed.{has_bit}
+use Rattle.fab_world.specs.Machine.{Setting}
+use Rattle.fab_world.specs.Serial.{IsSetting, IsEvaluation}
+use Rattle.fab_settings.specs.Settings.{setting_of}
+use Rattle.fab_release.specs.Sights.{Sight, Public}
+use Rattle.fab_release.specs.Bundles.{sight_of, public_of, public_part}
+use Rattle.fab_release.specs.Isolation.{IsSightOf, IsIsolated, IsAlike}
+use Rattle.fab_isolation.specs.Owed.{IsPublicOf, IsFollowed, IsSetOf}
+
+-- a setting, what a set of nodes sees of it and what everybody may know of it
+pub record IsShared (S : Setting) (sight : Sight) (P : Public) : Type 0 where
+  pub setting : IsSetting S
+  pub evaluates : IsEvaluation S
+  pub sight_is : IsSightOf S sight
+  pub public_is : IsPublicOf S sight P
+  pub followed : IsFollowed S sight P
+
+abbrev pub IsIsolation : Type 0
+IsIsolation = (S : Setting) (sight : Sight) (P : Public) → IsShared S sight P → IsIsolated S sight P
+
+-- two settings that share what everybody may know
+abbrev pub AreIsolatedAlike : Type 0
+AreIsolatedAlike = (S T : Setting) (sight : Sight) (P : Public) → IsShared S sight P → IsShared T sight P → IsAlike S T sight P
+
+-- of every accepted bundle and every set of nodes that holds the hostile ones
+abbrev pub BundlesAreIsolated : Type 0
+BundlesAreIsolated =
+    (s : Start) (rights : Rights) (nodes : ℕ) (sees shows : ℕ → Bool) → IsSetOf s rights nodes sees shows
+    → IsIsolated (setting_of (resolved s) rights) (sight_of sees shows (has_bit nodes) (resolved s)) (public_of sees shows rights (public_part sees shows (resolved s)))
