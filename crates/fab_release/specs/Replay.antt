@@ -1,7 +1,7 @@
 -- The public replay: what the nodes outside a set have sent into it, rebuilt from the public part and the release record alone.
 --
 -- Workers run the erased meaning over what they are known to know; stores keep the objects that the set sees, and what the set's own
--- workers have prepared. Every step is total: an entry that doesn't fit what is kept changes nothing.
+-- workers have prepared. Every step is total; of an entry that no run releases nothing is promised.
 use Rattle.std.specs.Prelude.{ℕ, suc, Bool, true, false, not, ◌&&◌, ◌||◌, ◌==◌, nat_lt, if◌then◌else◌, List, [], ◌∷◌, ◌++◌, map, flat_map, Option, Some, None}
 use Rattle.std.specs.List.{filter, list_any, range_with_len}
 use Rattle.fab_base.specs.declared.object.Object.{Object}
@@ -61,14 +61,14 @@ pub record WorkerSeen : Type 0 where
   pub commits : List Commitment
   pub caches : List Rows
 
--- a store outside the set: its seen objects as they stand, with what the set's workers have prepared and when they were last heard; and the
--- Prepare that came last
+-- a store outside the set: its seen objects as they stand (and of others what the set's own workers wrote, which nothing reads), with what the
+-- set's workers have prepared and when they were last heard; and the Prepare that came last
 pub record StoreSeen : Type 0 where
   pub shelf : Shelf
   pub asked : Option Prepared
 
 -- and the seen objects that stores outside the set had or will have, at each version
-pub record Kept : Type 0 where
+pub record Rebuilt : Type 0 where
   pub worker : ℕ → WorkerSeen
   pub store : ℕ → StoreSeen
   pub table : Rows
@@ -91,7 +91,7 @@ module _ (sight : Sight) (P : Public) where
   abbrev pub shown_roots : FlatMap
   shown_roots = filter (λ root. is_shown root.0) P.roots
 
-  abbrev pub at_start : Kept
+  abbrev pub at_start : Rebuilt
   at_start = record {
     worker = λ n. record { boot = 1; number = 0; request = 0; stage = Rests; known = []; given = []; commits = []; caches = no_caches };
     store = λ s. record { shelf = shelf_at_start shown_roots s; asked = None };
@@ -246,17 +246,17 @@ module _ (sight : Sight) (P : Public) where
 
   -- ---- the fold
 
-  abbrev pub at_worker : Kept → ℕ → (WorkerSeen → WorkerSeen) → Kept
+  abbrev pub at_worker : Rebuilt → ℕ → (WorkerSeen → WorkerSeen) → Rebuilt
   at_worker k n change = record k { worker = with_at k.worker n (change (k.worker n)) }
 
-  abbrev pub at_store : Kept → ℕ → (StoreSeen → StoreSeen) → Kept
+  abbrev pub at_store : Rebuilt → ℕ → (StoreSeen → StoreSeen) → Rebuilt
   at_store k s change = record k { store = with_at k.store s (change (k.store s)) }
 
   -- the newest in front
-  abbrev pub tabled : Rows → Kept → Kept
+  abbrev pub tabled : Rows → Rebuilt → Rebuilt
   tabled rows k = record k { table = rows ++ k.table }
 
-  abbrev pub hears : ℕ → ℕ → Option Message → Kept → Kept
+  abbrev pub hears : ℕ → ℕ → Option Message → Rebuilt → Rebuilt
   hears n d None k = k
   hears n d (Some message) k =
       if is_worker P.rights n then at_worker k n (worker_hears n d message)
@@ -266,7 +266,7 @@ module _ (sight : Sight) (P : Public) where
   abbrev pub is_heard : ℕ → ℕ → Bool
   is_heard n d = (is_worker P.rights n && is_store P.rights d) || (is_store P.rights n && is_worker P.rights d)
 
-  abbrev pub next : Release → Kept → Kept
+  abbrev pub next : Release → Rebuilt → Rebuilt
   next (Received n d bytes) k = if is_heard n d then hears n d (P.read bytes) k else k
   next (Begin w request) k =
       at_worker k w (λ v. record v { number = suc v.number; request = request; stage = Runs; known = []; given = [] })
@@ -282,12 +282,12 @@ module _ (sight : Sight) (P : Public) where
   next (Crash n) k = at_worker k n (over no_caches)
   next (Recover n) k = if is_worker P.rights n then at_worker k n (λ v. record v { boot = suc v.boot; number = 0 }) else k
 
-  abbrev pub told : ℕ → ℕ → Option Message → Kept → List (ℕ × Message)
+  abbrev pub told : ℕ → ℕ → Option Message → Rebuilt → List (ℕ × Message)
   told n d None k = []
   told n d (Some message) k = if is_worker P.rights n then worker_says n d message (k.worker n) else store_says n d message (k.store n)
 
   -- what the entry's node sends into the set
-  abbrev pub sends : Release → Kept → List (ℕ × Message)
+  abbrev pub sends : Release → Rebuilt → List (ℕ × Message)
   sends (Received n d bytes) k = if is_heard n d then told n d (P.read bytes) k else []
   sends (Begin w request) k = []
   sends (Down w value) k = []
@@ -319,12 +319,12 @@ module _ (sight : Sight) (P : Public) where
   node_in (Recover n) = n
 
   -- what node n sends to node d of the set at an entry, in bytes
-  abbrev pub sent_at : Released → Kept → ℕ → ℕ → List (List ℕ)
+  abbrev pub sent_at : Released → Rebuilt → ℕ → ℕ → List (List ℕ)
   sent_at x k n d =
       if x.quiet || not (node_in x.release == n) then []
       else map (λ y. spelled y.1) (filter (λ y. y.0 == d) (sends x.release k))
 
-  abbrev pub sent_behind : Kept → List Released → ℕ → ℕ → List (List ℕ)
+  abbrev pub sent_behind : Rebuilt → List Released → ℕ → ℕ → List (List ℕ)
   sent_behind k [] n d = []
   sent_behind k (x ∷ xs) n d = sent_at x k n d ++ sent_behind (next x.release k) xs n d
 
