@@ -2,6 +2,7 @@
 use Rattle.std.proofs.Common.{◌≡◌, ℕ, true, false, List, [], ◌∷◌, ◌++◌, map, pos, Option, Some, None, refl, ◌==◌, ◌||◌}
 use Rattle.fab_base.specs.declared.object.Object.{Object as Thing}
 use Rattle.fab_base.specs.declared.object.Tid.{Tid}
+use Rattle.fab_base.specs.declared.object.Value.{Value}
 use Rattle.fab_base.specs.declared.object.Value.TheVariants.{Int}
 use Rattle.fab_base.specs.declared.message.Message.{Message}
 use Rattle.fab_base.specs.declared.message.Message.TheVariants.{Fetch, Object, Prepare, Vote, Commit, Boot}
@@ -17,7 +18,7 @@ use Rattle.fab_protocol.proofs.Toy.{account, box, holding, accounts, attempt, ri
 use Rattle.fab_world.specs.Workers.{kept_of}
 use Rattle.fab_world.specs.Machine.{Setting, Move}
 use Rattle.fab_world.specs.Serial.{world_of}
-use Rattle.fab_world.proofs.Toy.{setting, means, no_posts, posts_of, plain, is_run, is_hostile, both_written, transfers, until_applied}
+use Rattle.fab_world.proofs.Toy.{amount, setting, means, no_posts, posts_of, plain, is_run, is_hostile, both_written, transfers, until_applied}
 use Rattle.fab_release.specs.declared.release.Release.{Release}
 use Rattle.fab_release.specs.declared.release.Release.TheVariants as r
 use Rattle.fab_release.specs.declared.release.Released.{Released}
@@ -263,3 +264,96 @@ asking_sends = refl
 asking_is_replayed : public strangers hostile_known (released_in strangers H asking) 1 2 ≡ votes_sent
 unfolding kept_of shelf_of
 asking_is_replayed = refl
+
+-- ---- what is read at a store outside the set decides what is sent into it
+
+abbrev with_amount : Thing → FlatMap → FlatMap
+with_amount x N = put box (record { class = 1; fields = Int (amount x) ∷ [] }) N
+
+abbrev lent : Option Thing → Option Thing → FlatMap → Meant
+lent None y N = record { ending = Missing 0 (account 0); map = N; written = []; touches = []; downs = []; made = [] }
+lent (Some x) None N = record { ending = Missing 1 box; map = N; written = []; touches = (0, account 0) ∷ []; downs = (2, Int (amount x)) ∷ []; made = [] }
+lent (Some x) (Some y) N = record {
+  ending = Ended None;
+  map = with_amount x N;
+  written = box ∷ [];
+  touches = (0, account 0) ∷ (1, box) ∷ [];
+  downs = (2, Int (amount x)) ∷ [];
+  made = [];
+}
+
+abbrev lends : FlatMap → Meant
+lends N = lent (get N (account 0)) (get N box) N
+
+abbrev lent_messages : List Message
+lent_messages =
+    Fetch first (account 0) ∷ Object first (account 0) 1 (holding (pos 100)) ∷ Object first box 3 (boxed 2)
+    ∷ Prepare first (record { reads = (account 0, 1) ∷ []; writes = []; creates = [] }) ∷ Vote first Yes ∷ []
+
+abbrev L : Setting
+L = record (setting 0 1 0 (posts_of 4 0 box_messages) lent_messages) { means = λ w request t N. lends N }
+
+abbrev lending : List Move
+lending =
+    map plain (e.Begin 0 ∷ e.Resume 0 ∷ e.Deliver 0 1 ∷ e.Deliver 1 0 ∷ e.Resume 0 ∷ e.Post 4 ∷ e.Deliver 4 0 ∷ e.Resume 0
+    ∷ e.Deliver 0 1 ∷ e.Deliver 1 0 ∷ e.Post 4 ∷ e.Deliver 4 0 ∷ [])
+
+lending_is_run : is_run L lending ≡ true
+unfolding kept_of shelf_of
+lending_is_run = refl
+
+abbrev lent_sent : List (List ℕ)
+lent_sent =
+    map spelled (Fetch first box ∷ Prepare first (record { reads = []; writes = (box, 3, boxed 100) ∷ []; creates = [] }) ∷ Commit first ∷ [])
+
+lending_sends : (world_of L lending).sent 0 4 ≡ lent_sent
+unfolding kept_of shelf_of
+lending_sends = refl
+
+-- who sees the account is told of it when it is read, and finds what is on it among the roots
+abbrev auditors_know : Public
+auditors_know = record { rights = rights; cache = 0; roots = L.roots; read = L.read; means = λ w request t known given. lends known }
+
+lending_releases : released_in auditors L lending
+    ≡ map told (r.Begin 0 1 ∷ r.Got 0 1 ∷ r.Ask 0 ∷ r.Received 0 4 (spelled (Object first box 3 (boxed 2))) ∷ r.Ended 0
+    ∷ r.Received 0 4 (spelled (Vote first Yes)) ∷ r.Decided 0 true ∷ [])
+unfolding kept_of shelf_of
+lending_releases = refl
+
+lending_is_replayed : public auditors auditors_know (released_in auditors L lending) 0 4 ≡ lent_sent
+unfolding kept_of shelf_of
+lending_is_replayed = refl
+
+-- without the Got the account isn't known, and nothing is asked for
+without_got : public auditors auditors_know
+    (map told (r.Begin 0 1 ∷ r.Ask 0 ∷ r.Received 0 4 (spelled (Object first box 3 (boxed 2))) ∷ r.Ended 0
+    ∷ r.Received 0 4 (spelled (Vote first Yes)) ∷ r.Decided 0 true ∷ [])) 0 4 ≡ []
+without_got = refl
+
+-- who sees boxes alone is told the amount as it is downgraded into view, and nothing of the account
+abbrev borrowers : Sight
+borrowers = record strangers { in_view = λ site. site == 1; into_view = λ site. site == 2 }
+
+abbrev borrowed : List Value → Option Thing → FlatMap → Meant
+borrowed given None N = record { ending = Missing 1 box; map = N; written = []; touches = []; downs = []; made = [] }
+borrowed given (Some y) N = record {
+  ending = Ended None;
+  map = put box (record { class = 1; fields = given }) N;
+  written = box ∷ [];
+  touches = (1, box) ∷ [];
+  downs = [];
+  made = [];
+}
+
+abbrev borrowers_know : Public
+borrowers_know = record { rights = rights; cache = 0; roots = []; read = L.read; means = λ w request t known given. borrowed given (get known box) known }
+
+borrowing_releases : released_in borrowers L lending
+    ≡ map told (r.Begin 0 1 ∷ r.Down 0 (Int (pos 100)) ∷ r.Ask 0 ∷ r.Received 0 4 (spelled (Object first box 3 (boxed 2))) ∷ r.Ended 0
+    ∷ r.Received 0 4 (spelled (Vote first Yes)) ∷ r.Decided 0 true ∷ [])
+unfolding kept_of shelf_of
+borrowing_releases = refl
+
+borrowing_is_replayed : public borrowers borrowers_know (released_in borrowers L lending) 0 4 ≡ lent_sent
+unfolding kept_of shelf_of
+borrowing_is_replayed = refl
