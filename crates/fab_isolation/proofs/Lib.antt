@@ -3,3 +3,4 @@ pub mod Followed
 pub mod Requests
 pub mod Roots
 pub mod Sights
+pub mod Posts

@@ -1,15 +1,15 @@
 -- Isolation as a law: of settings of which everybody may know something, and of bundles.
-use Rattle.std.specs.Prelude.{ℕ, Bool}
+use Rattle.std.specs.Prelude.{ℕ, ◌≤◌, Bool, List}
 use Rattle.fab_tree.specs.declared.start.Start.{Start}
 use Rattle.fab_language.specs.Numbers.{resolved}
 use Rattle.fab_rights.specs.declared.rights.Rights.{Rights}
 use Rattle.fab_rights.specs.Computed.{has_bit}
-use Rattle.fab_world.specs.Machine.{Setting}
-use Rattle.fab_world.specs.Serial.{IsSetting, IsEvaluation}
-use Rattle.fab_settings.specs.Settings.{setting_of}
+use Rattle.fab_world.specs.Machine.{Setting, Move}
+use Rattle.fab_world.specs.Serial.{IsSetting, IsEvaluation, IsRun}
+use Rattle.fab_settings.specs.Settings.{IsAcceptedWith, setting_of}
 use Rattle.fab_release.specs.Sights.{Sight, Public}
 use Rattle.fab_release.specs.Bundles.{sight_of, public_of, public_part}
-use Rattle.fab_release.specs.Isolation.{IsSightOf, IsIsolated, IsAlike}
+use Rattle.fab_release.specs.Isolation.{IsSightOf, IsIsolated, IsAlike, posts_in}
 use Rattle.fab_isolation.specs.Owed.{IsPublicOf, IsFollowed, IsSetOf}
 
 -- a setting, what a set of nodes sees of it and what everybody may know of it
@@ -32,3 +32,8 @@ abbrev pub BundlesAreIsolated : Type 0
 BundlesAreIsolated =
     (s : Start) (rights : Rights) (nodes : ℕ) (sees shows : ℕ → Bool) → IsSetOf s rights nodes sees shows
     → IsIsolated (setting_of (resolved s) rights) (sight_of sees shows (has_bit nodes) (resolved s)) (public_of sees shows rights (public_part sees shows (resolved s)))
+
+-- a run of an accepted bundle posts no more than a bundle may
+abbrev pub BundlesPostFew : Type 0
+BundlesPostFew =
+    (s : Start) (rights : Rights) → IsAcceptedWith s rights → (moves : List Move) → IsRun (setting_of (resolved s) rights) moves → posts_in moves ≤ 10000

@@ -1,4 +1,5 @@
 //! What isolation asks of bundles.
+ghost use Rattle.fab_isolation.specs.Law.{BundlesPostFew};
 ghost use Rattle.fab_isolation.specs.Owed.{BundlesAreFollowed};
 
 /// Every accepted bundle gives what isolation asks, of whatever set of nodes contains the hostile ones: what
@@ -6,4 +7,9 @@ ghost use Rattle.fab_isolation.specs.Owed.{BundlesAreFollowed};
 /// that it touches in view, one after the other, computes of it what is in view.
 pub fn bundles_are_followed()
     ensures { BundlesAreFollowed }
+{}
+
+/// Whatever hostile nodes do, a run posts no more than its bundle has to post, which is 10,000 at most.
+pub fn bundles_post_few()
+    ensures { BundlesPostFew }
 {}
