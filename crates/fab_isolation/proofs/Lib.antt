@@ -4,3 +4,4 @@ pub mod Requests
 pub mod Roots
 pub mod Sights
 pub mod Posts
+pub mod Shared

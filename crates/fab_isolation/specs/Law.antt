@@ -1,6 +1,7 @@
 -- Isolation as a law: of settings of which everybody may know something, and of bundles.
-use Rattle.std.specs.Prelude.{ℕ, ◌≤◌, Bool, List}
+use Rattle.std.specs.Prelude.{◌≡◌, ℕ, ◌≤◌, Bool, List}
 use Rattle.fab_tree.specs.declared.start.Start.{Start}
+use Rattle.fab_tree.specs.declared.resolved.Resolved.{Resolved}
 use Rattle.fab_language.specs.Numbers.{resolved}
 use Rattle.fab_rights.specs.declared.rights.Rights.{Rights}
 use Rattle.fab_rights.specs.Computed.{has_bit}
@@ -37,3 +38,8 @@ BundlesAreIsolated =
 abbrev pub BundlesPostFew : Type 0
 BundlesPostFew =
     (s : Start) (rights : Rights) → IsAcceptedWith s rights → (moves : List Move) → IsRun (setting_of (resolved s) rights) moves → posts_in moves ≤ 10000
+
+-- what a set of nodes sees is a function of the public part, as what everybody may know is; so bundles with one public part share both
+abbrev pub SightsArePublic : Type 0
+SightsArePublic =
+    (r : Resolved) (sees shows has : ℕ → Bool) → sight_of sees shows has (public_part sees shows r) ≡ sight_of sees shows has r

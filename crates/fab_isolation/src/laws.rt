@@ -1,5 +1,5 @@
 //! What isolation asks of bundles.
-ghost use Rattle.fab_isolation.specs.Law.{BundlesPostFew};
+ghost use Rattle.fab_isolation.specs.Law.{BundlesPostFew, SightsArePublic};
 ghost use Rattle.fab_isolation.specs.Owed.{BundlesAreFollowed};
 
 /// Every accepted bundle gives what isolation asks, of whatever set of nodes contains the hostile ones: what
@@ -12,4 +12,9 @@ pub fn bundles_are_followed()
 /// Whatever hostile nodes do, a run posts no more than its bundle has to post, which is 10,000 at most.
 pub fn bundles_post_few()
     ensures { BundlesPostFew }
+{}
+
+/// Of bundles with one public part a set of nodes sees the same.
+pub fn sights_are_public()
+    ensures { SightsArePublic }
 {}

@@ -3,4 +3,4 @@
 
 mod laws;
 
-pub use laws::{bundles_are_followed, bundles_post_few};
+pub use laws::{bundles_are_followed, bundles_post_few, sights_are_public};
