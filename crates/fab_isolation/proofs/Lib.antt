@@ -5,3 +5,4 @@ pub mod Roots
 pub mod Sights
 pub mod Posts
 pub mod Shared
+pub mod Alike

@@ -28,6 +28,10 @@ IsIsolation = (S : Setting) (sight : Sight) (P : Public) → IsShared S sight P 
 abbrev pub AreIsolatedAlike : Type 0
 AreIsolatedAlike = (S T : Setting) (sight : Sight) (P : Public) → IsShared S sight P → IsShared T sight P → IsAlike S T sight P
 
+-- what is isolated over one public part is alike
+abbrev pub IsolatedAreAlike : Type 0
+IsolatedAreAlike = (S T : Setting) (sight : Sight) (P : Public) → IsIsolated S sight P → IsIsolated T sight P → IsAlike S T sight P
+
 -- of every accepted bundle and every set of nodes that holds the hostile ones
 abbrev pub BundlesAreIsolated : Type 0
 BundlesAreIsolated =

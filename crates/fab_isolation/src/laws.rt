@@ -1,5 +1,5 @@
 //! What isolation asks of bundles.
-ghost use Rattle.fab_isolation.specs.Law.{BundlesPostFew, SightsArePublic};
+ghost use Rattle.fab_isolation.specs.Law.{BundlesPostFew, IsolatedAreAlike, SightsArePublic};
 ghost use Rattle.fab_isolation.specs.Owed.{BundlesAreFollowed};
 
 /// Every accepted bundle gives what isolation asks, of whatever set of nodes contains the hostile ones: what
@@ -17,4 +17,10 @@ pub fn bundles_post_few()
 /// Of bundles with one public part a set of nodes sees the same.
 pub fn sights_are_public()
     ensures { SightsArePublic }
+{}
+
+/// Of two settings of which everybody may know the same: if both are isolated, then where the record of a run of
+/// the one goes on from that of a run of the other, so do the messages.
+pub fn isolated_are_alike()
+    ensures { IsolatedAreAlike }
 {}
