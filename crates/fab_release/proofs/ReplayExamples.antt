@@ -5,8 +5,9 @@ use Rattle.fab_base.specs.declared.object.Tid.{Tid}
 use Rattle.fab_base.specs.declared.object.Value.{Value}
 use Rattle.fab_base.specs.declared.object.Value.TheVariants.{Int}
 use Rattle.fab_base.specs.declared.message.Message.{Message}
-use Rattle.fab_base.specs.declared.message.Message.TheVariants.{Fetch, Object, Prepare, Vote, Commit, Boot}
+use Rattle.fab_base.specs.declared.message.Message.TheVariants.{Fetch, Object, Deny, Prepare, Vote, Commit, Abort, Boot}
 use Rattle.fab_base.specs.declared.message.Answer.TheVariants.{Yes, OldTid, Rights as NoRights}
+use Rattle.fab_base.specs.declared.message.Why.TheVariants.{Missing as Lacking}
 use Rattle.fab_base.specs.FlatMap.{FlatMap, get, put}
 use Rattle.fab_base.specs.MessageSpelling.{spelled}
 use Rattle.fab_language.specs.declared.ending.Ending.TheVariants.{Ended, Missing}
@@ -357,3 +358,76 @@ borrowing_releases = refl
 borrowing_is_replayed : public borrowers borrowers_know (released_in borrowers L lending) 0 4 ≡ lent_sent
 unfolding kept_of shelf_of
 borrowing_is_replayed = refl
+
+-- ---- a store of the set votes No, denies, or is silent: the attempt is over, and what was prepared is aborted
+
+abbrev refusing : Message → List Message
+refusing last = Object first box 3 (boxed 2) ∷ last ∷ []
+
+abbrev R : List Message → Setting
+R messages = record (setting 0 1 0 (posts_of 4 0 messages) messages) { means = λ w request t N. opens N }
+
+abbrev knowing : List Message → Public
+knowing messages = record P { read = (R messages).read }
+
+abbrev refused_vote : List Message
+refused_vote = refusing (Vote first (NoRights box))
+
+refused_is_run : is_run (R refused_vote) opening ≡ true
+unfolding kept_of shelf_of
+refused_is_run = refl
+
+abbrev refused_sent : List (List ℕ)
+refused_sent =
+    map spelled (Fetch first box ∷ Prepare first (record { reads = []; writes = (box, 3, boxed 7) ∷ []; creates = [] }) ∷ Abort first ∷ [])
+
+refused_releases : released_in strangers (R refused_vote) opening
+    ≡ map told (r.Begin 0 1 ∷ r.Ask 0 ∷ r.Received 0 4 (spelled (Object first box 3 (boxed 2))) ∷ r.Ended 0
+    ∷ r.Received 0 4 (spelled (Vote first (NoRights box))) ∷ r.Decided 0 false ∷ [])
+unfolding kept_of shelf_of
+refused_releases = refl
+
+refused_sends : (world_of (R refused_vote) opening).sent 0 4 ≡ refused_sent
+unfolding kept_of shelf_of
+refused_sends = refl
+
+refused_is_replayed : public strangers (knowing refused_vote) (released_in strangers (R refused_vote) opening) 0 4 ≡ refused_sent
+unfolding kept_of shelf_of
+refused_is_replayed = refl
+
+abbrev denied : List Message
+denied = Deny first box Lacking ∷ []
+
+abbrev denying : List Move
+denying = map plain (e.Begin 0 ∷ e.Resume 0 ∷ e.Post 4 ∷ e.Deliver 4 0 ∷ [])
+
+denied_is_run : is_run (R denied) denying ≡ true
+unfolding kept_of shelf_of
+denied_is_run = refl
+
+denied_releases : released_in strangers (R denied) denying
+    ≡ map told (r.Begin 0 1 ∷ r.Ask 0 ∷ r.Received 0 4 (spelled (Deny first box Lacking)) ∷ r.Decided 0 false ∷ [])
+unfolding kept_of shelf_of
+denied_releases = refl
+
+denied_is_replayed : public strangers (knowing denied) (released_in strangers (R denied) denying) 0 4 ≡ (world_of (R denied) denying).sent 0 4
+unfolding kept_of shelf_of
+denied_is_replayed = refl
+
+abbrev waiting : List Move
+waiting = map plain (e.Begin 0 ∷ e.Resume 0 ∷ e.Post 4 ∷ e.Deliver 4 0 ∷ e.Resume 0 ∷ e.Idle 0 4 ∷ [])
+
+abbrev silent : List Message
+silent = Object first box 3 (boxed 2) ∷ []
+
+waiting_is_run : is_run (R silent) waiting ≡ true
+unfolding kept_of shelf_of
+waiting_is_run = refl
+
+waiting_sends : (world_of (R silent) waiting).sent 0 4 ≡ refused_sent
+unfolding kept_of shelf_of
+waiting_sends = refl
+
+waiting_is_replayed : public strangers (knowing silent) (released_in strangers (R silent) waiting) 0 4 ≡ refused_sent
+unfolding kept_of shelf_of
+waiting_is_replayed = refl
