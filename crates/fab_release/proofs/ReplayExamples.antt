@@ -5,7 +5,7 @@ use Rattle.fab_base.specs.declared.object.Tid.{Tid}
 use Rattle.fab_base.specs.declared.object.Value.{Value}
 use Rattle.fab_base.specs.declared.object.Value.TheVariants.{Int}
 use Rattle.fab_base.specs.declared.message.Message.{Message}
-use Rattle.fab_base.specs.declared.message.Message.TheVariants.{Fetch, Object, Deny, Prepare, Vote, Commit, Abort, Boot}
+use Rattle.fab_base.specs.declared.message.Message.TheVariants.{Fetch, Object, Deny, Prepare, Vote, Commit, Abort, Boot, Inquire}
 use Rattle.fab_base.specs.declared.message.Answer.TheVariants.{Yes, OldTid, Rights as NoRights}
 use Rattle.fab_base.specs.declared.message.Why.TheVariants.{Missing as Lacking}
 use Rattle.fab_base.specs.FlatMap.{FlatMap, get, put}
@@ -19,7 +19,7 @@ use Rattle.fab_protocol.proofs.Toy.{account, box, holding, accounts, attempt, ri
 use Rattle.fab_world.specs.Workers.{kept_of}
 use Rattle.fab_world.specs.Machine.{Setting, Move}
 use Rattle.fab_world.specs.Serial.{world_of}
-use Rattle.fab_world.proofs.Toy.{amount, setting, means, no_posts, posts_of, plain, is_run, is_hostile, both_written, transfers, until_applied}
+use Rattle.fab_world.proofs.Toy.{amount, setting, means, no_posts, posts_of, plain, is_run, is_hostile, both_written, transfers, until_prepare, until_applied}
 use Rattle.fab_release.specs.declared.release.Release.{Release}
 use Rattle.fab_release.specs.declared.release.Release.TheVariants as r
 use Rattle.fab_release.specs.declared.release.Released.{Released}
@@ -431,3 +431,49 @@ waiting_sends = refl
 waiting_is_replayed : public strangers (knowing silent) (released_in strangers (R silent) waiting) 0 4 ≡ refused_sent
 unfolding kept_of shelf_of
 waiting_is_replayed = refl
+
+-- ---- a store that has voted goes down before it hears how it went: back again it asks the worker of the set
+
+abbrev Q : Setting
+Q = record (setting 0 1 0 no_posts (Boot 2 ∷ Inquire first ∷ transfers first)) { roots = accounts (pos 100) (pos 0) }
+
+abbrev questions_known : Public
+questions_known = record accounts_known { read = Q.read }
+
+abbrev inquiring : List Move
+inquiring = map plain (until_prepare 0 ++ e.Deliver 0 1 ∷ e.Crash 1 ∷ e.Recover 1 ∷ e.Deliver 1 0 ∷ e.Deliver 0 1 ∷ [])
+
+inquiring_is_run : is_run Q inquiring ≡ true
+unfolding kept_of shelf_of
+inquiring_is_run = refl
+
+inquiring_sends : (world_of Q inquiring).sent 1 0 ≡ store_sent ++ spelled (Inquire first) ∷ []
+unfolding kept_of shelf_of
+inquiring_sends = refl
+
+inquiring_is_replayed : public partners questions_known (released_in partners Q inquiring) 1 0 ≡ store_sent ++ spelled (Inquire first) ∷ []
+unfolding kept_of shelf_of
+inquiring_is_replayed = refl
+
+-- the worker of the set comes back instead, and its Boot frees what was prepared: nobody is asked
+abbrev rebooted : List Move
+rebooted = map plain (until_prepare 0 ++ e.Deliver 0 1 ∷ e.Crash 0 ∷ e.Recover 0 ∷ e.Deliver 0 1 ∷ e.Crash 1 ∷ e.Recover 1 ∷ [])
+
+rebooted_is_run : is_run Q rebooted ≡ true
+unfolding kept_of shelf_of
+rebooted_is_run = refl
+
+rebooted_sends : (world_of Q rebooted).sent 1 0 ≡ store_sent
+unfolding kept_of shelf_of
+rebooted_sends = refl
+
+rebooted_is_replayed : public partners questions_known (released_in partners Q rebooted) 1 0 ≡ store_sent
+unfolding kept_of shelf_of
+rebooted_is_replayed = refl
+
+-- a record without the Boot would have it asked
+without_boot : public partners questions_known
+    (map told (r.Received 1 0 (spelled (both_written first 1 (pos 95) (pos 5))) ∷ r.Voted 1 first Yes ∷ r.Crash 1 ∷ r.Recover 1 ∷ [])) 1 0
+    ≡ map spelled (Vote first Yes ∷ Inquire first ∷ [])
+unfolding kept_of shelf_of
+without_boot = refl
