@@ -3,6 +3,7 @@ use Rattle.std.specs.Prelude.{◌≡◌, ℕ, ◌≤◌, Bool, List}
 use Rattle.fab_tree.specs.declared.start.Start.{Start}
 use Rattle.fab_tree.specs.declared.resolved.Resolved.{Resolved}
 use Rattle.fab_language.specs.Numbers.{resolved}
+use Rattle.fab_places.specs.Places.{AreRights}
 use Rattle.fab_rights.specs.declared.rights.Rights.{Rights}
 use Rattle.fab_rights.specs.Computed.{has_bit}
 use Rattle.fab_world.specs.Machine.{Setting, Move}
@@ -47,3 +48,7 @@ BundlesPostFew =
 abbrev pub SightsArePublic : Type 0
 SightsArePublic =
     (r : Resolved) (sees shows has : ℕ → Bool) → sight_of sees shows has (public_part sees shows r) ≡ sight_of sees shows has r
+
+-- and so are the rights
+abbrev pub RightsArePublic : Type 0
+RightsArePublic = (r : Resolved) (sees shows : ℕ → Bool) (rights : Rights) → AreRights r rights → AreRights (public_part sees shows r) rights

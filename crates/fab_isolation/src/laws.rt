@@ -1,5 +1,5 @@
 //! What isolation asks of bundles.
-ghost use Rattle.fab_isolation.specs.Law.{BundlesPostFew, IsolatedAreAlike, SightsArePublic};
+ghost use Rattle.fab_isolation.specs.Law.{BundlesPostFew, IsolatedAreAlike, RightsArePublic, SightsArePublic};
 ghost use Rattle.fab_isolation.specs.Owed.{BundlesAreFollowed};
 
 /// Every accepted bundle gives what isolation asks, of whatever set of nodes contains the hostile ones: what
@@ -23,4 +23,9 @@ pub fn sights_are_public()
 /// the one goes on from that of a run of the other, so do the messages.
 pub fn isolated_are_alike()
     ensures { IsolatedAreAlike }
+{}
+
+/// The rights of a bundle are those of its public part.
+pub fn rights_are_public()
+    ensures { RightsArePublic }
 {}

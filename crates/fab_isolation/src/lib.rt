@@ -3,4 +3,7 @@
 
 mod laws;
 
-pub use laws::{bundles_are_followed, bundles_post_few, isolated_are_alike, sights_are_public};
+pub use laws::{
+    bundles_are_followed, bundles_post_few, isolated_are_alike, rights_are_public,
+    sights_are_public,
+};
