@@ -44,6 +44,12 @@ known_rises C E r rises known = elim (rises.each r.0) [
 open_from : (n : ℕ) (v : Standing) (ls : List ℕ) → v.attempt.phase ≡ workers.Preparing ls → Open n v (tid_at n v)
 open_from n v ls e = record { tid = refl; waits = subst IsPreparing (sym e) tt }
 
+-- what is new of one node was sent by no other
+pub not_sent : (New : ℕ → List ℕ → Type 0) (n x b : ℕ) (bytes : List ℕ) (queue : List (List ℕ)) → (x ≡ n → ⊥)
+    → In bytes queue ⊎ ((x ≡ n) × New b bytes) → In bytes queue
+not_sent New n x b bytes queue apart (inl h) = h
+not_sent New n x b bytes queue apart (inr h) = absurd (apart h.0)
+
 module _ (S : Setting) (D ex : ℕ → Bool) where
   -- ---- what a worker's change leaves of messages
 
@@ -221,11 +227,6 @@ module _ (S : Setting) (D ex : ℕ → Bool) where
       → ((x b : ℕ) (bytes : List ℕ) → In bytes (v.queue x b) → In bytes (w.queue x b)) → Inv S D ex v cs C
   calm w v cs C inv nodes queues =
       same_seen w v cs C inv (λ n worker. nodes n) (λ s store. let b = nodes s in b.entries) (λ x b outside. queues x b)
-
-  not_sent : (New : ℕ → List ℕ → Type 0) (n x b : ℕ) (bytes : List ℕ) (queue : List (List ℕ)) → (x ≡ n → ⊥)
-      → In bytes queue ⊎ ((x ≡ n) × New b bytes) → In bytes queue
-  not_sent New n x b bytes queue apart (inl h) = h
-  not_sent New n x b bytes queue apart (inr h) = absurd (apart h.0)
 
   -- a node of D does whatever it does
   pub outsider : (New : ℕ → List ℕ → Type 0) (w v : World) (cs : List Commit) (C : State) (n : ℕ) → D n ≡ true → Inv S D ex w cs C

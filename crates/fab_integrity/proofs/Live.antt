@@ -2,10 +2,11 @@
 --
 -- A worker that is down may recover, an idle one may begin, one that evaluates may resume; one that waits lacks a store. There
 -- Idle may come once all nodes are settled, and at a node that isn't settled something else may.
-use Rattle.std.proofs.Common.{◌≡◌, ℕ, ◌+◌, ◌≤◌, List, [], ◌∷◌, ◌++◌, length, Bool, true, false, not, ◌&&◌, ◌||◌, ◌==◌, nat_lt, IsTrue}
-use Rattle.std.proofs.Common.{Option, None, refl, sym, ap, ◌∙◌, subst, inl, inr, arith, append-nil, append_assoc, true≢false}
-use Rattle.std.specs.List.{list_all, fold, range_with_len}
+use Rattle.std.proofs.Common.{◌≡◌, ℕ, List, [], ◌∷◌, ◌++◌, length, Bool, true, false, not, ◌&&◌, ◌||◌, ◌==◌, nat_lt, IsTrue}
+use Rattle.std.proofs.Common.{Option, None, refl, sym, ap, ◌∙◌, subst, inl, inr, append-nil, append_assoc, true≢false}
+use Rattle.std.specs.List.{list_all, range_with_len}
 use Rattle.std.proofs.lemmas.Bool.{cases_eq, cases_Bool, and_from, and_parts, and_cases, or_parts, or_right, both_ways, lt-ltb, eq-eqb, not_from_false}
+use Rattle.std.proofs.lemmas.List.Sums.{fold-append}
 use Rattle.fab_base.specs.declared.entry.Entry.{Entry}
 use Rattle.fab_base.specs.declared.object.Oid.{Oid}
 use Rattle.fab_net.specs.declared.event.Inner.{Inner}
@@ -13,8 +14,8 @@ use Rattle.fab_net.specs.declared.event.Inner.TheVariants as i
 use Rattle.fab_net.specs.declared.note.Commit.{Commit}
 use Rattle.fab_rights.specs.Computed.{is_node, is_store, is_worker, nodes_in}
 use Rattle.fab_world.specs.Machine.{Setting, World, Node, Move, Form, Does, Cuts, Fails, Posts, Crashes, Never, form_of, act, node_of, ready, at_start, step, steps}
-use Rattle.fab_world.specs.Machine.{posted, enabled, are_enabled, may, runs, record_at, kept, lacks, is_idle, is_evaluating, is_empty, is_running, is_settled}
-use Rattle.fab_world.specs.Serial.{IsSetting, IsEvaluation, Excludes, IsRun, IsLive, IsWaiting, GoesOn, ArePosts, world_of, attempts, attempts_at, commits_in}
+use Rattle.fab_world.specs.Machine.{posted, enabled, are_enabled, may, record_at, kept, lacks, is_idle, is_evaluating, is_empty, is_running, is_settled}
+use Rattle.fab_world.specs.Serial.{IsSetting, IsEvaluation, Excludes, IsRun, IsLive, IsWaiting, GoesOn, ArePosts, world_of, commits_in}
 use Rattle.fab_world.specs.Workers as workers
 use Rattle.fab_world.specs.Workers.{Phase, Attempt, is_in}
 use Rattle.fab_integrity.proofs.Invariant.{In, IsWorker}
@@ -22,13 +23,10 @@ use Rattle.fab_integrity.proofs.Lists.{in_filter}
 use Rattle.fab_integrity.proofs.Changes.{Changes, does_changes, down_changes, fails_changes, cuts_changes, posted_node, if_whole}
 use Rattle.fab_integrity.proofs.Worlds.{at_other}
 use Rattle.fab_integrity.proofs.Steps.{Holds}
-use Rattle.fab_integrity.proofs.Runs.{holds_run}
+use Rattle.fab_integrity.proofs.Runs.{enabled_front, excludes_none, front_run, holds_run, no_classes}
 use Rattle.fab_integrity.proofs.Awaited.{Waits, waits_act, all_stores, named_store}
 
 -- ---- small things
-
-abbrev no_classes : ℕ → Bool
-no_classes c = false
 
 -- where not all are so, one isn't
 one_not : {A : Type 0} (f : A → Bool) (xs : List A) → list_all f xs ≡ false → (x : A) × In x xs × (f x ≡ false)
@@ -170,11 +168,7 @@ module _ (S : Setting) (given : IsSetting S) (law : IsEvaluation S) where
     posts : (h : ℕ) → S.hostile h ≡ false → w.posts h ≡ []
 
   nothing_excluded : Excludes S S.hostile no_classes
-  nothing_excluded = record {
-    hostile = λ n e. e;
-    unwritten = λ n c d e. absurd (true≢false (sym e));
-    unheld = λ n c d e. absurd (true≢false (sym e));
-  }
+  nothing_excluded = excludes_none S S.hostile (λ n e. e)
 
   waits_by : (w v : World) (n : ℕ) (entry : Option Entry) (a : Attempt) → Changes w v n entry a → Lasts w → (Me n → Waits S.rights a.phase)
       → (x : ℕ) → Me x → Waits S.rights (v.node x).attempt.phase
@@ -228,38 +222,13 @@ module _ (S : Setting) (given : IsSetting S) (law : IsEvaluation S) where
 
   -- ---- runs and their fronts
 
-  attempts_grow : (moves : List Move) (count : ℕ) → count ≤ fold (λ n move. n + attempts_at (form_of move)) count moves
-  attempts_grow [] count = omega arith
-  attempts_grow (move ∷ moves) count = let h = attempts_grow moves (count + attempts_at (form_of move)) in omega (arith, h)
-
-  fold_front : {A B : Type 0} (f : B → A → B) (b : B) (xs ys : List A) → fold f b (xs ++ ys) ≡ fold f (fold f b xs) ys
-  fold_front f b [] ys = refl
-  fold_front f b (x ∷ xs) ys = fold_front f (f b x) xs ys
-
-  enabled_front : (w : World) (xs ys : List Move) → IsTrue (are_enabled S w (xs ++ ys)) → IsTrue (are_enabled S w xs) × IsTrue (are_enabled S (runs S w xs) ys)
-  enabled_front w [] ys h = (refl, h)
-  enabled_front w (x ∷ xs) ys h =
-      let p = and_parts (enabled S w (form_of x)) (are_enabled S (step S w x) (xs ++ ys)) h in
-      let q = enabled_front (step S w x) xs ys p.1 in
-      (and_from (enabled S w (form_of x)) (are_enabled S (step S w x) xs) p.0 q.0, q.1)
-
-  front_run : (xs ys : List Move) → IsRun S (xs ++ ys) → IsRun S xs
-  front_run xs ys run = record {
-    enabled = (enabled_front (at_start S) xs ys run.enabled).0;
-    few =
-        let all = run.few in
-        let split = fold_front (λ n (move : Move). n + attempts_at (form_of move)) 0 xs ys in
-        let more = attempts_grow ys (attempts xs) in
-        omega (arith, all, split, more);
-  }
-
   lasts_step : (xs : List Move) (move : Move) (ys : List Move) → IsRun S (xs ++ move ∷ ys) → Lasts (world_of S xs) → Lasts (world_of S (xs ++ move ∷ []))
   lasts_step xs move ys run h =
       let w : World = world_of S xs in
-      let good = holds_run S S.hostile no_classes given law nothing_excluded xs (front_run xs (move ∷ ys) run) in
-      let rest = (enabled_front (at_start S) xs (move ∷ ys) run.enabled).1 in
+      let good = holds_run S S.hostile no_classes given law nothing_excluded xs (front_run S xs (move ∷ ys) run) in
+      let rest = (enabled_front S (at_start S) xs (move ∷ ys) run.enabled).1 in
       let can = (and_parts (enabled S w (form_of move)) (are_enabled S (step S w move) ys) rest).0 in
-      subst Lasts (sym (fold_front (step S) (at_start S) xs (move ∷ []))) (record {
+      subst Lasts (sym (fold-append (step S) (at_start S) xs (move ∷ []))) (record {
         waits = waits_steps w (commits_in S S.hostile xs) good h (form_of move);
         posts = posts_steps w h (form_of move) can;
       })

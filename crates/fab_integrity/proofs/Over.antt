@@ -1,7 +1,7 @@
 -- Behind a run that is over, every request of an honest worker has an outcome, or its worker has failed for good.
 --
 -- An ordinary event that may come is due as it is, or as the cut that a line makes of it, or its node's crash is due.
-use Rattle.std.proofs.Common.{◌≡◌, ℕ, ◌<◌, ◌^◌, List, [], ◌∷◌, Bool, true, false, not, ◌&&◌, ◌||◌, nat_lt}
+use Rattle.std.proofs.Common.{◌≡◌, ℕ, ◌<◌, ◌^◌, List, Bool, true, false, not, ◌&&◌, nat_lt}
 use Rattle.std.proofs.Common.{if◌then◌else◌, IsTrue, IsFalse, Option, Some, None, is_some, length, min, refl, ap, ◌∙◌, inl, inr, arith, true≢false, sym}
 use Rattle.std.specs.List.{list_all, range_with_len}
 use Rattle.std.proofs.lemmas.Bool.{cases_Bool, and_from, and_parts, or_cases, both_ways, eq-eqb, not_from_false, not-true}
@@ -12,8 +12,7 @@ use Rattle.fab_rights.proofs.Bits.{bit_below, has_bit_exact}
 use Rattle.fab_world.specs.Machine.{Setting, World, Move, Form, Does, Cuts, Fails, Posts, Crashes, Never, node_of, enabled, may, record_at, is_running}
 use Rattle.fab_world.specs.Machine.{kept, lacks, is_idle, is_evaluating, is_empty, is_settled}
 use Rattle.fab_world.specs.Serial.{IsSetting, IsEvaluation, IsRun, IsWaiting, IsOrdinary, ArePosts, world_of}
-use Rattle.fab_world.specs.Crashing.{CrashLine, IsOver, must_crash, crashes_by, keeps_by, cut_at, is_cut_to, target, is_due}
-use Rattle.fab_integrity.proofs.Invariant.{In}
+use Rattle.fab_world.specs.Crashing.{CrashLine, IsOver, must_crash, crashes_by, cut_at, is_cut_to, target, is_due}
 use Rattle.fab_integrity.proofs.Lists.{all_in, filter_in}
 use Rattle.fab_integrity.proofs.Lists.{in_range}
 use Rattle.fab_integrity.proofs.Live.{live}

@@ -1,13 +1,13 @@
 -- Runs that are over: a transfer, and one across a crash that a line makes.
-use Rattle.std.proofs.Common.{◌≡◌, ℕ, ◌==◌, if◌then◌else◌, List, [], ◌∷◌, ◌++◌, map, None, Some, refl, true, false, lit<}
+use Rattle.std.proofs.Common.{◌≡◌, ℕ, ◌==◌, if◌then◌else◌, List, [], ◌∷◌, ◌++◌, map, None, Some, refl, false, lit<}
 use Rattle.fab_base.specs.declared.object.Tid.{Tid}
 use Rattle.fab_base.specs.declared.message.Message.TheVariants.{Boot}
-use Rattle.fab_net.specs.declared.event.Event.TheVariants.{Begin, Deliver, CrashIn, Recover}
+use Rattle.fab_net.specs.declared.event.Event.TheVariants.{Deliver, CrashIn, Recover}
 use Rattle.fab_net.specs.declared.event.Inner.TheVariants as i
 use Rattle.fab_net.specs.declared.outcome.ReqOutcome.TheVariants.{Committed}
 use Rattle.fab_protocol.specs.Stores.{shelf_of}
 use Rattle.fab_protocol.proofs.Toy.{attempt}
-use Rattle.fab_world.specs.Machine.{Setting, Move, at_start, outcome}
+use Rattle.fab_world.specs.Machine.{Setting, Move, outcome}
 use Rattle.fab_world.specs.Serial.{world_of}
 use Rattle.fab_world.specs.Workers.{kept_of}
 use Rattle.fab_world.specs.Crashing.{CrashLine, IsOver, KeepsLines}

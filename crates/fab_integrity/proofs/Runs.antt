@@ -3,8 +3,9 @@ use Rattle.std.specs.Prelude.{◌≡◌, ◌⊎◌, ℕ, ◌+◌, ◌≤◌, Boo
 use Rattle.std.specs.Prelude.{List, [], ◌∷◌, ◌++◌, length, take, fold}
 use Rattle.std.specs.List.{flat_map}
 use Rattle.std.proofs.Common.{refl, sym, ap, ◌∙◌, subst, inl, inr, arith}
-use Rattle.std.proofs.lemmas.Bool.{cases_eq, and_parts, both_ways, false_from_ne_true, not-true, true≢false}
+use Rattle.std.proofs.lemmas.Bool.{cases_eq, and_from, and_parts, both_ways, false_from_ne_true, not-true, true≢false}
 use Rattle.std.proofs.lemmas.List.{append-nil, length-append}
+use Rattle.std.proofs.lemmas.List.Sums.{fold-append}
 use Rattle.fab_net.specs.declared.event.Inner.{Inner}
 use Rattle.fab_net.specs.declared.event.Inner.TheVariants as i
 use Rattle.fab_net.specs.declared.note.Commit.{Commit}
@@ -12,7 +13,7 @@ use Rattle.fab_world.specs.Machine.{Setting, World, Node, Move, Form, Does, Cuts
 use Rattle.fab_world.specs.Machine.{act, node_of, ready, lands, cut, at_node, down, step, steps, posted, may, enabled, are_enabled, is_whole}
 use Rattle.fab_world.specs.Machine.{notes_at, notes_if, logged, logs, runs, at_start}
 use Rattle.fab_world.specs.Serial.{IsSetting, IsEvaluation, Excludes, IsRun, IsSerial, IsEnding, IsLeftOut, serial_replay, commit_in, commits_of}
-use Rattle.fab_world.specs.Serial.{commits_in, world_of, attempts_at, attempts_in}
+use Rattle.fab_world.specs.Serial.{commits_in, world_of, attempts, attempts_at, attempts_in}
 use Rattle.fab_integrity.proofs.Invariant.{In}
 use Rattle.fab_integrity.proofs.Lists.{few_pass, filter_twice}
 use Rattle.fab_integrity.proofs.Worlds.{IsAsBefore, at_same, at_other, as_before}
@@ -24,6 +25,46 @@ use Rattle.fab_integrity.proofs.Start.{holds_start}
 use Rattle.fab_integrity.proofs.Held.{held_is}
 use Rattle.fab_integrity.proofs.Costs.{noted_outside}
 use Rattle.fab_integrity.proofs.Once.{commits_more}
+
+-- how many attempts are counted behind moves
+abbrev pub counting : ℕ → List Move → ℕ
+counting count moves = fold (λ n move. n + attempts_at (form_of move)) count moves
+
+pub counts_grow : (count : ℕ) (moves : List Move) → count ≤ counting count moves
+counts_grow count [] = omega arith
+counts_grow count (move ∷ moves) = let h = counts_grow (count + attempts_at (form_of move)) moves in omega (arith, h)
+
+-- no class is excluded
+abbrev pub no_classes : ℕ → Bool
+no_classes c = false
+
+module _ (S : Setting) where
+  -- then a set excludes none as long as the hostile nodes are in it
+  pub excludes_none : (D : ℕ → Bool) → ((n : ℕ) → S.hostile n ≡ true → D n ≡ true) → Excludes S D no_classes
+  excludes_none D hostile = record {
+    hostile = hostile;
+    unwritten = λ n c d e. absurd (true≢false (sym e));
+    unheld = λ n c d e. absurd (true≢false (sym e));
+  }
+
+  -- moves are enabled as far as each front goes, and on from there
+  pub enabled_front : (w : World) (xs ys : List Move) → IsTrue (are_enabled S w (xs ++ ys)) → IsTrue (are_enabled S w xs) × IsTrue (are_enabled S (runs S w xs) ys)
+  enabled_front w [] ys h = (refl, h)
+  enabled_front w (x ∷ xs) ys h =
+      let p = and_parts (enabled S w (form_of x)) (are_enabled S (step S w x) (xs ++ ys)) h in
+      let q = enabled_front (step S w x) xs ys p.1 in
+      (and_from (enabled S w (form_of x)) (are_enabled S (step S w x) xs) p.0 q.0, q.1)
+
+  -- so a front of a run is a run
+  pub front_run : (xs ys : List Move) → IsRun S (xs ++ ys) → IsRun S xs
+  front_run xs ys run = record {
+    enabled = (enabled_front (at_start S) xs ys run.enabled).0;
+    few =
+        let all = run.few in
+        let split = fold-append (λ n (move : Move). n + attempts_at (form_of move)) 0 xs ys in
+        let more = counts_grow (attempts xs) ys in
+        omega (arith, all, split, more);
+  }
 
 module _ (S : Setting) (D ex : ℕ → Bool) (given : IsSetting S) (law : IsEvaluation S) (hyp : Excludes S D ex) where
   -- there is room for the numbers of one attempt more
@@ -107,13 +148,6 @@ module _ (S : Setting) (D ex : ℕ → Bool) (given : IsSetting S) (law : IsEval
   form_holds w cs h Never can few room = absurd (true≢false (sym can))
 
   -- ---- runs
-
-  abbrev counting : ℕ → List Move → ℕ
-  counting count moves = fold (λ n move. n + attempts_at (form_of move)) count moves
-
-  counts_grow : (count : ℕ) (moves : List Move) → count ≤ counting count moves
-  counts_grow count [] = omega arith
-  counts_grow count (move ∷ moves) = let h = counts_grow (count + attempts_at (form_of move)) moves in omega (arith, h)
 
   -- so few attempts leave room for the numbers of one more
   room_in : (w : World) (commits count : ℕ) (e : Inner) → Counted S w commits count → count + attempts_in e ≤ 4000000000 → HasRoom S w e

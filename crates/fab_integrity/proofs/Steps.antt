@@ -47,6 +47,20 @@ ends_more : (S : Setting) (ex : ℕ → Bool) (N : FlatMap) (cs ds : List Commit
 ends_more S ex N [] ds h g = g
 ends_more S ex N (c ∷ cs) ds h g = (h.0, ends_more S ex (replay_one S ex N c) cs ds h.1 g)
 
+-- ---- before an event
+
+-- who is idle lacks nobody
+pub lacks_none : (s : ℕ) (phase : Phase) → phase ≡ workers.Idle → lacks s phase ≡ true → ⊥
+lacks_none s phase e h = true≢false (sym h ∙ ap (lacks s) e)
+
+-- an event may come of a node alone
+pub may_node : (S : Setting) (w : World) (e : Inner) → IsTrue (may S w e) → is_node S.rights (node_of e) ≡ true
+may_node S w (i.Begin n) can = (and_parts _ _ (and_parts _ _ (and_parts _ _ (and_parts _ _ (and_parts _ _ can).0).0).0).0).0
+may_node S w (i.Resume n) can = (and_parts _ _ (and_parts _ _ (and_parts _ _ can).0).0).0
+may_node S w (i.Deliver a b) can = (and_parts _ _ (and_parts _ _ (and_parts _ _ (and_parts _ _ can).0).0).0).0
+may_node S w (i.Idle n s) can = (and_parts _ _ (and_parts _ _ (and_parts _ _ (and_parts _ _ (and_parts _ _ can).0).0).0).0).0
+may_node S w (i.Recover n) can = (and_parts _ _ (and_parts _ _ (and_parts _ _ can).0).0).0
+
 -- ---- what an event's act decides is its node's, and but for a restart a worker sends no Boot
 
 module _ (S : Setting) where
@@ -408,9 +422,6 @@ module _ (S : Setting) (D ex : ℕ → Bool) where
           ])
           (λ x s hx hs. q.beside x s (not_worker x hx)))))
 
-    lacks_none : (s : ℕ) (phase : Phase) → phase ≡ workers.Idle → lacks s phase ≡ true → ⊥
-    lacks_none s phase e h = true≢false (sym h ∙ ap (lacks s) e)
-
     acted_of_store : (hyp : Excludes S D ex) (w v : World) (cs : List Commit) → Holds w cs → length cs ≤ 4000000000 → (e : Inner) → IsStore S D ex (node_of e)
         → IsTrue (may S w e)
         → Lands (node_of e) (act S w e) w v → Queues S w e (act S w e) v → Holds v (cs ++ noted_outside D (act S w e).notes)
@@ -423,13 +434,6 @@ module _ (S : Setting) (D ex : ℕ → Bool) where
 
     -- ---- whoever acts
 
-    may_node : (w : World) (e : Inner) → IsTrue (may S w e) → is_node S.rights (node_of e) ≡ true
-    may_node w (i.Begin n) can = (and_parts _ _ (and_parts _ _ (and_parts _ _ (and_parts _ _ (and_parts _ _ can).0).0).0).0).0
-    may_node w (i.Resume n) can = (and_parts _ _ (and_parts _ _ (and_parts _ _ can).0).0).0
-    may_node w (i.Deliver a b) can = (and_parts _ _ (and_parts _ _ (and_parts _ _ (and_parts _ _ can).0).0).0).0
-    may_node w (i.Idle n s) can = (and_parts _ _ (and_parts _ _ (and_parts _ _ (and_parts _ _ (and_parts _ _ can).0).0).0).0).0
-    may_node w (i.Recover n) can = (and_parts _ _ (and_parts _ _ (and_parts _ _ can).0).0).0
-
     module _ (law : IsEvaluation S) (hyp : Excludes S D ex) where
       -- an event of any node keeps what holds, with the commits that it notes
       pub any_acted : (w v : World) (cs : List Commit) → Holds w cs → (e : Inner) → IsTrue (may S w e) → length cs ≤ 4000000000 → HasRoom S w e
@@ -441,7 +445,7 @@ module _ (S : Setting) (D ex : ℕ → Bool) where
         where
           by_truth : (b : Bool) → D (node_of e) ≡ b → Holds v (cs ++ noted_outside D (act S w e).notes)
           by_truth true d = acted_of_D law hyp w cs h e can v l q d
-          by_truth false d = elim (or_cases (is_worker S.rights (node_of e)) (is_store S.rights (node_of e)) (may_node w e can)) [
+          by_truth false d = elim (or_cases (is_worker S.rights (node_of e)) (is_store S.rights (node_of e)) (may_node S w e can)) [
             | inl worker ↦ acted_of_worker law hyp w cs h e can v l q (record { kind = worker; outside = d }) few room
             | inr store ↦ acted_of_store hyp w v cs h few e (record { kind = store; outside = d }) can l q
           ]

@@ -1,6 +1,6 @@
 -- A store outside D hears a Commit: what its sender prepared is applied, and each object stands as it is committed.
 use Rattle.std.proofs.Common.{◌≡◌, ◌⊎◌, inl, inr, ℕ, ◌≤◌, Bool, true, false, not, IsTrue}
-use Rattle.std.proofs.Common.{List, [], ◌∷◌, map, get_or, Some, Contains}
+use Rattle.std.proofs.Common.{List, map, get_or, Some, Contains}
 use Rattle.std.proofs.Common.{refl, sym, ap, ◌∙◌, subst, arith}
 use Rattle.std.proofs.lemmas.Bool.{cases_Bool, both_ways}
 use Rattle.fab_base.specs.declared.object.Oid.{Oid}
@@ -12,7 +12,7 @@ use Rattle.fab_net.specs.declared.note.Commit.{Commit}
 use Rattle.fab_net.specs.declared.note.Note.{Note}
 use Rattle.fab_rights.specs.Computed.{is_worker, may_write}
 use Rattle.fab_protocol.specs.declared.said.Said.{Said}
-use Rattle.fab_protocol.specs.Shelves.{IsShelf, IsAllowed}
+use Rattle.fab_protocol.specs.Shelves.{AreApart, IsShelf, IsAllowed}
 use Rattle.fab_protocol.specs.Stores.{Shelf, Prepared, changed_by}
 use Rattle.fab_protocol.specs.Stores.{prepared_as, keeps}
 use Rattle.fab_protocol.specs.Stores.{records, is_prepared}
@@ -32,6 +32,12 @@ use Rattle.fab_integrity.proofs.Maps.{version_committed, among_in, in_among}
 use Rattle.fab_integrity.proofs.Deals.{deal_of}
 use Rattle.fab_integrity.proofs.Items.{may_by_items}
 use Rattle.fab_integrity.proofs.StoreEvents.{becomes, cells_here, fits_here, same_lasts, in_without, without_in}
+
+-- of what is prepared one alone is of a tid
+pub only_one : (ps : List Prepared) → AreApart ps → (p q : Prepared) → In p ps → In q ps → q.0 ≡ p.0 → q ≡ p
+only_one ps apart p q there h same =
+    ap (λ (found : List Prepared). get_or found 0 q)
+    (sym (one_prepared q ps apart (contains_of q ps h)) ∙ ap (λ t. prepared_as t ps) same ∙ one_prepared p ps apart (contains_of p ps there))
 
 module _ (S : Setting) (D ex : ℕ → Bool) (given : IsSetting S) (w v : World) (cs : List Commit) (C : State) (s : ℕ)
     (inv : Inv S D ex w cs C) (me : IsStore S D ex s) where
@@ -78,13 +84,6 @@ module _ (S : Setting) (D ex : ℕ → Bool) (given : IsSetting S) (w v : World)
     writable r h =
         each_of (λ (q : Row). IsTrue (may_write S.rights t.worker q.0.class)) (left_by items) r
         (may_by_items S.rights t.worker items (each_of (IsAllowed S.rights) now.prepared (t, items) ok.allowed there)) h
-
-    -- it is the only one of its tid
-    only_one : (q : Prepared) → In q now.prepared → q.0 ≡ t → q ≡ (t, items)
-    only_one q h same =
-        let of_q : prepared_as q.0 now.prepared ≡ q ∷ [] = one_prepared q now.prepared ok.apart (contains_of q now.prepared h) in
-        let of_t : prepared_as t now.prepared ≡ (t, items) ∷ [] = one_prepared (t, items) now.prepared ok.apart has in
-        ap (λ (ps : List Prepared). get_or ps 0 q) (sym of_q ∙ ap (λ x. prepared_as x now.prepared) same ∙ of_t)
 
     from_prepared : IsTrue (is_worker S.rights t.worker)
     from_prepared = each_of (λ (q : Prepared). IsTrue (is_worker S.rights q.0.worker)) now.prepared (t, items) ok.senders there
@@ -140,7 +139,7 @@ module _ (S : Setting) (D ex : ℕ → Bool) (given : IsSetting S) (w v : World)
             equal = λ g. row ∙ old.equal (sym version ∙ g);
             free = λ gone. row ∙ old.free (λ q h settled r g same. elim (cases_Bool (is_tid q.0 t)) [
               | inl is ↦
-                  let its : In r (left_by items) = subst (λ (p : Prepared). In r (left_by p.1)) (only_one q h (tid_is q.0 t is)) g in
+                  let its : In r (left_by items) = subst (λ (p : Prepared). In r (left_by p.1)) (only_one now.prepared ok.apart (t, items) q there h (tid_is q.0 t is)) g in
                   both_ways (is_among o (changed_by items)) none (left_among r o its same)
               | inr is ↦ gone q (filter_in (λ (p : Prepared). not (is_tid p.0 t)) q now.prepared h (ap not is)) settled r g same
             ]);

@@ -127,7 +127,8 @@ module _ (S : Setting) where
     | inr ne ↦ ap (λ (y : Node). y.entries) (at_other w.node n (record (w.node n) { torn = []; up = true }) x ne)
   ]
 
-  running_up : (w : World) (n : ℕ) → IsTrue (is_running S w n) → (w.node n).up ≡ true
+  -- a node that is running is up
+  pub running_up : (w : World) (n : ℕ) → IsTrue (is_running S w n) → (w.node n).up ≡ true
   running_up w n h = (and_parts _ _ h).1
 
   -- the node that acts is up

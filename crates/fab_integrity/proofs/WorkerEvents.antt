@@ -63,13 +63,13 @@ use Rattle.fab_integrity.proofs.Transport.{to_all_is}
 -- ---- caches
 
 -- an object that is found stands in one of the caches, under its name
-record IsFound (caches : List Rows) (o : Oid) (row : Row) : Type 0 where
-  rows : Rows
-  cache : In rows caches
-  listed : In row rows
-  name : row.0 ≡ o
+pub record IsFound (caches : List Rows) (o : Oid) (row : Row) : Type 0 where
+  pub rows : Rows
+  pub cache : In rows caches
+  pub listed : In row rows
+  pub name : row.0 ≡ o
 
-found_in_cache : (caches : List Rows) (o : Oid) (row : Row) → cached_row caches o ≡ Some row → IsFound caches o row
+pub found_in_cache : (caches : List Rows) (o : Oid) (row : Row) → cached_row caches o ≡ Some row → IsFound caches o row
 found_in_cache caches o row h = by_slot (slice_get caches o.store) refl h
   where
     by_slot : (slot : Option Rows) → slice_get caches o.store ≡ slot → row_of name_of (unwrap_or slot []) o ≡ Some row → IsFound caches o row

@@ -74,6 +74,19 @@ HasRoom S w (i.Resume n) = Unit {0}
 HasRoom S w (i.Deliver a b) = Unit {0}
 HasRoom S w (i.Idle n s) = Unit {0}
 
+-- a phase by its name
+pub is_idle_at : (phase : Phase) → is_idle phase ≡ true → phase ≡ workers.Idle
+is_idle_at workers.Idle h = refl
+is_idle_at workers.Evaluating h = absurd (true≢false (sym h))
+is_idle_at (workers.Fetching o) h = absurd (true≢false (sym h))
+is_idle_at (workers.Preparing ls) h = absurd (true≢false (sym h))
+
+pub is_evaluating_at : (phase : Phase) → is_evaluating phase ≡ true → phase ≡ workers.Evaluating
+is_evaluating_at workers.Evaluating h = refl
+is_evaluating_at workers.Idle h = absurd (true≢false (sym h))
+is_evaluating_at (workers.Fetching o) h = absurd (true≢false (sym h))
+is_evaluating_at (workers.Preparing ls) h = absurd (true≢false (sym h))
+
 module _ (S : Setting) (D ex : ℕ → Bool) where
   -- what becomes of the invariant where these are decided
   pub record Done (v : World) (cs : List Commit) (C : State) (n : ℕ) (es : List Commit) : Type 0 where
@@ -294,18 +307,6 @@ module _ (S : Setting) (D ex : ℕ → Bool) where
     woke_done down low l = calm_done v cs C n (keeps_wakes S D ex given w v cs C n inv me down (λ c h. inv.commits.numbered c (deal_of cs n c h).0) low l)
 
     -- ---- each event
-
-    is_idle_at : (phase : Phase) → is_idle phase ≡ true → phase ≡ workers.Idle
-    is_idle_at workers.Idle h = refl
-    is_idle_at workers.Evaluating h = absurd (true≢false (sym h))
-    is_idle_at (workers.Fetching o) h = absurd (true≢false (sym h))
-    is_idle_at (workers.Preparing ls) h = absurd (true≢false (sym h))
-
-    is_evaluating_at : (phase : Phase) → is_evaluating phase ≡ true → phase ≡ workers.Evaluating
-    is_evaluating_at workers.Evaluating h = refl
-    is_evaluating_at workers.Idle h = absurd (true≢false (sym h))
-    is_evaluating_at (workers.Fetching o) h = absurd (true≢false (sym h))
-    is_evaluating_at (workers.Preparing ls) h = absurd (true≢false (sym h))
 
     -- each event of a worker outside D keeps the invariant, with what is decided
     pub acted_done : (e : Inner) → node_of e ≡ n → IsTrue (may S w e) → HasRoom S w e → After (act S w e)
