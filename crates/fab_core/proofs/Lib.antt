@@ -24,6 +24,7 @@ pub mod Lengths
 pub mod Gaining
 pub mod Placing
 pub mod Working
+pub mod AtStart
 pub mod Between
 pub mod Ranges
 pub mod Taking

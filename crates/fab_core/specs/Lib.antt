@@ -5,6 +5,7 @@ pub mod Places
 pub mod Planning
 pub mod Posts
 pub mod Seen
+pub mod Starts
 pub mod Telling
 pub mod Transit
 pub mod Under

@@ -11,13 +11,16 @@ mod enabled;
 mod gathering;
 mod holding;
 mod laws;
+mod making;
 mod noting;
 mod numbering;
 mod posting;
 mod reading;
+mod refused;
 mod seen;
 mod sending;
 mod settled;
 
 pub use applied::Applied;
 pub use core_state::Core;
+pub use refused::CoreRefused;

@@ -77,7 +77,7 @@ fn job_at<J: Journal>(nodes: &[Option<Node<J>>], worker: usize) -> Result<Option
 }
 
 /// The journal of a node, if there is one, behind others.
-fn put_journal<J: Journal + Drop>(journals: &mut Vec<J>, slot: Option<Node<J>>)
+pub(crate) fn put_journal<J: Journal + Drop>(journals: &mut Vec<J>, slot: Option<Node<J>>)
     requires { length journals.old.items + count_in (slot ∷ []) ≤ vec_capacity journals.old }
     ensures capacity { vec_capacity journals.new ≡ vec_capacity journals.old }
     ensures count { length journals.new.items ≡ length journals.old.items + count_in (slot ∷ []) }

@@ -54,7 +54,7 @@ pub(crate) fn make_room(
 }
 
 /// Whether there is a node of this number.
-fn is_node(rights: &Rights, n: u16) -> bool
+pub(crate) fn is_node(rights: &Rights, n: u16) -> bool
     ensures { result ≡ is_node_in rights.now n }
 {
     rights.is_worker(n) || rights.is_store(n)

@@ -1,0 +1,60 @@
+-- All nodes at the start of a run, and the journals that they are made of.
+use Rattle.std.specs.Prelude.{◌≡◌, ℕ, zero, suc, ◌+◌, Bool, false, IsTrue, List, [], ◌∷◌, ◌++◌, map, length, Option, if◌then◌else◌}
+use Rattle.fab_base.specs.Faults.{Rose}
+use Rattle.fab_language.specs.Evaluation.{map_at_start}
+use Rattle.fab_tree.specs.declared.resolved.Resolved.{Resolved}
+use Rattle.fab_rights.specs.declared.rights.Rights.{Rights}
+use Rattle.fab_world.specs.Machine.{at_start}
+use Rattle.fab_node.specs.Standing.{GivenModel, JournalModel, NodeModel}
+use Rattle.fab_core.specs.Cores.{SlotStands, is_honest, setting}
+use Rattle.fab_core.specs.Telling.{those_in}
+
+abbrev pub given_by : Resolved → Rights → GivenModel
+given_by program rights = record { program = program; rights = rights; roots = map_at_start program }
+
+-- how many honest nodes there are below this number
+abbrev pub honest_below : GivenModel → ℕ → ℕ
+honest_below g zero = 0
+honest_below g (suc n) = honest_below g n + (if is_honest g n then 1 else 0)
+
+-- of each journal its count of faults, and whether it never fails
+abbrev pub nodes_faults : List (Option NodeModel) → List (ℕ × Bool)
+nodes_faults nodes = map (λ x. (x.journal.faults, x.journal.sure)) (those_in nodes)
+
+abbrev pub journals_faults : List (Option JournalModel) → List (ℕ × Bool)
+journals_faults journals = map (λ j. (j.faults, j.sure)) (those_in journals)
+
+-- from this number on, one after the other, these are the nodes at the start
+abbrev pub AreAtStart : GivenModel → ℕ → List (Option NodeModel) → Type 0
+AreAtStart g n [] = Unit {0}
+AreAtStart g n (x ∷ xs) = SlotStands g (at_start (setting g)) n x × AreAtStart g (suc n) xs
+
+-- The journals are back, in the order of their nodes: the count of this node's has risen, which may fail, and no other has changed its count.
+pub record AreBack (g : GivenModel) (node : ℕ) (old new : List (ℕ × Bool)) : Type 0 where
+  pub before : List (ℕ × Bool)
+  pub behind : List (ℕ × Bool)
+  pub was : ℕ
+  pub now : ℕ
+  pub old_is : old ≡ before ++ (was, false) ∷ behind
+  pub new_is : new ≡ before ++ (now, false) ∷ behind
+  pub rose : Rose was now
+  pub honest : IsTrue (is_honest g node)
+  pub place : length before ≡ honest_below g node
+
+-- One number more: its node, if it is honest, and its journal is taken from the end.
+pub record IsNext (g : GivenModel) (n : ℕ) (old new : List (Option NodeModel)) (had have : List (ℕ × Bool)) : Type 0 where
+  pub slot : Option NodeModel
+  pub nodes : new ≡ old ++ slot ∷ []
+  pub stands : SlotStands g (at_start (setting g)) n slot
+  pub journals : had ≡ have ++ nodes_faults (slot ∷ [])
+
+-- The count of its journal, the last one, has risen.
+pub record IsFailedAt (g : GivenModel) (n : ℕ) (old new : List (Option NodeModel)) (had have : List (ℕ × Bool)) : Type 0 where
+  pub left : List (ℕ × Bool)
+  pub was : ℕ
+  pub now : ℕ
+  pub nodes : new ≡ old
+  pub had_is : had ≡ left ++ (was, false) ∷ []
+  pub have_is : have ≡ left ++ (now, false) ∷ []
+  pub rose : Rose was now
+  pub honest : IsTrue (is_honest g n)
