@@ -1,6 +1,6 @@
 -- Numbers of workers and stores, and the numbers of attempts.
-use Rattle.std.proofs.Common.{◌≡◌, ℕ, suc, ◌+◌, ◌<◌, ◌≤◌, Bool, true, false, cond, List, [], ◌∷◌, length, Option, Some, None, All, IfSome, refl, sym, ap, ◌∙◌, subst, arith}
-use Rattle.std.specs.Prelude.{find, count_by, sum_by, ◌==◌}
+use Rattle.std.proofs.Common.{◌≡◌, ℕ, suc, ◌+◌, ◌^◌, ◌<◌, ◌≤◌, Bool, true, false, cond, List, [], ◌∷◌, Option, Some, None, All, IfSome, refl, sym, ap, subst, arith}
+use Rattle.std.specs.Prelude.{find, count_by, ◌==◌}
 use Rattle.std.specs.List.{AllByRecursion}
 use Rattle.std.specs.Option.{is_none}
 use Rattle.std.proofs.lemmas.Bool.{ltb-false, false≢true}
@@ -15,7 +15,6 @@ use Rattle.fab_base.specs.declared.message.Why.TheVariants as why
 use Rattle.fab_base.specs.declared.object.Object.{Object}
 use Rattle.fab_base.specs.declared.object.Oid.{Oid}
 use Rattle.fab_base.specs.declared.object.Tid.{Tid}
-use Rattle.fab_base.specs.declared.object.Value.{Value}
 use Rattle.fab_tree.specs.declared.declaration.Node.{Node}
 use Rattle.fab_tree.specs.declared.resolved.Principal.{Principal}
 use Rattle.fab_tree.specs.declared.resolved.Resolved.{Resolved}
@@ -23,14 +22,14 @@ use Rattle.fab_tree.specs.declared.start.Start.{Start}
 use Rattle.fab_tree.specs.Limits.{is_node, passes, order, first_passed}
 use Rattle.fab_language.specs.declared.ending.Ending.{Ending}
 use Rattle.fab_language.specs.declared.ending.Ending.TheVariants as endings
-use Rattle.fab_language.specs.Faults.{faults, IsFirst}
+use Rattle.fab_language.specs.Faults.{faults}
 use Rattle.fab_language.specs.Meaning.{Meant}
 use Rattle.fab_language.specs.Numbers.{principal_of, principals_from, resolved}
 use Rattle.fab_flows.specs.Numbers.{HasPrincipals}
 use Rattle.fab_flows.proofs.Declared.{has_principals}
-use Rattle.fab_places.specs.Places.{HasNumbers}
+use Rattle.fab_places.specs.Places.{AreRights, HasNumbers}
 use Rattle.fab_rights.specs.declared.rights.Rights.{Rights}
-use Rattle.fab_rights.specs.Computed.{is_store, suits}
+use Rattle.fab_rights.specs.Computed.{is_store}
 use Rattle.fab_protocol.specs.declared.parts.Parts.{Parts}
 use Rattle.fab_protocol.specs.Caches.{cached_row}
 use Rattle.fab_protocol.specs.Parts.{stores_of}
@@ -43,7 +42,10 @@ use Rattle.fab_attempts.proofs.Programs.{program_of}
 use Rattle.fab_worker.specs.Models.{WorkerModel}
 use Rattle.fab_worker.specs.Plans.{hears}
 use Rattle.fab_setup.specs.declared.setup.Setup.{Setup}
-use Rattle.fab_setup.specs.Setups.{IsSetupOf}
+use Rattle.fab_settings.specs.Numbers.{numbers_of}
+use Rattle.fab_settings.specs.Settings.{IsAcceptedWith}
+use Rattle.fab_fitting.specs.Fitting.{AllFit}
+use Rattle.fab_setup.specs.Setups.{IsSetupOf, KeepsRules}
 
 -- ---- the numbers of nodes
 
@@ -162,3 +164,16 @@ has_numbers s r limits is = subst HasNumbers (sym is) (numbered s limits)
 
 pub programs : (s : Start) (x : Setup) → first_passed s ≡ None → IsSetupOf s x → (n : ℕ) → IsProgramOf x.program.value n x.rights
 programs s x limits is n = subst (λ (p : Resolved). IsProgramOf p n x.rights) (sym is.program) (program_of s n x.rights limits is.right is.rights)
+
+-- the rights of a bundle that keeps all rules, in masks of 64 bits, where its numbers fit
+pub accepts : (r : Resolved) (x : Rights) → AreRights r x → x.workers < 2 ^ 64 → x.stores < 2 ^ 64 → AllFit (numbers_of r)
+    → (s : Start) → resolved s ≡ r → KeepsRules s → IsAcceptedWith s x
+accepts r x exact workers stores fit s is keeps = record {
+  within = keeps.within;
+  named = keeps.named;
+  labelled = keeps.labelled;
+  rights_are = subst (λ (o : Resolved). AreRights o x) (sym is) exact;
+  workers = workers;
+  stores = stores;
+  numbers = subst (λ (o : Resolved). AllFit (numbers_of o)) (sym is) fit;
+}

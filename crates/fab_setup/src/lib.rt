@@ -14,4 +14,4 @@ mod told;
 mod trial;
 
 pub use laws::{attempts_keep_their_number, bundles_have_numbers};
-pub use setup::{Setup, setup_of};
+pub use setup::{Setup, accepted_setup, setup_of};
