@@ -1,0 +1,62 @@
+-- That no two answers without a fault differ.
+use Rattle.std.specs.Prelude.{◌≡◌, ℕ, suc, IsTrue, List, [], ◌∷◌, ◌++◌, length}
+use Rattle.std.proofs.Common.{refl, sym, ap, ◌∙◌, subst, true≢false}
+use Rattle.std.proofs.lemmas.List.{map-append}
+use Rattle.fab_net.specs.declared.event.Event.{Event}
+use Rattle.fab_world.specs.Machine.{Move, at_start, are_enabled, enabled, form_of}
+use Rattle.fab_world.specs.Serial.{IsRun}
+use Rattle.fab_node.specs.Standing.{GivenModel}
+use Rattle.fab_core.specs.Cores.{setting, unmarked, world_by}
+use Rattle.fab_replay.specs.Replays.{HasNoFault, StopsBefore, Tells, events_of, moves_of, report_of}
+use Rattle.fab_replay.specs.declared.replayed.Replayed.{Replayed}
+use Rattle.fab_replay.specs.declared.replayed.Replayed.TheVariants as r
+use Rattle.fab_replay.proofs.Moves.{enabled_parts}
+
+-- an event that may not come behind those before it is in no run that has it there
+never_runs : (g : GivenModel) (moves : List Move) (number : ℕ) (h : StopsBefore g moves number) (events more : List Event) → events ≡ h.before ++ h.event ∷ more
+    → IsTrue (are_enabled (setting g) (at_start (setting g)) (moves_of events)) → ⊥
+never_runs g moves number h events more e run =
+    let S = setting g in
+    let split : moves_of events ≡ moves_of h.before ++ unmarked h.event ∷ moves_of more = ap moves_of e ∙ map-append unmarked h.before (h.event ∷ more) in
+    let p = enabled_parts S (at_start S) (moves_of h.before) (unmarked h.event) (moves_of more) (subst (λ ms. IsTrue (are_enabled S (at_start S) ms)) split run) in
+    true≢false (sym p.1 ∙ ap (λ ms. enabled S (world_by g ms) (form_of (unmarked h.event))) (sym h.moves_are) ∙ h.barred)
+
+pub barred_runs : (g : GivenModel) (moves : List Move) (number : ℕ) → StopsBefore g moves number → IsRun (setting g) (moves_of (events_of g.program)) → ⊥
+barred_runs g moves number h run = never_runs g moves number h (events_of g.program) h.more h.events run.enabled
+
+-- of two fronts of a list, each with what comes next, one is as long as the other, or has it in it
+data Fronts (xs ys : List Event) (x y : Event) : Type 0 where
+  Alike : length xs ≡ length ys → Fronts xs ys x y
+  Longer : (rest : List Event) → ys ≡ xs ++ x ∷ rest → Fronts xs ys x y
+  Shorter : (rest : List Event) → xs ≡ ys ++ y ∷ rest → Fronts xs ys x y
+
+fronts : (xs ys more others : List Event) (x y : Event) → xs ++ x ∷ more ≡ ys ++ y ∷ others → Fronts xs ys x y
+fronts [] [] more others x y e = Alike refl
+fronts [] (b ∷ ys) more others x y e = Longer ys (let h : x ≡ b = cc in ap (λ z. z ∷ ys) (sym h))
+fronts (a ∷ xs) [] more others x y e = Shorter xs (let h : a ≡ y = cc in ap (λ z. z ∷ xs) h)
+fronts (a ∷ xs) (b ∷ ys) more others x y e =
+    let h : a ≡ b = cc in
+    elim (fronts xs ys more others x y (cc)) [
+      | Alike l ↦ Alike (ap suc l)
+      | Longer rest p ↦ Longer rest (ap (λ zs. b ∷ zs) p ∙ ap (λ z. z ∷ (xs ++ x ∷ rest)) (sym h))
+      | Shorter rest p ↦ Shorter rest (ap (λ zs. a ∷ zs) p ∙ ap (λ z. z ∷ (ys ++ y ∷ rest)) h)
+    ]
+
+same_number : (g : GivenModel) (moves others : List Move) (m n : ℕ) (h : StopsBefore g moves m) (k : StopsBefore g others n) → IsRun (setting g) moves → IsRun (setting g) others → m ≡ n
+same_number g moves others m n h k run other =
+    let S = setting g in
+    elim (fronts h.before k.before h.more k.more h.event k.event (sym h.events ∙ k.events)) [
+      | Alike l ↦ h.number_is ∙ ap suc l ∙ sym k.number_is
+      | Longer rest p ↦ absurd (never_runs g moves m h k.before rest p (subst (λ ms. IsTrue (are_enabled S (at_start S) ms)) k.moves_are other.enabled))
+      | Shorter rest p ↦ absurd (never_runs g others n k h.before rest p (subst (λ ms. IsTrue (are_enabled S (at_start S) ms)) h.moves_are run.enabled))
+    ]
+
+pub one_answer : (g : GivenModel) (moves others : List Move) (x y : Replayed) → IsRun (setting g) moves → IsRun (setting g) others → Tells g moves x → Tells g others y
+    → HasNoFault x → HasNoFault y → x ≡ y
+one_answer g moves others (r.Done a) (r.Done b) run other h k p q = ap r.Done (h.1 ∙ ap (report_of g) (h.0 ∙ sym k.0) ∙ sym k.1)
+one_answer g moves others (r.Done a) (r.NotEnabled n) run other h k p q = absurd (barred_runs g others n k (subst (IsRun (setting g)) h.0 run))
+one_answer g moves others (r.NotEnabled m) (r.Done b) run other h k p q = absurd (barred_runs g moves m h (subst (IsRun (setting g)) k.0 other))
+one_answer g moves others (r.NotEnabled m) (r.NotEnabled n) run other h k p q = ap r.NotEnabled (same_number g moves others m n h k run other)
+one_answer g moves others (r.JournalFault node report) y run other h k p q = absurd p
+one_answer g moves others (r.Done a) (r.JournalFault node report) run other h k p q = absurd q
+one_answer g moves others (r.NotEnabled m) (r.JournalFault node report) run other h k p q = absurd q

@@ -1,0 +1,15 @@
+-- Each file stands on some of those above it.
+pub mod Moves
+pub mod Behind
+pub mod Accepted
+pub mod Resting
+pub mod Aligned
+pub mod Numbered
+pub mod Keeping
+pub mod Excluded
+pub mod Steps
+pub mod Scheduled
+pub mod Ends
+pub mod Starting
+pub mod Exact
+mod ReplaysExamples

@@ -1,0 +1,151 @@
+-- Honest nodes in order, and their journals.
+use Rattle.std.specs.Prelude.{◌≡◌, ℕ, zero, suc, ◌+◌, ◌<◌, ◌≤◌, Bool, true, false, cond, not, IsTrue, List, [], ◌∷◌, ◌++◌, length, Contains, Option, Some}
+use Rattle.std.specs.List.{filter, range_with_len, AllByRecursion}
+use Rattle.std.proofs.Common.{refl, sym, ap, ◌∙◌, subst, arith, inl, inr, append_assoc, append-nil}
+use Rattle.std.proofs.lemmas.List.{length-append}
+use Rattle.std.proofs.lemmas.Bool.{cases_eq}
+use Rattle.std.proofs.lemmas.Bool.{and_parts}
+use Rattle.fab_rights.specs.Computed.{is_node}
+use Rattle.fab_protocol.proofs.Lists.{all_append}
+use Rattle.fab_node.specs.Standing.{GivenModel, IsGiven, JournalModel}
+use Rattle.fab_core.specs.Cores.{is_honest, setting, slot}
+use Rattle.fab_core.specs.Starts.{honest_below}
+use Rattle.fab_core.specs.Telling.{those_in}
+use Rattle.fab_core.proofs.Tables.{node_below}
+use Rattle.fab_replay.specs.Honest.{honest_up}
+use Rattle.fab_replay.specs.Kept.{AreFor}
+use Rattle.fab_replay.proofs.Aligned.{StandsAt, aligned, placed}
+
+pub honest_within : (g : GivenModel) → IsGiven g → (n : ℕ) → IsTrue (is_honest g n) → n < 64
+honest_within g h n p = node_below g.rights n h.accepted.workers h.accepted.stores (and_parts (is_node g.rights n) (not ((setting g).hostile n)) p).0
+
+-- ---- among the first numbers
+
+-- one more
+pub up_more : (g : GivenModel) (n : ℕ) → honest_up g (n + 1) ≡ honest_up g n ++ cond (is_honest g n) (n ∷ []) []
+unfolding honest_up
+up_more g n = let e : n + 1 ≡ suc n = omega arith in ap (honest_up g) e
+
+pub up_with : (g : GivenModel) (n : ℕ) (old new : List ℕ) → is_honest g n ≡ true → old ≡ honest_up g n → new ≡ old ++ n ∷ [] → new ≡ honest_up g (n + 1)
+up_with g n old new honest was is =
+    is ∙ ap (λ ns. ns ++ n ∷ []) was ∙ ap (λ b. honest_up g n ++ cond b (n ∷ []) []) (sym honest) ∙ sym (up_more g n)
+
+pub up_without : (g : GivenModel) (n : ℕ) (old : List ℕ) → is_honest g n ≡ false → old ≡ honest_up g n → old ≡ honest_up g (n + 1)
+up_without g n old hostile was =
+    was ∙ sym (append-nil (honest_up g n)) ∙ ap (λ b. honest_up g n ++ cond b (n ∷ []) []) (sym hostile) ∙ sym (up_more g n)
+
+pub honest_long : (g : GivenModel) (n : ℕ) → length (honest_up g n) ≡ honest_below g n
+unfolding honest_up
+honest_long g zero = refl
+honest_long g (suc n) =
+    length-append (honest_up g n) (cond (is_honest g n) (n ∷ []) [])
+    ∙ ap (λ m. m + length (cond (is_honest g n) (n ∷ []) [])) (honest_long g n)
+    ∙ ap (λ m. honest_below g n + m) (one (is_honest g n))
+  where
+    one : (b : Bool) → length (cond b (n ∷ []) []) ≡ cond b 1 0
+    one true = refl
+    one false = refl
+
+-- each is honest, and below
+pub each_honest : (g : GivenModel) (n : ℕ) → AllByRecursion (λ k. IsTrue (is_honest g k)) (honest_up g n)
+unfolding honest_up
+each_honest g zero = tt
+each_honest g (suc n) = all_append (λ k. IsTrue (is_honest g k)) (honest_up g n) (cond (is_honest g n) (n ∷ []) []) (each_honest g n) (one (is_honest g n) refl)
+  where
+    one : (b : Bool) → is_honest g n ≡ b → AllByRecursion (λ k. IsTrue (is_honest g k)) (cond b (n ∷ []) [])
+    one true e = (e, tt)
+    one false e = tt
+
+none_above : (node : ℕ) (g : GivenModel) (n : ℕ) → n ≤ node → AllByRecursion (λ k. k ≡ node → ⊥) (honest_up g n)
+unfolding honest_up
+none_above node g zero few = tt
+none_above node g (suc n) few =
+    all_append (λ k. k ≡ node → ⊥) (honest_up g n) (cond (is_honest g n) (n ∷ []) []) (none_above node g n (omega (arith, few))) (one (is_honest g n))
+  where
+    one : (b : Bool) → AllByRecursion (λ k. k ≡ node → ⊥) (cond b (n ∷ []) [])
+    one true = (λ e. omega (arith, few, e), tt)
+    one false = tt
+
+-- an honest one stands behind those below it, and not among those that follow
+pub record IsPlace (g : GivenModel) (node m : ℕ) : Type 0 where
+  pub rest : List ℕ
+  pub parts : honest_up g m ≡ honest_up g node ++ node ∷ rest
+  pub front : AllByRecursion (λ k. k ≡ node → ⊥) (honest_up g node)
+  pub others : AllByRecursion (λ k. k ≡ node → ⊥) rest
+
+pub place_of : (g : GivenModel) (node m : ℕ) → IsTrue (is_honest g node) → node < m → IsPlace g node m
+unfolding honest_up
+place_of g node zero honest below = absurd (omega (arith, below))
+place_of g node (suc m) honest below = elim (cases_eq node m) [
+  | inl same ↦ record {
+    rest = [];
+    parts =
+        ap (λ b. honest_up g m ++ cond b (m ∷ []) []) (ap (is_honest g) (sym same) ∙ honest)
+        ∙ ap (λ k. honest_up g k ++ k ∷ []) (sym same);
+    front = none_above node g node (omega arith);
+    others = tt;
+  }
+  | inr apart ↦
+      let before = place_of g node m honest (omega (arith, below, apart)) in
+      record {
+        rest = before.rest ++ cond (is_honest g m) (m ∷ []) [];
+        parts =
+            ap (λ ns. ns ++ cond (is_honest g m) (m ∷ []) []) before.parts
+            ∙ append_assoc (honest_up g node) (node ∷ before.rest) (cond (is_honest g m) (m ∷ []) []);
+        front = before.front;
+        others = all_append (λ k. k ≡ node → ⊥) before.rest (cond (is_honest g m) (m ∷ []) []) before.others (one apart (is_honest g m));
+      }
+]
+  where
+    one : (node ≡ m → ⊥) → (b : Bool) → AllByRecursion (λ k. k ≡ node → ⊥) (cond b (m ∷ []) [])
+    one apart true = (λ e. apart (sym e), tt)
+    one apart false = tt
+
+-- ---- members
+
+member : (P : ℕ → Type 0) (ns : List ℕ) (x : ℕ) → AllByRecursion P ns → Contains ns x → P x
+member P [] x all c = absurd (omega (arith, c.1))
+member P (n ∷ ns) x all (zero, l, e) = subst P e all.0
+member P (n ∷ ns) x all (suc k, l, e) = member P ns x all.1 (k, omega (arith, l), e)
+
+pub honest_member : (g : GivenModel) (m n : ℕ) → Contains (honest_up g m) n → IsTrue (is_honest g n)
+honest_member g m n c = member (λ k. IsTrue (is_honest g k)) (honest_up g m) n (each_honest g m) c
+
+-- ---- journals in their order
+
+filter_more : (h : ℕ → Bool) (xs : List ℕ) (n : ℕ) → filter h (xs ++ n ∷ []) ≡ filter h xs ++ cond (h n) (n ∷ []) []
+filter_more h [] n = refl
+filter_more h (x ∷ xs) n = by (h x) (filter_more h xs n)
+  where
+    by : (b : Bool) → filter h (xs ++ n ∷ []) ≡ filter h xs ++ cond (h n) (n ∷ []) []
+        → cond b (x ∷ filter h (xs ++ n ∷ [])) (filter h (xs ++ n ∷ [])) ≡ cond b (x ∷ filter h xs) (filter h xs) ++ cond (h n) (n ∷ []) []
+    by true e = ap (λ ys. x ∷ ys) e
+    by false e = e
+
+row_more : (k n : ℕ) → range_with_len k (suc n) ≡ range_with_len k n ++ (k + n) ∷ []
+row_more k zero = ap (λ m. m ∷ []) (omega arith)
+row_more k (suc n) = ap (λ ys. k ∷ ys) (row_more (k + 1) n ∙ ap (λ m. range_with_len (k + 1) n ++ m ∷ []) (omega arith))
+
+in_row : (g : GivenModel) (n : ℕ) → honest_up g n ≡ filter (is_honest g) (range_with_len 0 n)
+unfolding honest_up
+in_row g zero = refl
+in_row g (suc n) =
+    ap (λ ns. ns ++ cond (is_honest g n) (n ∷ []) []) (in_row g n)
+    ∙ ap (λ k. filter (is_honest g) (range_with_len 0 n) ++ cond (is_honest g k) (k ∷ []) []) (omega arith)
+    ∙ sym (ap (filter (is_honest g)) (row_more 0 n) ∙ filter_more (is_honest g) (range_with_len 0 n) (0 + n))
+
+module _ (g : GivenModel) (m : ℕ) (few : (n : ℕ) → IsTrue (is_honest g n) → n < m) (Q : ℕ → JournalModel → Type 0) (js : List (Option JournalModel))
+    (s : (n : ℕ) → StandsAt (is_honest g) Q n (slot js n)) where
+  within : (n : ℕ) → IsTrue (is_honest g n) → n < 0 + m
+  within n p = let q = few n p in omega (arith, q)
+
+  stand : (n i : ℕ) → n ≡ 0 + i → StandsAt (is_honest g) Q n (slot js i)
+  stand n i e = let same : i ≡ n = omega (arith, e) in subst (λ k. StandsAt (is_honest g) Q n (slot js k)) (sym same) (s n)
+
+  pub in_order : AreFor Q (honest_up g m) (those_in js)
+  in_order = subst (λ ns. AreFor Q ns (those_in js)) (sym (in_row g m)) (aligned (is_honest g) Q 0 m js stand within)
+
+  pub at_place : (R : ℕ → JournalModel → Type 0) → AreFor R (honest_up g m) (those_in js) → (n : ℕ) (j : JournalModel) → slot js n ≡ Some j → R n j
+  at_place R e n j is =
+      let r = placed (is_honest g) Q R 0 m js stand within (subst (λ ns. AreFor R ns (those_in js)) (in_row g m) e) n j is in
+      subst (λ k. R k j) (omega arith) r

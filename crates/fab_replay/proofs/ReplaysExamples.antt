@@ -1,0 +1,220 @@
+-- Examples of replays, computed.
+use Rattle.std.specs.Prelude.{◌≡◌, ◌<◌, ◌==◌, ℕ, zero, suc, true, false, List, [], ◌∷◌, map, Option, Some, None, codes, pos}
+use Rattle.std.proofs.Common.{refl, sym, ◌∙◌, subst, arith, lit<}
+use Rattle.std.proofs.lemmas.Bool.{eqb-true, false≢true, ne_eqb}
+use Rattle.fab_base.specs.declared.label.Policy.{Policy}
+use Rattle.fab_base.specs.declared.object.Value.TheVariants.{Int}
+use Rattle.fab_base.specs.Principals.{ActsFor}
+use Rattle.fab_base.specs.Labels.{ActsForOne}
+use Rattle.fab_labelling.specs.Readers.{IsNode, principal_of}
+use Rattle.fab_language.specs.Flows.{delegations_of}
+use Rattle.fab_places.specs.Places.{ClassExcludes}
+use Rattle.fab_protocol.specs.Stores.{shelf_of}
+use Rattle.fab_rights.specs.Computed.{has_bit}
+use Rattle.fab_rights.specs.declared.rights.Rights.{Rights}
+use Rattle.fab_settings.specs.Settings.{is_hostile_node}
+use Rattle.fab_tree.specs.declared.declaration.Role.{Role}
+use Rattle.fab_tree.specs.declared.declaration.Role.TheVariants as roles
+use Rattle.fab_tree.specs.declared.name.Name.{Name}
+use Rattle.fab_tree.specs.declared.resolved.Class.{Class}
+use Rattle.fab_tree.specs.declared.resolved.NamedLabel.{NamedLabel}
+use Rattle.fab_tree.specs.declared.resolved.Principal.{Principal}
+use Rattle.fab_device.specs.Kept.{Entry}
+use Rattle.fab_net.specs.declared.event.Event.TheVariants as e
+use Rattle.fab_net.specs.declared.event.Inner.TheVariants as i
+use Rattle.fab_tree.specs.declared.resolved.Resolved.{Resolved}
+use Rattle.fab_tree.specs.declared.resolved.Step.TheVariants as s
+use Rattle.fab_tree.specs.declared.resolved.Event.TheVariants as t
+use Rattle.fab_world.specs.Machine.{Move}
+use Rattle.fab_node.specs.Standing.{GivenModel}
+use Rattle.fab_core.specs.Cores.{marked, unmarked}
+use Rattle.fab_core.specs.Starts.{given_by}
+use Rattle.fab_replay.specs.Honest.{honest_in, honest_up}
+use Rattle.fab_replay.specs.Integral.{IsExcluded, IsIntegral}
+use Rattle.fab_replay.specs.Kept.{AreFor, IsEntryAt, IsEntryBehind, IsPossible, has_mark, with_more}
+use Rattle.fab_replay.specs.Replays.{StopsBefore, Tells, event_of, moves_of}
+use Rattle.fab_replay.specs.declared.replayed.Replayed.TheVariants as r
+
+-- ---- events
+
+events_stand : map event_of (t.Step (s.Begin 0) ∷ t.Step (s.Deliver 0 1) ∷ t.CrashIn 24 (s.Deliver 1 0) ∷ t.Step (s.Recover 0) ∷ t.Post 2 ∷ t.Crash 1 ∷ [])
+    ≡ e.Begin 0 ∷ e.Deliver 0 1 ∷ e.CrashIn 24 (i.Deliver 1 0) ∷ e.Recover 0 ∷ e.Post 2 ∷ e.Crash 1 ∷ []
+events_stand = refl
+
+who_waits_comes_first : event_of (t.Step (s.Idle 0 1)) ≡ e.Idle 0 1
+who_waits_comes_first = refl
+
+-- ---- marks
+
+none_marked : has_mark (moves_of (e.Begin 0 ∷ e.CrashIn 0 (i.Resume 0) ∷ [])) 0 ≡ false
+none_marked = refl
+
+-- a delivery is marked at its receiver, and nothing of it is kept
+marked_there : has_mark (unmarked (e.Begin 0) ∷ marked (e.Deliver 0 1) ∷ []) 1 ≡ true
+marked_there = refl
+
+not_at_the_sender : has_mark (unmarked (e.Begin 0) ∷ marked (e.Deliver 0 1) ∷ []) 0 ≡ false
+not_at_the_sender = refl
+
+nothing_is_kept : marked (e.CrashIn 24 (i.Deliver 0 1)) ≡ record { event = e.CrashIn 0 (i.Deliver 0 1); marked = true }
+nothing_is_kept = refl
+
+-- ---- entries
+
+in_order : AreFor (λ n x. x ≡ n) (0 ∷ 2 ∷ []) (0 ∷ 2 ∷ [])
+in_order = (refl, (refl, tt))
+
+not_out_of_order : AreFor (λ n x. x ≡ n) (0 ∷ 2 ∷ []) (2 ∷ 0 ∷ []) → ⊥
+not_out_of_order h = let e : 2 ≡ 0 = h.0 in omega (arith, e)
+
+none_left_out : AreFor (λ n x. x ≡ n) (0 ∷ 2 ∷ []) (0 ∷ []) → ⊥
+none_left_out h = h.1
+
+none_invented : AreFor (λ n x. x ≡ n) (0 ∷ []) (0 ∷ 2 ∷ []) → ⊥
+none_invented h = h.1
+
+untold_stays_untold : (entries : List Entry) → with_more None entries ≡ None
+untold_stays_untold entries = refl
+
+behind_the_old : (x y : Entry) → with_more (Some (x ∷ [])) (y ∷ []) ≡ Some (x ∷ y ∷ [])
+behind_the_old x y = refl
+
+-- a journal whose header couldn't be written has failed, and so has one with a mark
+header_failed : (given : GivenModel) (x : Entry) → x.faults ≡ 0 → IsEntryBehind given 0 0 x → ⊥
+header_failed given x none h = let some = h.failed refl in omega (arith, none, some)
+
+mark_failed : (given : GivenModel) (x : Entry) → x.faults ≡ 0 → IsEntryAt given (marked (e.Begin 0) ∷ []) 0 x → ⊥
+mark_failed given x none h = let some = h.failed refl in omega (arith, none, some)
+
+-- no other has
+others_have_not : (given : GivenModel) (x : Entry) → 0 < x.faults → IsEntryBehind given 0 1 x → ⊥
+others_have_not given x some h = let none = h.sound (λ same. omega (arith, same)) in omega (arith, none, some)
+
+unmarked_have_not : (given : GivenModel) (x : Entry) → 0 < x.faults → IsEntryAt given (marked (e.Begin 0) ∷ []) 1 x → ⊥
+unmarked_have_not given x some h = let none = h.sound refl in omega (arith, none, some)
+
+-- ---- answers
+
+-- where no journal can fail, none is said to have failed
+no_fault_of_sure_ones : (program : Resolved) (node : ℕ) (report : Option (List ℕ)) → IsPossible (Some []) program (r.JournalFault node report) → ⊥
+no_fault_of_sure_ones program node report h = h (λ c. omega (arith, c.1))
+
+-- events are numbered from 1
+none_of_number_zero : (g : GivenModel) (moves : List Move) → StopsBefore g moves 0 → ⊥
+none_of_number_zero g moves h = let n = h.number_is in omega (arith, n)
+
+-- behind a run there is a report
+report_of_a_fault : (g : GivenModel) (moves : List Move) (node : ℕ) → Tells g moves (r.JournalFault node None) → ⊥
+report_of_a_fault g moves node h = h
+
+-- ---- a bundle: the principal A, the worker w, the store t and the hostile store h, with the numbers 0, 1 and 2
+
+abbrev name : Name
+name = record { text = codes "x"; at = 0 }
+
+abbrev principal : Role → Option ℕ → Principal
+principal role node = record { role = role; name = name; node = node }
+
+abbrev named : List Policy → NamedLabel
+named integ = record { name = name; label = record { conf = []; integ = integ } }
+
+-- objects of this class are asked for under its label
+abbrev class_of : ℕ → Class
+class_of n = record { name = name; label = record { number = n; at = 0 }; access = record { number = n; at = 0 }; fields = [] }
+
+-- the label of class 0 is `A <-`; that of class 1 says nothing, so anybody may have influenced its objects. One object of class 0 is held at t.
+abbrev program : Resolved
+program = record {
+  nodes = principal roles.Principal None ∷ principal (roles.Worker false) (Some 0) ∷ principal (roles.Store false) (Some 1) ∷ principal (roles.Store true) (Some 2) ∷ [];
+  pairs = [];
+  labels = named (record { owner = 0; others = [] } ∷ []) ∷ named [] ∷ [];
+  classes = class_of 0 ∷ class_of 1 ∷ [];
+  methods = [];
+  roots = record { name = name; oid = record { store = 1; class = 0; worker = 0; boot = 0; number = 0; site = 0; index = 0 }; values = Int (pos 5) ∷ [] } ∷ [];
+  sessions = [];
+  posts = [];
+  crashes = [];
+  cache = 0;
+  schedule = [];
+}
+
+abbrev rights : Rights
+rights = record {
+  workers = 1;
+  stores = 6;
+  classes = record { fetchers = 1; writers = 0; holders = 2; fields = None ∷ [] } ∷ record { fetchers = 1; writers = 1; holders = 6; fields = [] } ∷ [];
+}
+
+abbrev g : GivenModel
+g = given_by program rights
+
+-- ---- honest nodes
+
+w_and_t : honest_in g ≡ 0 ∷ 1 ∷ []
+unfolding honest_up
+w_and_t = refl
+
+w_alone : honest_up g 1 ≡ 0 ∷ []
+unfolding honest_up
+w_alone = refl
+
+not_h : honest_in g ≡ 0 ∷ 1 ∷ 2 ∷ [] → ⊥
+unfolding honest_up
+not_h e = let no : ◌≡◌ {A = List ℕ} (0 ∷ 1 ∷ []) (0 ∷ 1 ∷ 2 ∷ []) = e in cc
+
+-- ---- classes that no distrusted node may have influenced
+
+-- nobody acts for another
+alone : (p q : ℕ) → ActsFor (delegations_of program) p q → p ≡ q
+alone p q ([], h) = absurd h
+alone p q (x ∷ [], h) = h.1
+alone p q (x ∷ y ∷ rest, h) = absurd (let none = h.1.0.1 in omega (arith, none))
+
+-- so h, the principal 3, doesn't act for A
+not_for_a : ActsForOne (delegations_of program) 3 (0 ∷ []) → ⊥
+not_for_a (zero, q, within, is, acts) = let same = alone 3 q acts in omega (arith, same, is)
+not_for_a (suc k, q, within, is, acts) = absurd (omega (arith, within))
+
+hostile_alone : (n : ℕ) → 2 < n → is_hostile_node program n ≡ false
+hostile_alone n behind = rw (ne_eqb n 0 (λ e. omega (arith, e, behind)), ne_eqb n 1 (λ e. omega (arith, e, behind)), ne_eqb n 2 (λ e. omega (arith, e, behind))) refl
+
+no_such_node : (n : ℕ) → 2 < n → IsNode program n → ⊥
+no_such_node n behind within =
+    let at : principal_of program n ≡ 4 =
+    rw (ne_eqb n 0 (λ e. omega (arith, e, behind)), ne_eqb n 1 (λ e. omega (arith, e, behind)), ne_eqb n 2 (λ e. omega (arith, e, behind))) refl in
+    omega (arith, within, at)
+
+-- with h distrusted, objects of class 0 are as the others leave them
+h_left_out : IsExcluded g 4 (λ c. c == 0)
+h_left_out = record { hostile = hostile; classes = λ c e. subst (ClassExcludes program (delegations_of program) 4) (sym (eqb-true c 0 e)) none }
+  where
+    hostile : (n : ℕ) → is_hostile_node program n ≡ true → has_bit 4 n ≡ true
+    hostile zero h = absurd (false≢true h)
+    hostile (suc zero) h = absurd (false≢true h)
+    hostile (suc (suc zero)) h = refl
+    hostile (suc (suc (suc n))) h = absurd (false≢true (sym (hostile_alone (suc (suc (suc n))) (omega arith)) ∙ h))
+
+    none : ClassExcludes program (delegations_of program) 4 0
+    none zero bit within = absurd (bit refl)
+    none (suc zero) bit within = absurd (bit refl)
+    none (suc (suc zero)) bit within = λ writes. not_for_a (writes 0 (record { owner = 0; others = [] }) (lit< tt))
+    none (suc (suc (suc n))) bit within = absurd (no_such_node (suc (suc (suc n))) (omega arith) within)
+
+-- a set without the hostile node is none
+not_without_h : IsExcluded g 0 (λ c. false) → ⊥
+not_without_h h = false≢true (h.hostile 2 refl)
+
+-- nor does a class count that anybody may have influenced
+not_class_1 : IsExcluded g 4 (λ c. c == 1) → ⊥
+not_class_1 h = h.classes 1 refl 2 (λ e. omega (arith, e)) (lit< tt) (λ k x within. absurd (omega (arith, within)))
+
+-- ---- before any commit the object of class 0 is as at the start
+
+as_at_the_start : IsIntegral g [] (has_bit 4) (λ c. c == 0)
+unfolding shelf_of
+as_at_the_start = record { held = refl; ends = tt; once = tt; left_out = refl }
+
+-- with its store distrusted nobody would hold it
+not_without_its_store : IsIntegral g [] (has_bit 6) (λ c. c == 0) → ⊥
+unfolding shelf_of
+not_without_its_store h = let e = h.held in cc

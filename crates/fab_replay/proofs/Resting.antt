@@ -1,0 +1,25 @@
+-- A worker that evaluates is told its job.
+use Rattle.std.specs.Prelude.{◌≡◌, ℕ, Bool, true, false, IsTrue, IsFalse, List, Option, None}
+use Rattle.std.proofs.Common.{refl, sym, ap, ◌∙◌, true≢false, subst}
+use Rattle.std.proofs.lemmas.Bool.{and_from}
+use Rattle.fab_eval.specs.declared.job.Job.{Job}
+use Rattle.fab_rights.specs.Computed.{is_worker}
+use Rattle.fab_world.specs.Machine.{Move, is_evaluating, is_running}
+use Rattle.fab_world.specs.Serial.{IsRun}
+use Rattle.fab_world.specs.Workers as workers
+use Rattle.fab_node.specs.Standing.{GivenModel}
+use Rattle.fab_core.specs.Cores.{setting, world_by}
+use Rattle.fab_core.specs.Telling.{TellsJob, is_at_work}
+use Rattle.fab_core.proofs.Steady.{all_steady}
+
+-- behind a run none evaluates but a worker at work
+pub none_evaluates : (g : GivenModel) (moves : List Move) (n : ℕ) (told : Option Job) → IsRun (setting g) moves → TellsJob g (world_by g moves) n told → told ≡ None
+    → IsTrue (is_running (setting g) (world_by g moves) n) → ((world_by g moves).node n).attempt.phase ≡ workers.Evaluating → ⊥
+none_evaluates g moves n told run tells none up busy = by (is_worker g.rights n) refl
+  where
+    resting : IsFalse (is_at_work g (world_by g moves) n)
+    resting = subst (TellsJob g (world_by g moves) n) none tells
+
+    by : (b : Bool) → is_worker g.rights n ≡ b → ⊥
+    by true h = true≢false (sym (and_from _ _ (and_from _ _ h up) (ap is_evaluating busy)) ∙ resting)
+    by false h = true≢false (sym (ap is_evaluating busy) ∙ ap is_evaluating ((all_steady (setting g) moves run.enabled n).idle h))

@@ -1,0 +1,114 @@
+-- Steps of a replay: how far it came, and what became of the journals on the way.
+use Rattle.std.specs.Prelude.{◌≡◌, ◌==◌, ℕ, Bool, true, false, IsTrue, List, [], ◌∷◌, ◌++◌, Option, Some}
+use Rattle.fab_base.specs.Faults.{Rose}
+use Rattle.fab_device.specs.Kept.{CannotFail, Entry}
+use Rattle.fab_language.specs.Words.{node_text}
+use Rattle.fab_eval.specs.declared.done.Done.{Done}
+use Rattle.fab_net.specs.declared.event.Event.{Event}
+use Rattle.fab_tree.specs.declared.resolved.Resolved.{Resolved}
+use Rattle.fab_world.specs.Machine.{Move, Enabled, enabled, form_of}
+use Rattle.fab_node.specs.Standing.{GivenModel, JournalModel}
+use Rattle.fab_core.specs.Cores.{EventHasDone, marked, setting, slot, unmarked, world_by}
+use Rattle.fab_core.specs.Moved.{faults_in, node_at, sure_in}
+use Rattle.fab_core.specs.Telling.{those_in}
+use Rattle.fab_replay.specs.Honest.{honest_in}
+use Rattle.fab_replay.specs.Kept.{AreFor}
+use Rattle.fab_replay.specs.Replays.{StopsBefore, StopsIn, events_of, moves_of}
+use Rattle.fab_replay.specs.declared.running.Came.{Came}
+use Rattle.fab_replay.specs.declared.running.Came.TheVariants as c
+use Rattle.fab_replay.specs.declared.running.Ran.{Ran}
+use Rattle.fab_replay.specs.declared.running.Ran.TheVariants as r
+
+-- ---- journals
+
+-- a journal as contracts see it
+abbrev pub seen_by : {J : Type 0} → (J → List ℕ) → (J → ℕ) → (J → ℕ) → (J → ℕ) → (J → Bool) → J → JournalModel
+seen_by content synced room faults sure j = record { content = content j; synced = synced j; room = room j; faults = faults j; sure = sure j }
+
+-- a node's journal behind a step: its count rises exactly where it failed in it, which one that never fails doesn't
+pub record IsBehind (failed : Bool) (old new : Option JournalModel) : Type 0 where
+  pub sure : sure_in new ≡ sure_in old
+  pub same : failed ≡ false → faults_in new ≡ faults_in old
+  pub rose : failed ≡ true → Rose (faults_in old) (faults_in new)
+  pub never : failed ≡ true → sure_in old ≡ false
+
+-- those of all nodes, of which these failed
+abbrev pub AreBehind : (ℕ → Bool) → List (Option JournalModel) → List (Option JournalModel) → Type 0
+AreBehind failed old new = (n : ℕ) → IsBehind (failed n) (slot old n) (slot new n)
+
+-- ---- one event
+
+-- behind these moves it may come
+pub record MayCome (g : GivenModel) (moves : List Move) (event : Event) : Type 0 where
+  pub may : Enabled (setting g) (world_by g moves) (unmarked event)
+
+-- an evaluation that it takes came to this
+pub record ComesWith (g : GivenModel) (moves : List Move) (event : Event) (over : Option Done) : Type 0 where
+  pub done : EventHasDone g (world_by g moves) event over
+
+-- it came, and the moves are one more
+pub record HasCome (g : GivenModel) (event : Event) (move : Move) (old new : List Move) : Type 0 where
+  pub may : MayCome g old event
+  pub moves : new ≡ old ++ move ∷ []
+
+-- it may not come, and the moves are as they were
+pub record IsBarred (g : GivenModel) (event : Event) (old new : List Move) : Type 0 where
+  pub barred : enabled (setting g) (world_by g old) (form_of (unmarked event)) ≡ false
+  pub moves : new ≡ old
+
+-- what one event comes to, with a mark where it was cut
+abbrev pub ComesBy : GivenModel → Event → List Move → List Move → Came → Type 0
+ComesBy g event old new c.Whole = HasCome g event (unmarked event) old new
+ComesBy g event old new c.Cut = HasCome g event (marked event) old new
+ComesBy g event old new c.Barred = IsBarred g event old new
+
+abbrev pub fails_by : Event → Came → ℕ → Bool
+fails_by event c.Cut n = node_at event == n
+fails_by event c.Whole n = false
+fails_by event c.Barred n = false
+
+-- ---- the schedule
+
+abbrev pub ComesTo : GivenModel → List Move → Ran → Type 0
+ComesTo g moves r.Through = moves ≡ moves_of (events_of g.program)
+ComesTo g moves (r.Barred number) = StopsBefore g moves number
+ComesTo g moves (r.Cut node) = StopsIn g moves node
+
+abbrev pub failed_by : Ran → ℕ → Bool
+failed_by (r.Cut node) n = node == n
+failed_by r.Through n = false
+failed_by (r.Barred number) n = false
+
+-- ---- entries
+
+-- the entry of a node's journal
+abbrev pub entry_of : Resolved → ℕ → JournalModel → Entry
+entry_of r n j = record { node = node_text r n; content = j.content; synced = j.synced; faults = j.faults }
+
+-- those of nodes and their journals, as many as there are of both
+abbrev pub entries_of : Resolved → List ℕ → List JournalModel → List Entry
+entries_of r [] js = []
+entries_of r (n ∷ ns) [] = []
+entries_of r (n ∷ ns) (j ∷ js) = entry_of r n j ∷ entries_of r ns js
+
+-- a new journal of a node: nothing is in it, it hasn't failed, and it never does where that is told
+pub record IsNew (told : Option (List (List ℕ))) (name : List ℕ) (journal : JournalModel) : Type 0 where
+  pub content : journal.content ≡ []
+  pub synced : journal.synced ≡ 0
+  pub faults : journal.faults ≡ 0
+  pub sure : CannotFail told name → IsTrue journal.sure
+
+abbrev pub AreNew : Option (List (List ℕ)) → Resolved → List ℕ → List JournalModel → Type 0
+AreNew told r ns js = AreFor (λ n j. IsNew told (node_text r n) j) ns js
+
+-- no journal has failed, and none fails of which it is told that it can't
+pub record IsUnfailed (told : Option (List (List ℕ))) (name : List ℕ) (journal : Option JournalModel) : Type 0 where
+  pub faults : faults_in journal ≡ 0
+  pub sure : CannotFail told name → IsTrue (sure_in journal)
+
+abbrev pub AreUnfailed : Option (List (List ℕ)) → GivenModel → List (Option JournalModel) → Type 0
+AreUnfailed told g journals = (n : ℕ) → IsUnfailed told (node_text g.program n) (slot journals n)
+
+-- the same in the order of the honest nodes
+abbrev pub AreTaken : Option (List (List ℕ)) → GivenModel → List (Option JournalModel) → Type 0
+AreTaken told g journals = AreFor (λ n j. IsUnfailed told (node_text g.program n) (Some j)) (honest_in g) (those_in journals)

@@ -1,0 +1,74 @@
+//! The nodes' journals: made before a run, and kept behind it.
+
+ghost use Rattle.std.specs.Prelude.{◌≡◌, ◌≤◌, IfOk, IfErr, OnOk, map};
+ghost use Rattle.fab_replay.specs.Kept.{with_more};
+ghost use Rattle.fab_replay.specs.Making.{HasFailed};
+ghost use Rattle.fab_replay.specs.Running.{AreNew, entries_of, seen_by};
+
+use fab_base::{NoMemory, Seq};
+use fab_device::{JournalError, Journals};
+use fab_lines::node_name;
+use fab_tree::resolved::Resolved;
+use std::alloc::Global;
+
+/// Why nodes have no journals: that of this one couldn't be made, or memory ran out.
+#[derive(Drop)]
+pub(crate) enum Unmade {
+    Failed { node: u16 },
+    Memory,
+}
+
+/// A journal for each of these nodes, in their order.
+pub(crate) fn make_journals<M: Journals>(
+    alloc: Global,
+    program: &Resolved,
+    nodes: &[u16],
+    journals: &mut M,
+) -> Result<Seq<M::Item>, Unmade>
+    ensures made { IfOk result (λ made. AreNew (M.may_fail journals.old) program.now nodes.now (map (seen_by M.Item.content M.Item.synced M.Item.room M.Item.faults M.Item.sure) made)) }
+    ensures failed { IfErr result (HasFailed (M.may_fail journals.old) program.now nodes.now (M.faults journals.old) (M.faults journals.new)) }
+    ensures later { M.faults journals.old ≤ M.faults journals.new }
+    ensures kept { M.kept journals.new ≡ M.kept journals.old }
+    ensures told { M.may_fail journals.new ≡ M.may_fail journals.old }
+{
+    let mut made = Seq::new(alloc);
+    let mut rest = nodes;
+    'nodes: while let Some((node, after)) = rest.split_first() {
+        match journals.make(node_name(program, *node)) {
+            Ok(journal) => {
+                if made.push(journal).is_err() {
+                    return Err(Unmade::Memory);
+                }
+            }
+            Err(JournalError::Memory) => return Err(Unmade::Memory),
+            Err(JournalError::Failed) => return Err(Unmade::Failed { node: *node }),
+        }
+        rest = after;
+    }
+    Ok(made)
+}
+
+/// Gives back the journals of these nodes, one after the other in their order.
+pub(crate) fn keep_all<M: Journals>(
+    program: &Resolved,
+    nodes: &[u16],
+    all: Seq<M::Item>,
+    journals: &mut M,
+) -> Result<(), NoMemory>
+    ensures kept { OnOk result (M.kept journals.new
+        ≡ with_more (M.kept journals.old) (entries_of program.now nodes.now (map (seen_by M.Item.content M.Item.synced M.Item.room M.Item.faults M.Item.sure) all))) }
+    ensures faults { M.faults journals.new ≡ M.faults journals.old }
+    ensures told { M.may_fail journals.new ≡ M.may_fail journals.old }
+{
+    let mut left = all.into_vec();
+    left.reverse();
+    let mut rest = nodes;
+    'nodes: while let Some((node, after)) = rest.split_first() {
+        let Some(journal) = left.pop() else {
+            return Ok(());
+        };
+        journals.keep(node_name(program, *node), journal)?;
+        rest = after;
+    }
+    Ok(())
+}

@@ -1,0 +1,133 @@
+//! The events of a schedule, one after the other.
+
+ghost use Rattle.std.specs.Prelude.{◌≡◌, ◌<◌, ◌≤◌, [], IsTrue, IfOk, length};
+ghost use Rattle.std.specs.Option.{option_copied};
+ghost use Rattle.fab_world.specs.Machine.{is_running};
+ghost use Rattle.fab_world.specs.Serial.{attempts};
+ghost use Rattle.fab_world.specs.Workers.{Evaluating};
+ghost use Rattle.fab_core.specs.Cores.{HasDone, setting, world};
+ghost use Rattle.fab_replay.specs.Running.{AreBehind, ComesBy, ComesTo, ComesWith, MayCome, failed_by, fails_by};
+
+use crate::events::{event_of, node_at};
+use fab_base::NoMemory;
+use fab_core::{Applied, Core};
+use fab_device::Journal;
+use fab_eval::{Done, evaluate};
+use fab_net::{Event, Inner};
+use fab_tree::resolved::Resolved;
+use std::alloc::{AllocError, Global};
+
+/// What became of one event: it came; it came up to its record, since the journal failed; or it may not
+/// come.
+#[derive(Clone, Copy, Debug)]
+pub(crate) enum Came {
+    Whole,
+    Cut,
+    Barred,
+}
+
+/// How far a schedule came: to its end; to the event of this number, from 1, which may not come; or into
+/// an event of this node, whose journal failed.
+#[derive(Clone, Copy, Debug)]
+pub(crate) enum Ran {
+    Through,
+    Barred { event: u32 },
+    Cut { node: u16 },
+}
+
+/// What the job of a worker comes to, if it evaluates.
+fn done_of<J: Journal>(alloc: Global, core: &Core<J>, worker: u16) -> Result<Option<Done>, NoMemory>
+    ensures { IfOk result (λ done. IsTrue (is_running (setting core.now.given) (world core.now) worker)
+        → ((world core.now).node worker).attempt.phase ≡ Evaluating → HasDone core.now.given (world core.now) worker done) }
+{
+    core.is_a_run();
+    match core.job(worker)? {
+        Some(job) => match evaluate(alloc, job) {
+            Ok(done) => Ok(Some(done)),
+            Err(_) => Err(AllocError),
+        },
+        None => Ok(None),
+    }
+}
+
+/// What the evaluation comes to that an event takes, if it takes one.
+fn done_for<J: Journal>(
+    alloc: Global,
+    core: &Core<J>,
+    event: Event,
+) -> Result<Option<Done>, NoMemory>
+    ensures { IfOk result (ComesWith core.now.given core.now.moves event) }
+{
+    match event {
+        Event::Resume(worker) => done_of(alloc, core, worker),
+        Event::CrashIn(_, Inner::Resume(worker)) => done_of(alloc, core, worker),
+        _ => Ok(None),
+    }
+}
+
+/// An event that may come comes.
+fn enact<J: Journal>(
+    core: &mut Core<J>,
+    event: Event,
+    done: Option<&Done>,
+) -> Result<Came, NoMemory>
+    requires may { MayCome core.old.given core.old.moves event }
+    requires done { ComesWith core.old.given core.old.moves event (option_copied done) }
+    requires few { attempts core.old.moves < 4000000000 }
+    ensures given { core.new.given ≡ core.old.given }
+    ensures came { IfOk result (ComesBy core.old.given event core.old.moves core.new.moves) }
+    ensures journals { IfOk result (λ came. AreBehind (fails_by event came) core.old.journals core.new.journals) }
+{
+    match core.apply(event, done)? {
+        Applied::Whole => Ok(Came::Whole),
+        Applied::Cut => Ok(Came::Cut),
+    }
+}
+
+/// One event comes, if it may.
+fn next<J: Journal>(alloc: Global, core: &mut Core<J>, event: Event) -> Result<Came, NoMemory>
+    requires { attempts core.old.moves < 4000000000 }
+    ensures given { core.new.given ≡ core.old.given }
+    ensures came { IfOk result (ComesBy core.old.given event core.old.moves core.new.moves) }
+    ensures journals { IfOk result (λ came. AreBehind (fails_by event came) core.old.journals core.new.journals) }
+{
+    let done = done_for(alloc, core, event)?;
+    let over = done.as_ref();
+    let may = core.enabled(&event, over)?;
+    if !may {
+        return Ok(Came::Barred);
+    }
+    enact(core, event, over)
+}
+
+/// The events of the schedule come in order, up to the first that may not come or in which a journal fails.
+pub(crate) fn run<J: Journal>(
+    alloc: Global,
+    core: &mut Core<J>,
+    program: &Resolved,
+) -> Result<Ran, NoMemory>
+    requires program { program.now ≡ core.old.given.program }
+    requires few { length program.now.schedule ≤ 100000 }
+    requires moves { core.old.moves ≡ [] }
+    ensures given { core.new.given ≡ core.old.given }
+    ensures ran { IfOk result (ComesTo core.old.given core.new.moves) }
+    ensures journals { IfOk result (λ ran. AreBehind (failed_by ran) core.old.journals core.new.journals) }
+{
+    let mut number = 0;
+    let mut rest = program.schedule.as_slice();
+    'events: while let Some((scheduled, after)) = rest.split_first() {
+        let event = event_of(*scheduled);
+        number += 1;
+        match next(alloc, core, event)? {
+            Came::Whole => {}
+            Came::Cut => {
+                return Ok(Ran::Cut {
+                    node: node_at(event),
+                });
+            }
+            Came::Barred => return Ok(Ran::Barred { event: number }),
+        }
+        rest = after;
+    }
+    Ok(Ran::Through)
+}
