@@ -2,6 +2,7 @@
 #![tactic(auto)]
 
 use fab_base::{StdSink, StdSource};
+use fab_device::FileJournals;
 use fab_top::{Status, fab};
 use std::env;
 use std::process::ExitCode;
@@ -10,12 +11,13 @@ fn main(rt: HostRuntime) -> ExitCode {
     let alloc = rt.alloc();
     let mut source = StdSource::new(rt.stdin());
     let mut sink = StdSink::new(rt.stdout());
+    let mut journals = FileJournals::new(&rt, alloc);
     // Words that aren't text are a faulty command line, as none are.
     let status = match env::args(&rt) {
-        Err(_) => fab(alloc, &[], &mut source, &mut sink),
+        Err(_) => fab(alloc, &[], &mut source, &mut sink, &mut journals),
         Ok(args) => match args.skip(1).collect::<Vec<String>>(alloc) {
             Err(_) => Status::Memory,
-            Ok(words) => fab(alloc, &words, &mut source, &mut sink),
+            Ok(words) => fab(alloc, &words, &mut source, &mut sink, &mut journals),
         },
     };
     ExitCode::from(status.number())

@@ -13,4 +13,6 @@ pub enum Command {
     Flows { from: Text, to: Text },
     /// A bundle's text in the one form.
     Format,
+    /// The run of a bundle's schedule, and its report.
+    Replay,
 }

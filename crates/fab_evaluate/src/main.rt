@@ -4,12 +4,21 @@
 
 use fab_base::{StdSink, StdSource};
 use fab_command::Command;
+use fab_device::FileJournals;
 use fab_reply::answer;
 use std::process::ExitCode;
 
 fn main(rt: HostRuntime) -> ExitCode {
+    let alloc = rt.alloc();
     let mut source = StdSource::new(rt.stdin());
     let mut sink = StdSink::new(rt.stdout());
-    let status = answer(rt.alloc(), Some(Command::Evaluate), &mut source, &mut sink);
+    let mut journals = FileJournals::new(&rt, alloc);
+    let status = answer(
+        alloc,
+        Some(Command::Evaluate),
+        &mut source,
+        &mut sink,
+        &mut journals,
+    );
     ExitCode::from(status.number())
 }

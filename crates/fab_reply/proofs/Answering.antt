@@ -1,13 +1,15 @@
 -- From what calls answer to replies.
-use Rattle.std.proofs.Common.{◌≡◌, ◌⊎◌, inl, inr, ◌≤◌, ℕ, List, [], Option, Some, None, Result, Ok, Err, IfOk, MatchResult, find, option_map, option_copied, length, refl, sym, ap, ◌∙◌, subst}
+use Rattle.std.proofs.Common.{◌≡◌, ◌≤◌, ℕ, List, [], Option, Some, None, Result, Ok, Err, IfOk, find, option_map, length, sym, ap, ◌∙◌, subst}
 use Rattle.std.specs.Str.{bytes_eq}
-use Rattle.fab_base.specs.declared.label.Label.{Label}
 use Rattle.fab_tree.specs.declared.start.Start.{Start}
 use Rattle.fab_tree.specs.declared.resolved.NamedLabel.{NamedLabel}
 use Rattle.fab_tree.specs.declared.resolved.Resolved.{Resolved}
 use Rattle.fab_tree.specs.Limits.{first_passed}
-use Rattle.fab_language.specs.declared.rule.Fault.{Fault}
-use Rattle.fab_language.specs.Faults.{faults, IsFirst}
+use Rattle.fab_base.specs.declared.limit.What.{What}
+use Rattle.fab_language.specs.declared.rule.NameRule.{NameRule}
+use Rattle.fab_labelling.specs.declared.rule.LabelRule.{LabelRule}
+use Rattle.fab_labelling.specs.declared.rule.Side.{Side}
+use Rattle.fab_language.specs.Faults.{faults}
 use Rattle.fab_language.specs.Numbers.{resolved}
 use Rattle.fab_flows.specs.Numbers.{HasPrincipals}
 use Rattle.fab_flows.proofs.Declared.{has_principals}
@@ -16,7 +18,8 @@ use Rattle.fab_reply.specs.declared.front.Outcome.TheVariants as outcome
 use Rattle.fab_reply.specs.declared.status.Status.{Status}
 use Rattle.fab_reply.specs.declared.status.Status.TheVariants as status
 use Rattle.fab_reply.specs.Front.{Front, whole}
-use Rattle.fab_reply.specs.Reply.{Replies, usage, syntax, limit, formatted, misnamed, mislabelled, checked, evaluated, unlabelled, flow, IsReply, RepliesWith, Ends, LacksLabel, label_of}
+use Rattle.fab_reply.specs.Reply.{Replies, usage, syntax, limit, formatted, misnamed, mislabelled, checked, evaluated, unlabelled, flow, replayed, barred, Answers, one_reply, interrupted, in_run, before, IsReply, RepliesWith, Ends, label_of}
+use Rattle.fab_reply.specs.Replays.{Makers}
 
 -- a bundle is within the limits, and its text isn't too long
 pub within : {text : List ℕ} {s : Start} → Front text (outcome.Bundle s) → first_passed s ≡ None
@@ -43,43 +46,67 @@ is_no_label s r word is e = sym (found_label s r word is) ∙ ap (option_map (λ
 
 -- ---- statuses of replies
 
+-- what came of a text has no status but those of replies and of a journal's fault
+pub data IsOfReply : Status → Type 0 where
+  IsOk : IsOfReply status.Ok
+  IsUsage : IsOfReply status.Usage
+  IsSyntax : {at : ℕ} → IsOfReply (status.Syntax at)
+  IsLimit : {what : What} → IsOfReply (status.Limit what)
+  IsName : {rule : NameRule} {at : ℕ} → IsOfReply (status.Name rule at)
+  IsLabel : {rule : LabelRule} {at : ℕ} {source target : Side} → IsOfReply (status.Label rule at source target)
+  IsBarred : {event : ℕ} → IsOfReply (status.NotEnabled event)
+  IsFault : {node : ℕ} → IsOfReply (status.JournalFault node)
+
+of_replies : {command : Option Command} {text reply : List ℕ} {s : Status} → Replies command text s reply → IsOfReply s
+of_replies usage = IsUsage
+of_replies (syntax g) = IsSyntax
+of_replies (limit g) = IsLimit
+of_replies (formatted g) = IsOk
+of_replies (misnamed c g h) = IsName
+of_replies (mislabelled c g h k) = IsLabel
+of_replies (checked g h k) = IsOk
+of_replies (evaluated g h k) = IsOk
+of_replies (unlabelled g h k) = IsName
+of_replies (flow g h k m n) = IsOk
+of_replies (replayed g h k) = IsOk
+of_replies (barred g h k) = IsBarred
+
+pub of_answers : {command : Option Command} {text reply : List ℕ} {s : Status} → Answers command text s reply → IsOfReply s
+of_answers (one_reply r) = of_replies r.is
+of_answers (interrupted (in_run g h k)) = IsFault
+of_answers (interrupted (before g h k)) = IsFault
+
 -- a reply that was written whole says what its status says
-pub ends_so : {command : Option Command} {text reply : List ℕ} {s : Status} (l l' w w' : Option (List ℕ)) → Replies command text s reply → RepliesWith s command l l' w w' → Ends command s l l' w w'
-ends_so l l' w w' usage e = e
-ends_so l l' w w' (syntax g) e = e
-ends_so l l' w w' (limit g) e = e
-ends_so l l' w w' (formatted g) e = e
-ends_so l l' w w' (misnamed c g h) e = e
-ends_so l l' w w' (mislabelled c g h k) e = e
-ends_so l l' w w' (checked g h k) e = e
-ends_so l l' w w' (evaluated g h k) e = e
-ends_so l l' w w' (unlabelled g h k) e = e
-ends_so l l' w w' (flow g h k m n) e = e
+pub ends_so : {command : Option Command} {s : Status} (l l' w w' : Option (List ℕ)) (old new : Makers) → IsOfReply s → RepliesWith s command l l' w w' old new → Ends command s l l' w w' old new
+ends_so l l' w w' old new IsOk e = e
+ends_so l l' w w' old new IsUsage e = e
+ends_so l l' w w' old new IsSyntax e = e
+ends_so l l' w w' old new IsLimit e = e
+ends_so l l' w w' old new IsName e = e
+ends_so l l' w w' old new IsLabel e = e
+ends_so l l' w w' old new IsBarred e = e
+ends_so l l' w w' old new IsFault e = e
 
--- no reply has the status of a fault
-pub no_read_fault : {command : Option Command} {text reply : List ℕ} {s : Status} {A : Type 0} → Replies command text s reply → s ≡ status.ReadFault → A
-no_read_fault usage e = absurd (cc)
-no_read_fault (syntax g) e = absurd (cc)
-no_read_fault (limit g) e = absurd (cc)
-no_read_fault (formatted g) e = absurd (cc)
-no_read_fault (misnamed c g h) e = absurd (cc)
-no_read_fault (mislabelled c g h k) e = absurd (cc)
-no_read_fault (checked g h k) e = absurd (cc)
-no_read_fault (evaluated g h k) e = absurd (cc)
-no_read_fault (unlabelled g h k) e = absurd (cc)
-no_read_fault (flow g h k m n) e = absurd (cc)
+-- no reply has the status of a fault of the source or of the sink
+pub no_read_fault : {s : Status} {A : Type 0} → IsOfReply s → s ≡ status.ReadFault → A
+no_read_fault IsOk e = absurd (cc)
+no_read_fault IsUsage e = absurd (cc)
+no_read_fault IsSyntax e = absurd (cc)
+no_read_fault IsLimit e = absurd (cc)
+no_read_fault IsName e = absurd (cc)
+no_read_fault IsLabel e = absurd (cc)
+no_read_fault IsBarred e = absurd (cc)
+no_read_fault IsFault e = absurd (cc)
 
-pub no_write_fault : {command : Option Command} {text reply : List ℕ} {s : Status} {A : Type 0} → Replies command text s reply → s ≡ status.WriteFault → A
-no_write_fault usage e = absurd (cc)
-no_write_fault (syntax g) e = absurd (cc)
-no_write_fault (limit g) e = absurd (cc)
-no_write_fault (formatted g) e = absurd (cc)
-no_write_fault (misnamed c g h) e = absurd (cc)
-no_write_fault (mislabelled c g h k) e = absurd (cc)
-no_write_fault (checked g h k) e = absurd (cc)
-no_write_fault (evaluated g h k) e = absurd (cc)
-no_write_fault (unlabelled g h k) e = absurd (cc)
-no_write_fault (flow g h k m n) e = absurd (cc)
+pub no_write_fault : {s : Status} {A : Type 0} → IsOfReply s → s ≡ status.WriteFault → A
+no_write_fault IsOk e = absurd (cc)
+no_write_fault IsUsage e = absurd (cc)
+no_write_fault IsSyntax e = absurd (cc)
+no_write_fault IsLimit e = absurd (cc)
+no_write_fault IsName e = absurd (cc)
+no_write_fault IsLabel e = absurd (cc)
+no_write_fault IsBarred e = absurd (cc)
+no_write_fault IsFault e = absurd (cc)
 
 -- ---- numbers of principals
 

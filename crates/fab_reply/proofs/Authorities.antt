@@ -10,7 +10,7 @@ use Rattle.fab_tree.specs.declared.resolved.Resolved.{Resolved}
 use Rattle.fab_tree.specs.Limits.{first_passed}
 use Rattle.fab_language.specs.Heads.{heads_of}
 use Rattle.fab_language.specs.Names.{node_name}
-use Rattle.fab_language.specs.Uses.{principal_number, principal_use}
+use Rattle.fab_language.specs.Uses.{principal_use}
 use Rattle.fab_language.specs.Unknown.{in_principal, in_delegation, in_label_text, in_class, in_label, in_parameter, in_returns, in_heading, in_head, in_method, in_root, in_session, in_post, in_crash, in_event, unknown}
 use Rattle.fab_language.specs.Doubled.{doubled}
 use Rattle.fab_language.specs.Roles.{misplaced}

@@ -1,13 +1,18 @@
 -- What each status says.
-use Rattle.std.proofs.Common.{◌≡◌, ◌≢◌, ◌⊎◌, inl, inr, ◌≤◌, ◌<◌, ◌+◌, ℕ, List, [], ◌∷◌, ◌++◌, length, Option, Some, None, IfSome, refl, sym, ap, ◌∙◌, subst, arith, append-nil, length-append, codes}
-use Rattle.std.specs.Io.KnownBytes.{Appends, IsAtEnd, Consumes}
+use Rattle.std.proofs.Common.{◌≡◌, ◌≢◌, ◌⊎◌, inl, inr, ℕ, List, ◌++◌, length, Option, Some, None, IfSome, refl, sym, ap, ◌∙◌, subst, arith, append-nil, length-append, codes}
+use Rattle.std.specs.Io.KnownBytes.{Appends, Keeps, IsAtEnd, Consumes}
 use Rattle.fab_base.specs.declared.limit.What.TheVariants.{Bytes}
 use Rattle.fab_command.specs.declared.command.Command.{Command}
+use Rattle.fab_command.specs.declared.command.Command.TheVariants.{Replay}
 use Rattle.fab_reply.specs.declared.status.Status.{Status}
-use Rattle.fab_reply.specs.declared.status.Status.TheVariants.{Ok, Usage, ReadFault, WriteFault, Memory, Syntax, Limit, Name, Label as Labelled}
+use Rattle.fab_reply.specs.declared.status.Status.TheVariants.{Ok, Usage, ReadFault, WriteFault, Memory, Syntax, Limit, Name, Label as Labelled, NotEnabled, JournalFault}
 use Rattle.fab_reply.specs.Front.{IsTooLong}
-use Rattle.fab_reply.specs.Reply.{Replies, usage, IsReply, IsInput, unasked, read, RepliesWith, Ends, ComesTo, SpeaksOfText, line, what_word}
+use Rattle.fab_reply.specs.Reply.{Answers, one_reply, interrupted, in_run, before, Interrupted, IsJournalFault, Replies, usage, syntax, limit, formatted, misnamed, mislabelled, checked, evaluated, unlabelled, flow, replayed, barred, IsReply, IsInput, unasked, read, RepliesWith, Ends, ComesTo, SpeaksOfText, line, what_word}
+use Rattle.fab_reply.specs.Replays.{Makers}
+use Rattle.fab_reply.proofs.Answering.{short}
 use Rattle.fab_reply.proofs.Fronts.{one_of_long}
+use Rattle.fab_reply.specs.Headline.{Headline}
+use Rattle.fab_reply.proofs.Replaying.{done_headline, fault_headline}
 use Rattle.fab_reply.proofs.Replying.{usage_reply, limit_reply}
 
 all_some : {A : Type 0} {P : A → Type 0} (o : Option A) → ((x : A) → P x) → IfSome o P
@@ -48,23 +53,34 @@ told : {command : Option Command} (l l' : Option (List ℕ)) {text reply : List 
 told l l' (unasked k) r = all_some l (λ xs. usage_of_any xs r)
 told l l' (read t) r = read_reply l l' t.taken t.whole r
 
+-- an interrupted run has the status of a journal's fault
+is_fault : {command : Option Command} {text reply : List ℕ} {status : Status} → Interrupted command text status reply → IsJournalFault status
+is_fault (in_run g h k) = tt
+is_fault (before g h k) = tt
+
 -- ---- the clauses
 
-module _ (command : Option Command) (l l' w w' : Option (List ℕ)) where
-  with_reply : {status : Status} → RepliesWith status command l l' w w' → IfSome l (λ text. (s : Status) (r : List ℕ) → Replies command text s r → ComesTo status s w w' r)
-  with_reply e = some_more l (λ text t s r p. let same = t.only s r p in inl (sym same.0, subst (Appends w w') (sym same.1) e.all)) (told l l' e.input e.replies)
+module _ (command : Option Command) (l l' w w' : Option (List ℕ)) (old new : Makers) where
+  with_reply : {status : Status} → RepliesWith status command l l' w w' old new → IfSome l (λ text. (s : Status) (r : List ℕ) → Replies command text s r → ComesTo status s w w' r)
+  with_reply {status = status} e =
+      elim e.replies [
+        | one_reply replies ↦ some_more l (λ text t s r p. let same = t.only s r p in inl (sym same.0, subst (Appends w w') (sym same.1) e.all)) (told l l' e.input replies)
+        | interrupted by ↦ all_some l (λ text s r p. inr (inr (inr (is_fault by))))
+      ]
 
   -- whatever reply there is comes
-  pub exactly : (status : Status) → Ends command status l l' w w' → status ≢ ReadFault → IfSome l (λ text. (s : Status) (r : List ℕ) → Replies command text s r → ComesTo status s w w' r)
+  pub exactly : (status : Status) → Ends command status l l' w w' old new → status ≢ ReadFault → IfSome l (λ text. (s : Status) (r : List ℕ) → Replies command text s r → ComesTo status s w w' r)
   exactly Ok e f = with_reply e
   exactly Usage e f = with_reply e
   exactly ReadFault e f = absurd (f refl)
-  exactly WriteFault e f = all_some l (λ text s r p. inr (inr refl))
+  exactly WriteFault e f = all_some l (λ text s r p. inr (inr (inl refl)))
   exactly Memory e f = all_some l (λ text s r p. inr (inl refl))
   exactly (Syntax at) e f = with_reply e
   exactly (Limit what) e f = with_reply e
   exactly (Name x at) e f = with_reply e
   exactly (Labelled x at from to) e f = with_reply e
+  exactly (NotEnabled event) e f = with_reply e
+  exactly (JournalFault node) e f = with_reply e
 
   speaks_not : {status : Status} → SpeaksOfText status → Limit Bytes ≡ status → ⊥
   speaks_not s e = let h = subst SpeaksOfText (sym e) s in h
@@ -72,19 +88,29 @@ module _ (command : Option Command) (l l' w w' : Option (List ℕ)) where
   speaks_no_usage : {status : Status} → SpeaksOfText status → Usage ≡ status → ⊥
   speaks_no_usage s e = let h = subst SpeaksOfText (sym e) s in h
 
-  to_end : {status : Status} → SpeaksOfText status → RepliesWith status command l l' w w' → IsAtEnd l'
+  to_end : {status : Status} → SpeaksOfText status → RepliesWith status command l l' w w' old new → IsAtEnd l'
   to_end {status = status} s e = go e.input e.replies
     where
-      go : {command : Option Command} {text reply : List ℕ} → IsInput command l l' text → IsReply command text status reply → IsAtEnd l'
-      go (unasked k) r = absurd (speaks_no_usage s (r.only _ _ usage).0)
-      go (read {command = c} t) r =
+      long_front : {command : Option Command} {text reply : List ℕ} {status : Status} → length text ≡ 4194305 → Interrupted command text status reply → ⊥
+      long_front many (in_run g h k) = let few = short g in omega (arith, many, few)
+      long_front many (before g h k) = let few = short g in omega (arith, many, few)
+
+      go : {command : Option Command} {text reply : List ℕ} → IsInput command l l' text → Answers command text status reply → IsAtEnd l'
+      go (unasked k) (one_reply r) = absurd (speaks_no_usage s (r.only _ _ usage).0)
+      go {text = text} {reply = reply} (unasked k) (interrupted by) = elim by [ ]
+      go (read {command = c} t) (one_reply r) =
           elim t.whole [
             | inl end ↦ end
             | inr many ↦ absurd (speaks_not s (r.only _ _ (long_reply {command = c} (omega (arith, many))).is).0)
           ]
+      go (read t) (interrupted by) =
+          elim t.whole [
+            | inl end ↦ end
+            | inr many ↦ absurd (long_front many by)
+          ]
 
   -- what speaks of the text was read to its end
-  pub read_whole : (status : Status) → Ends command status l l' w w' → SpeaksOfText status → IsAtEnd l'
+  pub read_whole : (status : Status) → Ends command status l l' w w' old new → SpeaksOfText status → IsAtEnd l'
   read_whole Ok e s = to_end s e
   read_whole Usage e s = absurd s
   read_whole ReadFault e s = absurd s
@@ -94,31 +120,40 @@ module _ (command : Option Command) (l l' w w' : Option (List ℕ)) where
   read_whole (Limit what) e s = to_end s e
   read_whole (Name x at) e s = to_end s e
   read_whole (Labelled x at from to) e s = to_end s e
+  read_whole (NotEnabled event) e s = to_end s e
+  read_whole (JournalFault node) e s = to_end s e
 
   -- where nothing is asked, `usage` comes
-  as_usage : {status : Status} → command ≡ None → RepliesWith status command l l' w w' → ComesTo status Usage w w' (line (codes "usage"))
+  as_usage : {status : Status} → command ≡ None → RepliesWith status command l l' w w' old new → ComesTo status Usage w w' (line (codes "usage"))
   as_usage {status = status} none e =
-      let r = subst (λ c. IsReply c e.text status e.reply) none e.replies in
-      let same = r.only Usage (line (codes "usage")) usage in
-      inl (sym same.0, subst (Appends w w') (sym same.1) e.all)
+      elim (let r : Answers None e.text status e.reply = subst (λ c. Answers c e.text status e.reply) none e.replies in r) [
+        | one_reply r ↦ let same = r.only Usage (line (codes "usage")) usage in inl (sym same.0, subst (Appends w w') (sym same.1) e.all)
+        | interrupted by ↦ inr (inr (inr (is_fault by)))
+      ]
 
-  pub usage_comes : (status : Status) → Ends command status l l' w w' → (status ≡ ReadFault → command ≢ None) → command ≡ None → ComesTo status Usage w w' (line (codes "usage"))
+  pub usage_comes : (status : Status) → Ends command status l l' w w' old new → (status ≡ ReadFault → command ≢ None) → command ≡ None → ComesTo status Usage w w' (line (codes "usage"))
   usage_comes Ok e f none = as_usage none e
   usage_comes Usage e f none = as_usage none e
   usage_comes ReadFault e f none = absurd (f refl none)
-  usage_comes WriteFault e f none = inr (inr refl)
+  usage_comes WriteFault e f none = inr (inr (inl refl))
   usage_comes Memory e f none = inr (inl refl)
   usage_comes (Syntax at) e f none = as_usage none e
   usage_comes (Limit what) e f none = as_usage none e
   usage_comes (Name x at) e f none = as_usage none e
   usage_comes (Labelled x at from to) e f none = as_usage none e
+  usage_comes (NotEnabled event) e f none = as_usage none e
+  usage_comes (JournalFault node) e f none = as_usage none e
 
   -- and only there
-  nothing_asked : {asked : Option Command} {text reply : List ℕ} → Replies asked text Usage reply → asked ≡ None
-  nothing_asked usage = refl
+  nothing_asked : {asked : Option Command} {text reply : List ℕ} → Answers asked text Usage reply → asked ≡ None
+  nothing_asked (one_reply r) = of_usage r.is
+    where
+      of_usage : {asked : Option Command} {text reply : List ℕ} → Replies asked text Usage reply → asked ≡ None
+      of_usage usage = refl
+  nothing_asked {asked = asked} {text = text} {reply = reply} (interrupted x) = elim x [ ]
 
-  pub only_unasked : (status : Status) → Ends command status l l' w w' → status ≡ Usage → command ≡ None
-  only_unasked Usage e h = nothing_asked e.replies.is
+  pub only_unasked : (status : Status) → Ends command status l l' w w' old new → status ≡ Usage → command ≡ None
+  only_unasked Usage e h = nothing_asked e.replies
   only_unasked Ok e h = absurd (cc)
   only_unasked ReadFault e h = absurd (cc)
   only_unasked WriteFault e h = absurd (cc)
@@ -127,3 +162,52 @@ module _ (command : Option Command) (l l' w w' : Option (List ℕ)) where
   only_unasked (Limit what) e h = absurd (cc)
   only_unasked (Name x at) e h = absurd (cc)
   only_unasked (Labelled x at from to) e h = absurd (cc)
+  only_unasked (NotEnabled event) e h = absurd (cc)
+  only_unasked (JournalFault node) e h = absurd (cc)
+
+  -- ---- replays
+
+  -- no reply has the status of a journal's fault
+  no_journal_fault : {asked : Option Command} {text reply : List ℕ} {s : Status} {node : ℕ} → Replies asked text s reply → s ≡ JournalFault node → asked ≡ Some Replay
+  no_journal_fault usage h = absurd (cc)
+  no_journal_fault (syntax g) h = absurd (cc)
+  no_journal_fault (limit g) h = absurd (cc)
+  no_journal_fault (formatted g) h = absurd (cc)
+  no_journal_fault (misnamed c g k) h = absurd (cc)
+  no_journal_fault (mislabelled c g k m) h = absurd (cc)
+  no_journal_fault (checked g k m) h = absurd (cc)
+  no_journal_fault (evaluated g k m) h = absurd (cc)
+  no_journal_fault (unlabelled g k m) h = absurd (cc)
+  no_journal_fault (flow g k m n o) h = absurd (cc)
+  no_journal_fault (replayed g k m) h = absurd (cc)
+  no_journal_fault (barred g k m) h = absurd (cc)
+
+  of_replay : {asked : Option Command} {text reply : List ℕ} {status : Status} {node : ℕ} → Answers asked text status reply → status ≡ JournalFault node → asked ≡ Some Replay
+  of_replay (one_reply r) h = no_journal_fault r.is h
+  of_replay (interrupted (in_run g k m)) h = refl
+  of_replay (interrupted (before g k m)) h = refl
+
+  -- a journal's fault comes of a replay
+  pub fault_of_replay : (status : Status) → Ends command status l l' w w' old new → (node : ℕ) → status ≡ JournalFault node → command ≡ Some Replay
+  fault_of_replay (JournalFault m) e node h = of_replay e.replies h
+  fault_of_replay Ok e node h = absurd (cc)
+  fault_of_replay Usage e node h = absurd (cc)
+  fault_of_replay ReadFault e node h = absurd (cc)
+  fault_of_replay WriteFault e node h = absurd (cc)
+  fault_of_replay Memory e node h = absurd (cc)
+  fault_of_replay (Syntax at) e node h = absurd (cc)
+  fault_of_replay (Limit what) e node h = absurd (cc)
+  fault_of_replay (Name x at) e node h = absurd (cc)
+  fault_of_replay (Labelled x at from to) e node h = absurd (cc)
+  fault_of_replay (NotEnabled event) e node h = absurd (cc)
+
+  -- the headline holds of what was written
+  pub whole_headline : (status : Status) → Ends command status l l' w w' old new → command ≡ Some Replay → status ≡ Ok → Headline l l' w w'
+  whole_headline status e asked h =
+      let there : RepliesWith Ok command l l' w w' old new = subst (λ s. Ends command s l l' w w' old new) h e in
+      done_headline l l' w w' old new (subst (λ c. RepliesWith Ok c l l' w w' old new) asked there)
+
+  pub part_headline : (status : Status) → Ends command status l l' w w' old new → (node : ℕ) → status ≡ JournalFault node → Keeps w w' ⊎ Headline l l' w w'
+  part_headline status e node h =
+      let there : RepliesWith (JournalFault node) command l l' w w' old new = subst (λ s. Ends command s l l' w w' old new) h e in
+      fault_headline l l' w w' old new node (subst (λ c. RepliesWith (JournalFault node) c l l' w w' old new) (fault_of_replay status e node h) there)

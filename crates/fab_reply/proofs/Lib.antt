@@ -4,5 +4,6 @@ pub mod Bytes
 pub mod Endings
 pub mod Faults
 pub mod Fronts
-pub mod Replying
 pub mod Refusals
+pub mod Replaying
+pub mod Replying

@@ -1,37 +1,39 @@
 -- The replies to a text.
-use Rattle.std.proofs.Common.{◌≡◌, ◌⊎◌, inl, inr, ◌≤◌, ◌<◌, ◌+◌, ℕ, List, [], ◌∷◌, ◌++◌, length, Option, Some, None, IfSome, MatchOption, refl, sym, ap, ◌∙◌, subst, arith, append-nil, length-append, codes}
+use Rattle.std.proofs.Common.{◌≡◌, inl, inr, ℕ, List, [], ◌++◌, length, Option, Some, None, MatchOption, refl, sym, ap, ◌∙◌, subst, arith, codes}
 use Rattle.std.specs.Prelude.{Contains}
 use Rattle.std.specs.Fmt.{decimal}
-use Rattle.std.specs.Io.KnownBytes.{Appends, IsAtEnd, Consumes}
 use Rattle.fab_base.specs.declared.limit.What.{What}
-use Rattle.fab_base.specs.declared.limit.What.TheVariants as w
 use Rattle.fab_tree.specs.declared.start.Start.{Start}
 use Rattle.fab_tree.specs.Print.{canonical}
 use Rattle.fab_base.specs.declared.label.Label.{Label}
-use Rattle.fab_tree.specs.declared.resolved.Resolved.{Resolved}
-use Rattle.fab_tree.specs.Limits.{first_passed}
 use Rattle.fab_language.specs.declared.rule.Fault.{Fault}
-use Rattle.fab_language.specs.declared.rule.NameRule.{NameRule}
 use Rattle.fab_language.specs.declared.rule.NameRule.TheVariants as rule
 use Rattle.fab_language.specs.Evaluation.{evaluation_text}
 use Rattle.fab_language.specs.Faults.{faults, IsFirst}
 use Rattle.fab_language.specs.Flows.{FlowReply, IsFlowReply}
 use Rattle.fab_language.specs.Numbers.{resolved}
 use Rattle.fab_command.specs.declared.command.Command.{Command}
-use Rattle.fab_command.specs.declared.command.Command.TheVariants.{Check, Evaluate, Flows, Format}
-use Rattle.fab_reply.specs.declared.front.Outcome.{Outcome}
+use Rattle.fab_command.specs.declared.command.Command.TheVariants.{Check, Evaluate, Flows, Format, Replay}
 use Rattle.fab_reply.specs.declared.front.Outcome.TheVariants as outcome
 use Rattle.fab_reply.specs.declared.status.Status.{Status}
-use Rattle.fab_reply.specs.declared.status.Status.TheVariants.{Ok, Usage, ReadFault, WriteFault, Memory, Syntax, Name, Label as Labelled, Limit}
+use Rattle.fab_reply.specs.declared.status.Status.TheVariants.{Ok, Usage, Syntax, Name, Label as Labelled, Limit, NotEnabled}
 use Rattle.fab_reply.specs.Front.{Front, IsFront}
-use Rattle.fab_reply.specs.Reply.{Replies, usage, syntax, limit, formatted, misnamed, mislabelled, checked, evaluated, unlabelled, flow, AsksNames, AsksLabels, IsReply, LacksLabel, label_of, label_line, line, name_line, what_word}
+use Rattle.fab_reply.specs.Reply.{Replies, usage, syntax, limit, formatted, misnamed, mislabelled, checked, evaluated, unlabelled, flow, replayed, barred, AsksNames, AsksLabels, IsReply, LacksLabel, barred_line, label_of, label_line, line, name_line, status_of, text_of, what_word}
 use Rattle.fab_labelling.specs.declared.rule.Refusal.{Refusal}
 use Rattle.fab_labelling.specs.Claims.{IsWellLabelled}
 use Rattle.fab_labelling.specs.Refusals.{IsFirstRefusal}
+use Rattle.fab_rights.specs.declared.rights.Rights.{Rights}
+use Rattle.fab_places.specs.Places.{AreRights}
+use Rattle.fab_settings.specs.Settings.{IsAcceptedWith}
+use Rattle.fab_replay.specs.declared.replayed.Replayed.{Replayed}
+use Rattle.fab_replay.specs.declared.replayed.Replayed.TheVariants as replays
+use Rattle.fab_replay.specs.Replays.{HasNoFault}
+use Rattle.fab_reply.specs.Replays.{ReplaysTo, given_of}
+use Rattle.fab_fitting.proofs.Rights.{one_rights}
+use Rattle.fab_replay.proofs.Exact.{one_answer}
 use Rattle.fab_reply.proofs.Faults.{one_first}
 use Rattle.fab_labelling.proofs.OneRefusal.{one_refusal}
 use Rattle.fab_reply.proofs.Refusals.{none_refused}
-use Rattle.fab_reply.proofs.Fronts.{one_of_long}
 
 -- ---- outcomes that are one
 
@@ -75,6 +77,8 @@ module _ {command : Command} {text : List ℕ} where
       go s r (evaluated {s = b} g h k) = not_bundle (sym (f.only (outcome.Bundle b) g))
       go s r (unlabelled {s = b} g h k) = not_bundle (sym (f.only (outcome.Bundle b) g))
       go s r (flow {s = b} g h k l m) = not_bundle (sym (f.only (outcome.Bundle b) g))
+      go s r (replayed {s = b} g h k) = not_bundle (sym (f.only (outcome.Bundle b) g))
+      go s r (barred {s = b} g h k) = not_bundle (sym (f.only (outcome.Bundle b) g))
 
   pub limit_reply : {what : What} → IsFront text (outcome.Limit what) → IsReply (Some command) text (Limit what) (line (codes "limit " ++ what_word what))
   limit_reply {what = what} f = record { is = limit f.is; only = λ s r. go s r }
@@ -89,6 +93,8 @@ module _ {command : Command} {text : List ℕ} where
       go s r (evaluated {s = b} g h k) = no_limit (sym (f.only (outcome.Bundle b) g))
       go s r (unlabelled {s = b} g h k) = no_limit (sym (f.only (outcome.Bundle b) g))
       go s r (flow {s = b} g h k l m) = no_limit (sym (f.only (outcome.Bundle b) g))
+      go s r (replayed {s = b} g h k) = no_limit (sym (f.only (outcome.Bundle b) g))
+      go s r (barred {s = b} g h k) = no_limit (sym (f.only (outcome.Bundle b) g))
 
 -- ---- of a bundle
 
@@ -125,6 +131,8 @@ module _ {text : List ℕ} {start : Start} (f : IsFront text (outcome.Bundle sta
       go w s r (evaluated g k l) = none_first (ap faults (sym (same g)) ∙ k) h
       go w s r (unlabelled g k l) = none_first (ap faults (sym (same g)) ∙ k) h
       go w s r (flow g k l m n) = none_first (ap faults (sym (same g)) ∙ k) h
+      go w s r (replayed g k l) = none_first (ap faults (sym (same g)) ∙ k.named) h
+      go w s r (barred g k l) = none_first (ap faults (sym (same g)) ∙ k.named) h
 
   here : {b : Start} {x : Refusal} → Front text (outcome.Bundle b) → IsFirstRefusal (resolved b) x → IsFirstRefusal (resolved start) x
   here {b} {x} g h = subst (λ y. IsFirstRefusal (resolved y) x) (same g) h
@@ -145,6 +153,8 @@ module _ {text : List ℕ} {start : Start} (f : IsFront text (outcome.Bundle sta
       go w s r (evaluated {s = b} g k l) = none_refused (resolved start) x (subst (λ z. IsWellLabelled (resolved z)) (same g) l) h
       go w s r (unlabelled g k l) = absurd w
       go w s r (flow g k l m n) = absurd w
+      go w s r (replayed {s = b} g k l) = none_refused (resolved start) x (subst (λ z. IsWellLabelled (resolved z)) (same g) k.labelled) h
+      go w s r (barred {s = b} g k l) = none_refused (resolved start) x (subst (λ z. IsWellLabelled (resolved z)) (same g) k.labelled) h
 
   module _ (right : faults start ≡ []) (well : IsWellLabelled (resolved start)) where
     pub checked_reply : IsReply (Some Check) text Ok (line (codes "ok"))
@@ -166,6 +176,41 @@ module _ {text : List ℕ} {start : Start} (f : IsFront text (outcome.Bundle sta
         go s r (misnamed c g k) = none_first (ap faults (same g) ∙ right) k
         go s r (mislabelled {x = y} c g k l) = none_refused (resolved start) y well (here g l)
         go s r (evaluated g k l) = (refl, ap (λ y. evaluation_text (resolved y)) (same g))
+
+  -- rights of one bundle are the same
+  rights_of : {b : Start} (q rights : Rights) → b ≡ start → AreRights (resolved b) q → AreRights (resolved start) rights → q ≡ rights
+  rights_of q rights e h k = one_rights (resolved start) q rights (subst (λ z. AreRights (resolved z) q) e h) k
+
+  module _ (rights : Rights) (accepted : IsAcceptedWith start rights) where
+    -- what a replay of the bundle comes to without a journal's fault
+    one_replay : {b : Start} {q : Rights} (x y : Replayed) → Front text (outcome.Bundle b) → IsAcceptedWith b q → ReplaysTo b q x → ReplaysTo start rights y
+        → HasNoFault x → HasNoFault y → x ≡ y
+    one_replay {b} {q} x y g k l m noted told =
+        let e = same g in
+        let here : ReplaysTo start rights x = subst (λ z. ReplaysTo start z x) (rights_of q rights e k.rights_are accepted.rights_are) (subst (λ z. ReplaysTo z q x) e l) in
+        one_answer (given_of start rights) here.moves m.moves x y here.run m.run here.told m.told noted told
+
+    pub replay_reply : (reply : List ℕ) → ReplaysTo start rights (replays.Done reply) → IsReply (Some Replay) text Ok reply
+    replay_reply reply m = record { is = replayed f.is accepted m; only = λ s r. go s r }
+      where
+        go : (s : Status) (r : List ℕ) → Replies (Some Replay) text s r → (s ≡ Ok) × (r ≡ reply)
+        go s r (syntax {at = b} g) = not_bundle (f.only (outcome.Syntax b) g)
+        go s r (limit {what = b} g) = no_limit (f.only (outcome.Limit b) g)
+        go s r (misnamed c g k) = none_first (ap faults (same g) ∙ accepted.named) k
+        go s r (mislabelled {x = y} c g k l) = none_refused (resolved start) y accepted.labelled (here g l)
+        go s r (replayed {reply = t} g k l) = let e = one_replay (replays.Done t) (replays.Done reply) g k l m tt tt in (refl, ap text_of e)
+        go s r (barred {event = n} g k l) = let e = one_replay (replays.NotEnabled n) (replays.Done reply) g k l m tt tt in (ap status_of e, ap text_of e)
+
+    pub barred_reply : (event : ℕ) → ReplaysTo start rights (replays.NotEnabled event) → IsReply (Some Replay) text (NotEnabled event) (barred_line event)
+    barred_reply event m = record { is = barred f.is accepted m; only = λ s r. go s r }
+      where
+        go : (s : Status) (r : List ℕ) → Replies (Some Replay) text s r → (s ≡ NotEnabled event) × (r ≡ barred_line event)
+        go s r (syntax {at = b} g) = not_bundle (f.only (outcome.Syntax b) g)
+        go s r (limit {what = b} g) = no_limit (f.only (outcome.Limit b) g)
+        go s r (misnamed c g k) = none_first (ap faults (same g) ∙ accepted.named) k
+        go s r (mislabelled {x = y} c g k l) = none_refused (resolved start) y accepted.labelled (here g l)
+        go s r (replayed {reply = t} g k l) = let e = one_replay (replays.Done t) (replays.NotEnabled event) g k l m tt tt in (ap status_of e, ap text_of e)
+        go s r (barred {event = n} g k l) = let e = one_replay (replays.NotEnabled n) (replays.NotEnabled event) g k l m tt tt in (ap status_of e, ap text_of e)
 
   lacks : (a b : List ℕ) {x y : Label} {A : Type 0} → label_of start a ≡ Some x → label_of start b ≡ Some y → LacksLabel start a b → A
   lacks a b p q (inl n) = absurd (cc)

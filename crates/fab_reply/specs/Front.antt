@@ -1,5 +1,5 @@
 -- What a text comes to before a command does anything with it: a bundle, or a refusal.
-use Rattle.std.specs.Prelude.{◌≡◌, ℕ, ◌≤◌, ◌<◌, List, [], ◌∷◌, length, drop, Option, Some, None}
+use Rattle.std.specs.Prelude.{◌≡◌, ℕ, ◌≤◌, ◌<◌, List, [], ◌∷◌, length, drop, Some, None}
 use Rattle.fab_base.specs.declared.limit.What.{What}
 use Rattle.fab_base.specs.declared.limit.What.TheVariants.{Bytes, Depth}
 use Rattle.fab_base.specs.declared.token.Token.{Token}

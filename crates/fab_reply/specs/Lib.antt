@@ -1,4 +1,6 @@
 pub mod Accepted
 pub mod Front
+pub mod Headline
 pub mod Reading
+pub mod Replays
 pub mod Reply

@@ -1,5 +1,5 @@
 -- What the program replies.
-use Rattle.std.specs.Prelude.{◌≡◌, ◌⊎◌, ℕ, ◌≤◌, List, [], ◌∷◌, ◌++◌, map, length, Option, Some, None, find, option_map, slice_get, codes}
+use Rattle.std.specs.Prelude.{◌≡◌, ◌⊎◌, ℕ, IsTrue, List, [], ◌∷◌, ◌++◌, length, Option, Some, None, find, option_map, slice_get, codes}
 use Rattle.std.specs.Fmt.{decimal}
 use Rattle.std.specs.Io.KnownBytes.{Appends, Keeps}
 use Rattle.std.specs.Str.{bytes_eq}
@@ -27,10 +27,17 @@ use Rattle.fab_labelling.specs.Refusals.{IsFirstRefusal}
 use Rattle.fab_reply.specs.declared.front.Outcome.TheVariants as outcome
 use Rattle.fab_reply.specs.Front.{Front}
 use Rattle.fab_reply.specs.Reading.{ReadsText, WritesFront}
+use Rattle.fab_reply.specs.Replays.{Makers, ReplaysTo, given_of}
+use Rattle.fab_rights.specs.declared.rights.Rights.{Rights}
+use Rattle.fab_settings.specs.Settings.{IsAcceptedWith}
+use Rattle.fab_core.specs.Cores.{is_honest}
+use Rattle.fab_replay.specs.declared.replayed.Replayed.{Replayed}
+use Rattle.fab_replay.specs.declared.replayed.Replayed.TheVariants as replays
+use Rattle.fab_replay.specs.Kept.{IsReplayed, IsPossible}
 use Rattle.fab_reply.specs.declared.status.Status.{Status}
-use Rattle.fab_reply.specs.declared.status.Status.TheVariants.{Ok, Usage, ReadFault, WriteFault, Memory, Syntax, Name, Label as Labelled, Limit}
+use Rattle.fab_reply.specs.declared.status.Status.TheVariants.{Ok, Usage, ReadFault, WriteFault, Memory, Syntax, Name, Label as Labelled, Limit, NotEnabled, JournalFault}
 use Rattle.fab_command.specs.declared.command.Command.{Command}
-use Rattle.fab_command.specs.declared.command.Command.TheVariants.{Check, Evaluate, Flows, Format}
+use Rattle.fab_command.specs.declared.command.Command.TheVariants.{Check, Evaluate, Flows, Format, Replay}
 
 -- a line of a text
 abbrev pub line : List ℕ → List ℕ
@@ -88,17 +95,23 @@ abbrev pub label_line : Resolved → Refusal → List ℕ
 label_line r x = line (codes "label " ++ label_rule_word x.rule ++ codes " at " ++ decimal x.at
     ++ codes " from " ++ side_text r x.source ++ codes " to " ++ side_text r x.target)
 
+-- the line of an event of the schedule that may not come, by its number from 1
+abbrev pub barred_line : ℕ → List ℕ
+barred_line event = line (codes "not enabled " ++ decimal event)
+
 -- every command but `fmt` asks for the rules of names and types
 abbrev pub AsksNames : Command → Type 0
 AsksNames Check = Unit {0}
 AsksNames Evaluate = Unit {0}
+AsksNames Replay = Unit {0}
 AsksNames (Flows a b) = Unit {0}
 AsksNames Format = ⊥
 
--- `check` and `eval` ask for the rules of labels
+-- `check`, `eval` and `replay` ask for the rules of labels
 abbrev pub AsksLabels : Command → Type 0
 AsksLabels Check = Unit {0}
 AsksLabels Evaluate = Unit {0}
+AsksLabels Replay = Unit {0}
 AsksLabels (Flows a b) = ⊥
 AsksLabels Format = ⊥
 
@@ -138,11 +151,62 @@ pub data Replies : Option Command → List ℕ → Status → List ℕ → Type 
   flow : {a b text reply : List ℕ} {s : Start} {from to : Label}
       → Front text (outcome.Bundle s) → faults s ≡ [] → label_of s a ≡ Some from → label_of s b ≡ Some to
       → FlowReply (resolved s) from to reply → Replies (Some (Flows a b)) text Ok reply
+  -- the report of the schedule's run, or the first of its events that may not come
+  replayed : {text reply : List ℕ} {s : Start} {rights : Rights}
+      → Front text (outcome.Bundle s) → IsAcceptedWith s rights → ReplaysTo s rights (replays.Done reply) → Replies (Some Replay) text Ok reply
+  barred : {text : List ℕ} {s : Start} {rights : Rights} {event : ℕ}
+      → Front text (outcome.Bundle s) → IsAcceptedWith s rights → ReplaysTo s rights (replays.NotEnabled event)
+      → Replies (Some Replay) text (NotEnabled event) (barred_line event)
+
+-- Interrupted command text status written: a node's journal failed. In a run that is the report of the run as it stands; before there is a
+-- run nothing is written.
+pub data Interrupted : Option Command → List ℕ → Status → List ℕ → Type 0 where
+  in_run : {text reply : List ℕ} {s : Start} {rights : Rights} {node : ℕ}
+      → Front text (outcome.Bundle s) → IsAcceptedWith s rights → ReplaysTo s rights (replays.JournalFault node (Some reply))
+      → Interrupted (Some Replay) text (JournalFault node) reply
+  before : {text : List ℕ} {s : Start} {rights : Rights} {node : ℕ}
+      → Front text (outcome.Bundle s) → IsAcceptedWith s rights → IsTrue (is_honest (given_of s rights) node)
+      → Interrupted (Some Replay) text (JournalFault node) []
 
 -- this is the reply, and there is no other
 pub record IsReply (command : Option Command) (text : List ℕ) (status : Status) (reply : List ℕ) : Type 0 where
   pub is : Replies command text status reply
   pub only : (s : Status) (r : List ℕ) → Replies command text s r → (s ≡ status) × (r ≡ reply)
+
+-- what comes of a text: its one reply, unless a journal failed
+pub data Answers (command : Option Command) (text : List ℕ) (status : Status) (reply : List ℕ) : Type 0 where
+  one_reply : IsReply command text status reply → Answers command text status reply
+  interrupted : Interrupted command text status reply → Answers command text status reply
+
+abbrev pub status_of : Replayed → Status
+status_of (replays.Done reply) = Ok
+status_of (replays.NotEnabled event) = NotEnabled event
+status_of (replays.JournalFault node reply) = JournalFault node
+
+abbrev pub text_of : Replayed → List ℕ
+text_of (replays.Done reply) = reply
+text_of (replays.NotEnabled event) = barred_line event
+text_of (replays.JournalFault node (Some reply)) = reply
+text_of (replays.JournalFault node None) = []
+
+-- This is the reply of a replay of the bundle that the text has, and the journals are as it left them.
+pub record IsReplay (text : List ℕ) (old new : Makers) (status : Status) (reply : List ℕ) : Type 0 where
+  pub start : Start
+  pub rights : Rights
+  pub answer : Replayed
+  pub front : Front text (outcome.Bundle start)
+  pub accepted : IsAcceptedWith start rights
+  pub is : IsReplayed (given_of start rights) answer old.kept new.kept old.faults new.faults
+  pub possible : IsPossible old.may_fail (resolved start) answer
+  pub status_is : status ≡ status_of answer
+  pub reply_is : reply ≡ text_of answer
+
+-- What became of the journals: behind a replay they are as it left them, and nothing came of them otherwise.
+abbrev pub JournalsAre : Option Command → List ℕ → Makers → Makers → Status → List ℕ → Type 0
+JournalsAre (Some Replay) text old new Ok reply = IsReplay text old new Ok reply
+JournalsAre (Some Replay) text old new (NotEnabled event) reply = IsReplay text old new (NotEnabled event) reply
+JournalsAre (Some Replay) text old new (JournalFault node) reply = IsReplay text old new (JournalFault node) reply
+JournalsAre command text old new status reply = new ≡ old
 
 -- this was read for what is asked: the text, or else nothing
 pub data IsInput : Option Command → Option (List ℕ) → Option (List ℕ) → List ℕ → Type 0 where
@@ -150,28 +214,31 @@ pub data IsInput : Option Command → Option (List ℕ) → Option (List ℕ) �
   read : {command : Command} {old new : Option (List ℕ)} {text : List ℕ} → ReadsText old new text → IsInput (Some command) old new text
 
 -- Some front of the reply was written, and the input was read whole.
-pub record RepliesInPart (command : Option Command) (left left' written written' : Option (List ℕ)) : Type 0 where
+pub record RepliesInPart (command : Option Command) (left left' written written' : Option (List ℕ)) (old new : Makers) : Type 0 where
   pub text : List ℕ
   pub status : Status
   pub reply : List ℕ
   pub input : IsInput command left left' text
-  pub replies : IsReply command text status reply
+  pub replies : Answers command text status reply
+  pub journals : JournalsAre command text old new status reply
   pub front : WritesFront written written' reply
 
 -- The whole reply with this status was written, and the input was read whole.
-pub record RepliesWith (status : Status) (command : Option Command) (left left' written written' : Option (List ℕ)) : Type 0 where
+pub record RepliesWith (status : Status) (command : Option Command) (left left' written written' : Option (List ℕ)) (old new : Makers) : Type 0 where
   pub text : List ℕ
   pub reply : List ℕ
   pub input : IsInput command left left' text
-  pub replies : IsReply command text status reply
+  pub replies : Answers command text status reply
+  pub journals : JournalsAre command text old new status reply
   pub all : Appends written written' reply
 
--- What each status says of the source and of the sink, before and after. The last case is that of every status that is a reply.
-abbrev pub Ends : Option Command → Status → Option (List ℕ) → Option (List ℕ) → Option (List ℕ) → Option (List ℕ) → Type 0
-Ends command ReadFault left left' written written' = Keeps written written'
-Ends command Memory left left' written written' = Keeps written written' ⊎ RepliesInPart command left left' written written'
-Ends command WriteFault left left' written written' = RepliesInPart command left left' written written'
-Ends command status left left' written written' = RepliesWith status command left left' written written'
+-- What each status says of the source, of the sink and of the journals, before and after. The last case is that of every status that is a
+-- reply.
+abbrev pub Ends : Option Command → Status → Option (List ℕ) → Option (List ℕ) → Option (List ℕ) → Option (List ℕ) → Makers → Makers → Type 0
+Ends command ReadFault left left' written written' old new = Keeps written written' × (new ≡ old)
+Ends command Memory left left' written written' old new = Keeps written written' ⊎ RepliesInPart command left left' written written' old new
+Ends command WriteFault left left' written written' old new = RepliesInPart command left left' written written' old new
+Ends command status left left' written written' old new = RepliesWith status command left left' written written' old new
 
 -- the status of a text that was read to its end
 abbrev pub SpeaksOfText : Status → Type 0
@@ -181,9 +248,15 @@ SpeaksOfText (Limit w.Bytes) = ⊥
 SpeaksOfText (Limit what) = Unit {0}
 SpeaksOfText (Name x at) = Unit {0}
 SpeaksOfText (Labelled x at source target) = Unit {0}
+SpeaksOfText (NotEnabled event) = Unit {0}
+SpeaksOfText (JournalFault node) = Unit {0}
 SpeaksOfText _ = ⊥
 
--- this status and the whole reply, or memory ran out, or the sink failed
+abbrev pub IsJournalFault : Status → Type 0
+IsJournalFault (JournalFault node) = Unit {0}
+IsJournalFault _ = ⊥
+
+-- this status and the whole reply, or memory ran out, or the sink or a journal failed
 abbrev pub ComesTo : Status → Status → Option (List ℕ) → Option (List ℕ) → List ℕ → Type 0
 ComesTo found status written written' reply =
-    ((found ≡ status) × Appends written written' reply) ⊎ ((found ≡ Memory) ⊎ (found ≡ WriteFault))
+    ((found ≡ status) × Appends written written' reply) ⊎ ((found ≡ Memory) ⊎ ((found ≡ WriteFault) ⊎ IsJournalFault found))

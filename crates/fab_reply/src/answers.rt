@@ -7,19 +7,23 @@ ghost use Rattle.fab_language.specs.Numbers.{resolved as resolved_of};
 ghost use Rattle.fab_language.specs.declared.rule.NameRule.TheVariants.{Unknown};
 ghost use Rattle.fab_command.specs.declared.command.Command.TheVariants as asks;
 ghost use Rattle.fab_reply.specs.Front.{IsFront};
-ghost use Rattle.fab_reply.specs.Reply.{IsReply, label_line, name_line};
+ghost use Rattle.fab_reply.specs.Replays.{Makers};
+ghost use Rattle.fab_reply.specs.Reply.{Answers, IsReply, JournalsAre, label_line, name_line, status_of, text_of};
 ghost use Rattle.fab_reply.specs.declared.front.Outcome.TheVariants.{Bundle};
 ghost use Rattle.fab_reply.specs.declared.status.Status.TheVariants.{Label as Labelled, Name};
 
 use crate::accepted::{Accepted, accept, named};
-use crate::lines::{label_line, name_line};
+use crate::lines::{barred_line, label_line, name_line};
 use crate::status::Status;
 use fab_base::{NoMemory, Seq, Text};
+use fab_device::Journals;
 use fab_evaluation::evaluation;
 use fab_flows::flow_reply;
 use fab_labelling::Refusal;
 use fab_language::{Fault, NameRule};
 use fab_print::print_start;
+use fab_replay::{Replayed, replay};
+use fab_setup::accepted_setup;
 use fab_tree::Start;
 use fab_tree::resolved::{NamedLabel, Resolved};
 use std::alloc::{AllocError, Global};
@@ -102,6 +106,50 @@ pub(crate) fn evaluate(
         Accepted::Bundle(resolved) => {
             let reply = evaluation(alloc, resolved)?;
             Ok((Status::Ok, reply))
+        }
+        Accepted::Misnamed(fault) => refused(alloc, fault),
+        Accepted::Mislabelled { resolved, refusal } => mislabelled(alloc, &resolved, refusal),
+    }
+}
+
+/// The status and the text of what a replay comes to.
+fn told(alloc: Global, answer: Replayed) -> Result<(Status, Seq<u8>), NoMemory>
+    ensures { IfOk result (λ r. (r.0 ≡ status_of answer) × (r.1 ≡ text_of answer)) }
+{
+    match answer {
+        Replayed::Done(report) => Ok((Status::Ok, report)),
+        Replayed::NotEnabled { event } => {
+            let reply = barred_line(alloc, event)?;
+            Ok((Status::NotEnabled { event }, reply))
+        }
+        Replayed::JournalFault { node, report } => {
+            let reply = report.unwrap_or(Seq::new(alloc));
+            Ok((Status::JournalFault { node }, reply))
+        }
+    }
+}
+
+/// What `replay` replies to a text with this bundle.
+pub(crate) fn replayed<M: Journals>(
+    alloc: Global,
+    text: &[u8],
+    start: &Start,
+    journals: &mut M,
+) -> Result<(Status, Seq<u8>), NoMemory>
+    requires { IsFront text.now (Bundle start.now) }
+    ensures replies { IfOk result (λ r. Answers (Some asks.Replay) text.now r.0 r.1) }
+    ensures journals { IfOk result (λ r. JournalsAre (Some asks.Replay) text.now
+        (record { may_fail = M.may_fail journals.old; kept = M.kept journals.old; faults = M.faults journals.old })
+        (record { may_fail = M.may_fail journals.new; kept = M.kept journals.new; faults = M.faults journals.new }) r.0 r.1) }
+    ensures later { M.faults journals.old ≤ M.faults journals.new }
+    ensures told { M.may_fail journals.new ≡ M.may_fail journals.old }
+{
+    let _text = text;
+    match accept(alloc, start)? {
+        Accepted::Bundle(resolved) => {
+            let setup = accepted_setup(alloc, resolved)?;
+            let answer = replay(alloc, setup.program, setup.rights, journals)?;
+            told(alloc, answer)
         }
         Accepted::Misnamed(fault) => refused(alloc, fault),
         Accepted::Mislabelled { resolved, refusal } => mislabelled(alloc, &resolved, refusal),

@@ -2,14 +2,16 @@
 ghost use Rattle.std.specs.Prelude.{◌≡◌, ◌≢◌, ◌⊎◌, ◌≤◌, List, ℕ, Some, None as Nothing, codes, IfOk, IfSome, IsErrOf};
 ghost use Rattle.std.specs.Io.KnownBytes.{Keeps, IsAtEnd};
 ghost use Rattle.fab_base.specs.Faults.{Rose};
-ghost use Rattle.fab_reply.specs.Reply.{Replies, IsReply, IsInput, Ends, ComesTo, SpeaksOfText, RepliesInPart, line};
+ghost use Rattle.fab_command.specs.declared.command.Command.TheVariants.{Replay};
+ghost use Rattle.fab_reply.specs.Headline.{Headline};
+ghost use Rattle.fab_reply.specs.Reply.{Answers, Replies, IsInput, Ends, ComesTo, JournalsAre, SpeaksOfText, RepliesInPart, line};
 ghost use Rattle.fab_reply.specs.Front.{IsFront};
 ghost use Rattle.fab_reply.specs.Reading.{TakesAtMost};
 ghost use Rattle.fab_reply.specs.declared.reading.ReadError.TheVariants.{Fault};
 ghost use Rattle.fab_reply.specs.declared.status.Status.{Status as AnyStatus};
-ghost use Rattle.fab_reply.specs.declared.status.Status.TheVariants.{Usage, ReadFault, WriteFault, Memory};
+ghost use Rattle.fab_reply.specs.declared.status.Status.TheVariants.{Ok as Done, Usage, ReadFault, WriteFault, Memory, JournalFault};
 
-use crate::answers::{checked, evaluate, flows, format};
+use crate::answers::{checked, evaluate, flows, format, replayed};
 use crate::front::{Outcome, front};
 use crate::lines::{limit_line, syntax_line};
 use crate::reading::{ReadError, read_all};
@@ -17,11 +19,23 @@ use crate::status::Status;
 use crate::writing::write_all;
 use fab_base::{NoMemory, Seq, Sink, SinkError, Source};
 use fab_command::Command;
+use fab_device::Journals;
 use std::alloc::Global;
 
 /// What a command replies to a text.
-fn replied(alloc: Global, command: &Command, text: &[u8]) -> Result<(Status, Seq<u8>), NoMemory>
-    ensures { IfOk result (λ r. IsReply (Some command.now) text.now r.0 r.1) }
+fn replied<M: Journals>(
+    alloc: Global,
+    command: &Command,
+    text: &[u8],
+    journals: &mut M,
+) -> Result<(Status, Seq<u8>), NoMemory>
+    ensures replies { IfOk result (λ r. Answers (Some command.now) text.now r.0 r.1) }
+    ensures journals { IfOk result (λ r. JournalsAre (Some command.now) text.now
+        (record { may_fail = M.may_fail journals.old; kept = M.kept journals.old; faults = M.faults journals.old })
+        (record { may_fail = M.may_fail journals.new; kept = M.kept journals.new; faults = M.faults journals.new }) r.0 r.1) }
+    ensures untouched { (command.now ≡ Replay → ⊥) → journals.new ≡ journals.old }
+    ensures later { M.faults journals.old ≤ M.faults journals.new }
+    ensures told { M.may_fail journals.new ≡ M.may_fail journals.old }
 {
     match front(alloc, text)? {
         Outcome::Syntax { at } => {
@@ -37,17 +51,26 @@ fn replied(alloc: Global, command: &Command, text: &[u8]) -> Result<(Status, Seq
             Command::Evaluate => evaluate(alloc, text, &start),
             Command::Flows { from, to } => flows(alloc, text, &start, from, to),
             Command::Format => format(alloc, text, &start),
+            Command::Replay => replayed(alloc, text, &start, journals),
         },
     }
 }
 
 /// The status and the text to write, after reading.
-fn reply<S: Source>(
+fn reply<S: Source, M: Journals>(
     alloc: Global,
     asked: Option<Command>,
     source: &mut S,
+    journals: &mut M,
 ) -> Result<(Status, Seq<u8>), ReadError>
-    ensures given { IfOk result (λ r. (text : List ℕ) × IsInput asked (S.left source.old) (S.left source.new) text × IsReply asked text r.0 r.1) }
+    ensures given { IfOk result (λ r. (text : List ℕ) × IsInput asked (S.left source.old) (S.left source.new) text × Answers asked text r.0 r.1
+        × JournalsAre asked text
+        (record { may_fail = M.may_fail journals.old; kept = M.kept journals.old; faults = M.faults journals.old })
+        (record { may_fail = M.may_fail journals.new; kept = M.kept journals.new; faults = M.faults journals.new }) r.0 r.1) }
+    ensures untouched { (asked ≡ Some Replay → ⊥) → journals.new ≡ journals.old }
+    ensures unmade { IsErrOf result Fault → journals.new ≡ journals.old }
+    ensures faulty { M.faults journals.old ≤ M.faults journals.new }
+    ensures told { M.may_fail journals.new ≡ M.may_fail journals.old }
     ensures unread { asked ≡ Nothing → source.new ≡ source.old }
     ensures taken { TakesAtMost 4194305 (S.left source.old) (S.left source.new) }
     ensures later { S.faults source.old ≤ S.faults source.new }
@@ -59,19 +82,25 @@ fn reply<S: Source>(
         None => Ok((Status::Usage, Seq::from_slice(alloc, b"usage\n")?)),
         Some(command) => {
             let text = read_all(alloc, source)?;
-            Ok(replied(alloc, &command, &text)?)
+            Ok(replied(alloc, &command, &text, journals)?)
         }
     }
 }
 
 /// Replies, and says how it ended.
-fn run<S: Source, K: Sink>(
+fn run<S: Source, K: Sink, M: Journals>(
     alloc: Global,
     asked: Option<Command>,
     source: &mut S,
     sink: &mut K,
+    journals: &mut M,
 ) -> Status
-    ensures means { Ends asked result (S.left source.old) (S.left source.new) (K.written sink.old) (K.written sink.new) }
+    ensures means { Ends asked result (S.left source.old) (S.left source.new) (K.written sink.old) (K.written sink.new)
+        (record { may_fail = M.may_fail journals.old; kept = M.kept journals.old; faults = M.faults journals.old })
+        (record { may_fail = M.may_fail journals.new; kept = M.kept journals.new; faults = M.faults journals.new }) }
+    ensures untouched { (asked ≡ Some Replay → ⊥) → journals.new ≡ journals.old }
+    ensures faulty { M.faults journals.old ≤ M.faults journals.new }
+    ensures told { M.may_fail journals.new ≡ M.may_fail journals.old }
     ensures unread { asked ≡ Nothing → source.new ≡ source.old }
     ensures taken { TakesAtMost 4194305 (S.left source.old) (S.left source.new) }
     ensures read { result ≡ ReadFault → Rose (S.faults source.old) (S.faults source.new) }
@@ -83,7 +112,7 @@ fn run<S: Source, K: Sink>(
     ensures source_unfailed { result ≢ ReadFault → S.faults source.new ≡ S.faults source.old }
     ensures sink_unfailed { result ≢ WriteFault → K.faults sink.new ≡ K.faults sink.old }
 {
-    let (status, text) = match reply(alloc, asked, source) {
+    let (status, text) = match reply(alloc, asked, source, journals) {
         Ok(reply) => reply,
         Err(ReadError::Memory) => return Status::Memory,
         Err(ReadError::Fault) => return Status::ReadFault,
@@ -100,20 +129,23 @@ fn run<S: Source, K: Sink>(
 ///
 /// `check` asks whether the bundle that the source has keeps the rules of labels, `eval` for its
 /// evaluation, `flows A B` whether its label A
-/// flows to its label B, with the reasons, `fmt` for its canonical text. A text has at most
-/// 4,194,304 bytes. Of what the source has left and the sink holds, the clauses speak where these
-/// tell it.
-pub fn answer<S: Source, K: Sink>(
+/// flows to its label B, with the reasons, `fmt` for its canonical text, `replay` for the report of its
+/// schedule's run. A text has at most 4,194,304 bytes. Of what the source has left, what the sink holds
+/// and which journals were kept, the clauses speak where these tell it.
+pub fn answer<S: Source, K: Sink, M: Journals>(
     alloc: Global,
     asked: Option<Command>,
     source: &mut S,
     sink: &mut K,
+    journals: &mut M,
 ) -> Status
     // What each status says of what was read and of what was written.
-    ensures means { Ends asked result (S.left source.old) (S.left source.new) (K.written sink.old) (K.written sink.new) }
+    ensures means { Ends asked result (S.left source.old) (S.left source.new) (K.written sink.old) (K.written sink.new)
+        (record { may_fail = M.may_fail journals.old; kept = M.kept journals.old; faults = M.faults journals.old })
+        (record { may_fail = M.may_fail journals.new; kept = M.kept journals.new; faults = M.faults journals.new }) }
 
-    // Whatever reply the command and the text have is the one that comes, whole, unless the source
-    // or the sink fails or memory runs out; so each refusal comes exactly where it should.
+    // Whatever reply the command and the text have is the one that comes, whole, unless the source,
+    // the sink or a journal fails or memory runs out; so each refusal comes exactly where it should.
     ensures exact { result ≢ ReadFault → IfSome (S.left source.old) (λ text. (status : AnyStatus) (reply : List ℕ) → Replies asked text status reply → ComesTo result status (K.written sink.old) (K.written sink.new) reply) }
 
     // `Usage` comes exactly where nothing is asked, and nothing is read then.
@@ -132,16 +164,34 @@ pub fn answer<S: Source, K: Sink>(
 
     // `WriteFault` comes only where the sink's faults rose, and a front of the reply is written.
     ensures write_fault { result ≡ WriteFault → Rose (K.faults sink.old) (K.faults sink.new) }
-    ensures write_fault_front { result ≡ WriteFault → RepliesInPart asked (S.left source.old) (S.left source.new) (K.written sink.old) (K.written sink.new) }
+    ensures write_fault_front { result ≡ WriteFault → RepliesInPart asked (S.left source.old) (S.left source.new) (K.written sink.old) (K.written sink.new)
+        (record { may_fail = M.may_fail journals.old; kept = M.kept journals.old; faults = M.faults journals.old })
+        (record { may_fail = M.may_fail journals.new; kept = M.kept journals.new; faults = M.faults journals.new }) }
 
     // With `Memory` nothing is written, or a front of the reply to what was read.
-    ensures memory { result ≡ Memory → Keeps (K.written sink.old) (K.written sink.new) ⊎ RepliesInPart asked (S.left source.old) (S.left source.new) (K.written sink.old) (K.written sink.new) }
+    ensures memory { result ≡ Memory → Keeps (K.written sink.old) (K.written sink.new) ⊎ RepliesInPart asked (S.left source.old) (S.left source.new) (K.written sink.old) (K.written sink.new)
+        (record { may_fail = M.may_fail journals.old; kept = M.kept journals.old; faults = M.faults journals.old })
+        (record { may_fail = M.may_fail journals.new; kept = M.kept journals.new; faults = M.faults journals.new }) }
     ensures source_faults { S.faults source.old ≤ S.faults source.new }
     ensures sink_faults { K.faults sink.old ≤ K.faults sink.new }
 
     // The counts stay at each other status, so a fault is told as one, and not as want of memory.
     ensures source_unfailed { result ≢ ReadFault → S.faults source.new ≡ S.faults source.old }
     ensures sink_unfailed { result ≢ WriteFault → K.faults sink.new ≡ K.faults sink.old }
+
+    // With `Ok` of a replay, and where a journal failed in its run, the report of that run was written,
+    // and the headline's first half holds of it. Where a journal failed before there was a run, nothing
+    // was written.
+    ensures headline { asked ≡ Some Replay → result ≡ Done → Headline (S.left source.old) (S.left source.new) (K.written sink.old) (K.written sink.new) }
+    ensures headline_of_a_part { (node : ℕ) → result ≡ JournalFault node
+        → Keeps (K.written sink.old) (K.written sink.new) ⊎ Headline (S.left source.old) (S.left source.new) (K.written sink.old) (K.written sink.new) }
+
+    // `JournalFault` comes of a replay alone, and only it makes journals and has them kept. What was kept,
+    // and which faults there were, says `means`.
+    ensures journal_fault { (node : ℕ) → result ≡ JournalFault node → asked ≡ Some Replay }
+    ensures journals_untouched { (asked ≡ Some Replay → ⊥) → journals.new ≡ journals.old }
+    ensures journals_faults { M.faults journals.old ≤ M.faults journals.new }
+    ensures journals_told { M.may_fail journals.new ≡ M.may_fail journals.old }
 {
-    run(alloc, asked, source, sink)
+    run(alloc, asked, source, sink, journals)
 }

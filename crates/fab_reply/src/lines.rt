@@ -55,6 +55,17 @@ pub(crate) fn syntax_line(alloc: Global, at: u32) -> Result<Seq<u8>, NoMemory>
     Ok(out)
 }
 
+/// `not enabled` and the number of the event.
+pub(crate) fn barred_line(alloc: Global, event: u32) -> Result<Seq<u8>, NoMemory>
+    ensures { IfOk result (λ out. out ≡ line (codes "not enabled " ++ decimal event)) }
+{
+    let mut out = Seq::from_slice(alloc, b"not enabled ")?;
+    let digits = format!(in alloc; "{event}")?;
+    out.extend(digits.as_str().as_bytes())?;
+    out.push(b'\n')?;
+    Ok(out)
+}
+
 /// The word of a rule of names and types.
 fn rule_word(rule: NameRule) -> &'static str
     ensures { result.now ≡ rule_word_of rule }

@@ -46,6 +46,14 @@ pub enum Status {
     Limit {
         what: What,
     },
+    /// The event of this number in the schedule, from 1, may not come.
+    NotEnabled {
+        event: u32,
+    },
+    /// The journal of this node failed.
+    JournalFault {
+        node: u16,
+    },
 }
 
 impl Status {
@@ -60,6 +68,8 @@ impl Status {
         ensures name { (rule : Rule) (at : ℕ) → self ≡ status.Name rule at → result ≡ 6 }
         ensures label { (rule : LabelsRule) (at : ℕ) (source target : OneSide) → self ≡ status.Label rule at source target → result ≡ 7 }
         ensures limit { (what : WhatHasALimit) → self ≡ status.Limit what → result ≡ 8 }
+        ensures not_enabled { (event : ℕ) → self ≡ status.NotEnabled event → result ≡ 9 }
+        ensures journal_fault { (node : ℕ) → self ≡ status.JournalFault node → result ≡ 10 }
     {
         match self {
             Status::Ok => 0,
@@ -71,6 +81,8 @@ impl Status {
             Status::Name { .. } => 6,
             Status::Label { .. } => 7,
             Status::Limit { .. } => 8,
+            Status::NotEnabled { .. } => 9,
+            Status::JournalFault { .. } => 10,
         }
     }
 }

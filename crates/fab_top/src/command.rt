@@ -1,14 +1,17 @@
 //! What the program does with its words, its input and its output.
-ghost use Rattle.std.specs.Prelude.{◌≡◌, ◌≢◌, ◌⊎◌, ◌≤◌, List, ℕ, None as Nothing, codes, IfSome};
+ghost use Rattle.std.specs.Prelude.{◌≡◌, ◌≢◌, ◌⊎◌, ◌≤◌, List, ℕ, Some, None as Nothing, codes, IfSome};
 ghost use Rattle.std.specs.Io.KnownBytes.{Keeps, IsAtEnd};
 ghost use Rattle.fab_base.specs.Faults.{Rose};
 ghost use Rattle.fab_words.specs.Words.{asked_by};
 ghost use Rattle.fab_reply.specs.Reply.{Replies, Ends, ComesTo, SpeaksOfText, RepliesInPart, line};
 ghost use Rattle.fab_reply.specs.Reading.{TakesAtMost};
 ghost use Rattle.fab_reply.specs.declared.status.Status.{Status as AnyStatus};
-ghost use Rattle.fab_reply.specs.declared.status.Status.TheVariants.{Usage, ReadFault, WriteFault, Memory};
+ghost use Rattle.fab_reply.specs.declared.status.Status.TheVariants.{Ok as Done, Usage, ReadFault, WriteFault, Memory, JournalFault};
+ghost use Rattle.fab_command.specs.declared.command.Command.TheVariants.{Replay};
+ghost use Rattle.fab_reply.specs.Headline.{Headline};
 
 use fab_base::{Sink, Source};
+use fab_device::Journals;
 use fab_reply::{Status, answer};
 use fab_words::asked_command;
 use std::alloc::{AllocError, Global};
@@ -17,19 +20,23 @@ use std::alloc::{AllocError, Global};
 ///
 /// `check` asks whether the bundle that the source has keeps the rules of labels, `eval` for its
 /// evaluation, `flows A B` whether its label A flows to its label B, with the reasons, `fmt` for its
-/// canonical text. A text has at most 4,194,304 bytes. Of what the source has left and the sink
-/// holds, the clauses speak where these tell it.
-pub fn fab<S: Source, K: Sink>(
+/// canonical text, `replay` for the report of its schedule's run. A text has at most 4,194,304 bytes.
+/// Of what the source has left, what the sink holds and which journals were kept, the clauses speak
+/// where these tell it.
+pub fn fab<S: Source, K: Sink, M: Journals>(
     alloc: Global,
     words: &[String],
     source: &mut S,
     sink: &mut K,
+    journals: &mut M,
 ) -> Status
     // What each status says of what was read and of what was written.
-    ensures means { Ends (asked_by words.now) result (S.left source.old) (S.left source.new) (K.written sink.old) (K.written sink.new) }
+    ensures means { Ends (asked_by words.now) result (S.left source.old) (S.left source.new) (K.written sink.old) (K.written sink.new)
+        (record { may_fail = M.may_fail journals.old; kept = M.kept journals.old; faults = M.faults journals.old })
+        (record { may_fail = M.may_fail journals.new; kept = M.kept journals.new; faults = M.faults journals.new }) }
 
-    // Whatever reply the words and the text have is the one that comes, whole, unless the source or
-    // the sink fails or memory runs out; so each refusal comes exactly where it should.
+    // Whatever reply the words and the text have is the one that comes, whole, unless the source,
+    // the sink or a journal fails or memory runs out; so each refusal comes exactly where it should.
     ensures exact { result ≢ ReadFault → IfSome (S.left source.old) (λ text. (status : AnyStatus) (reply : List ℕ) → Replies (asked_by words.now) text status reply → ComesTo result status (K.written sink.old) (K.written sink.new) reply) }
 
     // `Usage` comes exactly where the words ask for nothing, and nothing is read then.
@@ -48,19 +55,37 @@ pub fn fab<S: Source, K: Sink>(
 
     // `WriteFault` comes only where the sink's faults rose, and a front of the reply is written.
     ensures write_fault { result ≡ WriteFault → Rose (K.faults sink.old) (K.faults sink.new) }
-    ensures write_fault_front { result ≡ WriteFault → RepliesInPart (asked_by words.now) (S.left source.old) (S.left source.new) (K.written sink.old) (K.written sink.new) }
+    ensures write_fault_front { result ≡ WriteFault → RepliesInPart (asked_by words.now) (S.left source.old) (S.left source.new) (K.written sink.old) (K.written sink.new)
+        (record { may_fail = M.may_fail journals.old; kept = M.kept journals.old; faults = M.faults journals.old })
+        (record { may_fail = M.may_fail journals.new; kept = M.kept journals.new; faults = M.faults journals.new }) }
 
     // With `Memory` nothing is written, or a front of the reply to what was read.
-    ensures memory { result ≡ Memory → Keeps (K.written sink.old) (K.written sink.new) ⊎ RepliesInPart (asked_by words.now) (S.left source.old) (S.left source.new) (K.written sink.old) (K.written sink.new) }
+    ensures memory { result ≡ Memory → Keeps (K.written sink.old) (K.written sink.new) ⊎ RepliesInPart (asked_by words.now) (S.left source.old) (S.left source.new) (K.written sink.old) (K.written sink.new)
+        (record { may_fail = M.may_fail journals.old; kept = M.kept journals.old; faults = M.faults journals.old })
+        (record { may_fail = M.may_fail journals.new; kept = M.kept journals.new; faults = M.faults journals.new }) }
     ensures source_faults { S.faults source.old ≤ S.faults source.new }
     ensures sink_faults { K.faults sink.old ≤ K.faults sink.new }
 
     // The counts stay at each other status, so a fault is told as one, and not as want of memory.
     ensures source_unfailed { result ≢ ReadFault → S.faults source.new ≡ S.faults source.old }
     ensures sink_unfailed { result ≢ WriteFault → K.faults sink.new ≡ K.faults sink.old }
+
+    // With `Ok` of a replay, and where a journal failed in its run, the report of that run was written,
+    // and the headline's first half holds of it. Where a journal failed before there was a run, nothing
+    // was written.
+    ensures headline { asked_by words.now ≡ Some Replay → result ≡ Done → Headline (S.left source.old) (S.left source.new) (K.written sink.old) (K.written sink.new) }
+    ensures headline_of_a_part { (node : ℕ) → result ≡ JournalFault node
+        → Keeps (K.written sink.old) (K.written sink.new) ⊎ Headline (S.left source.old) (S.left source.new) (K.written sink.old) (K.written sink.new) }
+
+    // `JournalFault` comes of a replay alone, and only it makes journals and has them kept. What was kept,
+    // and which faults there were, says `means`.
+    ensures journal_fault { (node : ℕ) → result ≡ JournalFault node → asked_by words.now ≡ Some Replay }
+    ensures journals_untouched { (asked_by words.now ≡ Some Replay → ⊥) → journals.new ≡ journals.old }
+    ensures journals_faults { M.faults journals.old ≤ M.faults journals.new }
+    ensures journals_told { M.may_fail journals.new ≡ M.may_fail journals.old }
 {
     match asked_command(alloc, words) {
-        Ok(asked) => answer(alloc, asked, source, sink),
+        Ok(asked) => answer(alloc, asked, source, sink, journals),
         Err(AllocError) => Status::Memory,
     }
 }

@@ -15,6 +15,8 @@ mod name_tests;
 #[cfg(test)]
 mod print_tests;
 #[cfg(test)]
+mod replay_tests;
+#[cfg(test)]
 mod syntax_tests;
 #[cfg(test)]
 mod tests;

@@ -5,17 +5,20 @@ use crate::{Status, fab};
 use fab_base::{
     Failed, MemSink, MemSource, NoMemory, Seq, Sink, SinkError, Source, SureSink, SureSource, What,
 };
+use fab_device::SureJournals;
 use std::alloc::Global;
 use std::process::Abort;
 use std::test::Fail;
 
 const SMALLEST: &str = "worker w1;store s1;run{}";
 
-/// One word, as a list of words.
-fn one_word(alloc: Global, word: &str) -> Result<Vec<String>, NoMemory> {
-    let mut words = Vec::new(alloc);
-    words.push(String::from_str(alloc, word)?)?;
-    Ok(words)
+/// The words of a command line.
+pub(crate) fn words_of(alloc: Global, words: &str) -> Result<Vec<String>, NoMemory> {
+    let mut list = Vec::new(alloc);
+    for word in words.split(' ') {
+        list.push(String::from_str(alloc, word)?)?;
+    }
+    Ok(list)
 }
 
 /// Asks for this of a text, and compares the status and what is written.
@@ -27,10 +30,11 @@ pub(crate) fn expect(
     status: Status,
     reply: &str,
 ) -> Result<(), NoMemory> {
-    let words = one_word(alloc, word)?;
+    let words = words_of(alloc, word)?;
     let mut source = SureSource::new(Seq::from_slice(alloc, text)?);
     let mut sink = SureSink::new(alloc)?;
-    let found = fab(alloc, &words, &mut source, &mut sink);
+    let mut journals = SureJournals::new(alloc)?;
+    let found = fab(alloc, &words, &mut source, &mut sink, &mut journals);
     assert_eq!(rt; found, status);
     assert_eq!(rt; sink.bytes(), reply.as_bytes());
     Ok(())
@@ -47,13 +51,11 @@ pub(crate) fn replies(
     reply: &str,
     row: &str,
 ) -> Result<(), NoMemory> {
-    let mut list = Vec::new(alloc);
-    for word in words.split(' ') {
-        list.push(String::from_str(alloc, word)?)?;
-    }
+    let list = words_of(alloc, words)?;
     let mut source = SureSource::new(Seq::from_slice(alloc, text.as_bytes())?);
     let mut sink = SureSink::new(alloc)?;
-    let found = fab(alloc, &list, &mut source, &mut sink);
+    let mut journals = SureJournals::new(alloc)?;
+    let found = fab(alloc, &list, &mut source, &mut sink, &mut journals);
     assert_eq!(rt; found.number(), status, "{words}: {row}");
     let Ok(written) = std::str::from_utf8(sink.bytes()) else {
         panic!(rt; "no text of {words}: {row}");
@@ -78,11 +80,12 @@ pub(crate) fn refused(rt: &impl Abort, alloc: Global, table: &str) -> Result<(),
 #[test]
 fn other_words(rt: HostRuntime) -> Result<(), Fail> {
     let alloc = rt.alloc();
-    let words = one_word(alloc, "run")?;
+    let words = words_of(alloc, "run")?;
     let text = Seq::from_slice(alloc, SMALLEST.as_bytes())?;
     let mut source = MemSource::with_fails(alloc, text, Seq::from_slice(alloc, &[1])?)?;
     let mut sink = SureSink::new(alloc)?;
-    let status = fab(alloc, &words, &mut source, &mut sink);
+    let mut journals = SureJournals::new(alloc)?;
+    let status = fab(alloc, &words, &mut source, &mut sink, &mut journals);
     assert_eq!(rt; status, Status::Usage);
     assert_eq!(rt; sink.bytes(), b"usage\n".as_slice());
     Ok(())
@@ -91,11 +94,12 @@ fn other_words(rt: HostRuntime) -> Result<(), Fail> {
 #[test]
 fn second_read_fails(rt: HostRuntime) -> Result<(), Fail> {
     let alloc = rt.alloc();
-    let words = one_word(alloc, "fmt")?;
+    let words = words_of(alloc, "fmt")?;
     let text = Seq::from_slice(alloc, SMALLEST.as_bytes())?;
     let mut source = MemSource::with_fails(alloc, text, Seq::from_slice(alloc, &[2])?)?;
     let mut sink = SureSink::new(alloc)?;
-    let status = fab(alloc, &words, &mut source, &mut sink);
+    let mut journals = SureJournals::new(alloc)?;
+    let status = fab(alloc, &words, &mut source, &mut sink, &mut journals);
     assert_eq!(rt; status, Status::ReadFault);
     assert_eq!(rt; sink.bytes(), b"".as_slice());
     Ok(())
@@ -129,14 +133,15 @@ impl Source for Spaces {
 #[test]
 fn pieces_of_65_536_bytes(rt: HostRuntime) -> Result<(), Fail> {
     let alloc = rt.alloc();
-    let words = one_word(alloc, "eval")?;
+    let words = words_of(alloc, "eval")?;
     let mut source = Spaces {
         reads: 0,
         longest: 0,
         last: 0,
     };
     let mut sink = SureSink::new(alloc)?;
-    let status = fab(alloc, &words, &mut source, &mut sink);
+    let mut journals = SureJournals::new(alloc)?;
+    let status = fab(alloc, &words, &mut source, &mut sink, &mut journals);
     assert_eq!(rt; status, Status::Limit { what: What::Bytes });
     assert_eq!(rt; source.reads, 65);
     assert_eq!(rt; source.longest, 65_536);
@@ -174,14 +179,15 @@ impl Sink for Drip {
     }
 }
 
-/// The evaluation of the smallest bundle, `end`, where the write of this number fails.
+/// What the smallest bundle is replied to this word, where the write of this number fails.
 fn expect_front(
     rt: &impl Abort,
     alloc: Global,
+    word: &str,
     fails_at: u32,
     front: &str,
 ) -> Result<(), NoMemory> {
-    let words = one_word(alloc, "eval")?;
+    let words = words_of(alloc, word)?;
     let mut source = SureSource::new(Seq::from_slice(alloc, SMALLEST.as_bytes())?);
     let mut sink = Drip {
         bytes: Vec::new(alloc),
@@ -189,19 +195,30 @@ fn expect_front(
         fails_at,
         faults: 0,
     };
-    let status = fab(alloc, &words, &mut source, &mut sink);
+    let mut journals = SureJournals::new(alloc)?;
+    let status = fab(alloc, &words, &mut source, &mut sink, &mut journals);
     assert_eq!(rt; status, Status::WriteFault);
     assert_eq!(rt; sink.bytes.as_slice(), front.as_bytes());
+    Ok(())
+}
+
+/// Where any of its writes fails, of a byte each, what was written before is a front of the reply.
+fn expect_fronts(rt: &impl Abort, alloc: Global, word: &str, reply: &str) -> Result<(), NoMemory> {
+    let mut front = String::new(alloc);
+    let mut number = 0u32;
+    for letter in reply.chars() {
+        number = number.saturating_add(1);
+        expect_front(rt, alloc, word, number, front.as_str())?;
+        front.push(letter)?;
+    }
     Ok(())
 }
 
 #[test]
 fn a_write_fails(rt: HostRuntime) -> Result<(), Fail> {
     let alloc = rt.alloc();
-    expect_front(&rt, alloc, 1, "")?;
-    expect_front(&rt, alloc, 2, "e")?;
-    expect_front(&rt, alloc, 3, "en")?;
-    expect_front(&rt, alloc, 4, "end")?;
+    expect_fronts(&rt, alloc, "eval", "end\n")?;
+    expect_fronts(&rt, alloc, "replay", "fab report 1\nend 0\n")?;
     Ok(())
 }
 
@@ -209,10 +226,11 @@ fn a_write_fails(rt: HostRuntime) -> Result<(), Fail> {
 #[test]
 fn a_refusal_is_not_written(rt: HostRuntime) -> Result<(), Fail> {
     let alloc = rt.alloc();
-    let words = one_word(alloc, "fmt")?;
+    let words = words_of(alloc, "fmt")?;
     let mut source = SureSource::new(Seq::from_slice(alloc, b"run")?);
     let mut sink = MemSink::with_fails(alloc, Seq::from_slice(alloc, &[1])?)?;
-    let status = fab(alloc, &words, &mut source, &mut sink);
+    let mut journals = SureJournals::new(alloc)?;
+    let status = fab(alloc, &words, &mut source, &mut sink, &mut journals);
     assert_eq!(rt; status, Status::WriteFault);
     assert_eq!(rt; sink.bytes(), b"".as_slice());
     Ok(())
@@ -242,10 +260,11 @@ impl Sink for Full {
 #[test]
 fn nothing_is_taken(rt: HostRuntime) -> Result<(), Fail> {
     let alloc = rt.alloc();
-    let words = one_word(alloc, "fmt")?;
+    let words = words_of(alloc, "fmt")?;
     let mut source = SureSource::new(Seq::from_slice(alloc, SMALLEST.as_bytes())?);
     let mut sink = Full { faults: 0 };
-    let status = fab(alloc, &words, &mut source, &mut sink);
+    let mut journals = SureJournals::new(alloc)?;
+    let status = fab(alloc, &words, &mut source, &mut sink, &mut journals);
     assert_eq!(rt; status, Status::WriteFault);
     Ok(())
 }

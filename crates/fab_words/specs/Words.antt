@@ -3,7 +3,7 @@ use Rattle.std.specs.Prelude.{ℕ, Bool, ◌&&◌, List, [], ◌∷◌, map, Opt
 use Rattle.std.specs.Str.{bytes_eq}
 use Rattle.std.specs.declared.alloc.Global.{Global}
 use Rattle.fab_command.specs.declared.command.Command.{Command}
-use Rattle.fab_command.specs.declared.command.Command.TheVariants.{Check, Evaluate, Flows, Format}
+use Rattle.fab_command.specs.declared.command.Command.TheVariants.{Check, Evaluate, Flows, Format, Replay}
 use Rattle.fab_words.specs.Names.{is_name_word}
 
 -- the command of one word
@@ -11,7 +11,8 @@ abbrev pub command_of : List ℕ → Option Command
 command_of word =
     if bytes_eq word (codes "check") then Some Check
     else (if bytes_eq word (codes "eval") then Some Evaluate
-    else (if bytes_eq word (codes "fmt") then Some Format else None))
+    else (if bytes_eq word (codes "fmt") then Some Format
+    else (if bytes_eq word (codes "replay") then Some Replay else None)))
 
 -- the command of a word and two operands, which are names
 abbrev pub command_with : List ℕ → List ℕ → List ℕ → Option Command

@@ -22,6 +22,8 @@ fn named(word: &str) -> Option<Command>
         Some(Command::Evaluate)
     } else if word == "fmt" {
         Some(Command::Format)
+    } else if word == "replay" {
+        Some(Command::Replay)
     } else {
         None
     }

@@ -1,14 +1,24 @@
-use Rattle.std.proofs.Common.{◌≡◌, [], Some, None, sym, ◌∙◌, subst}
+use Rattle.std.proofs.Common.{[], Some, refl, subst}
 use Rattle.std.proofs.KnownBytes.{Keeps-refl}
-use Rattle.fab_reply.specs.Reply.{IsReply, unasked, read}
+use Rattle.fab_reply.specs.Replays.{Makers}
+use Rattle.fab_reply.specs.Reply.{Answers, JournalsAre, one_reply, unasked, read}
 use Rattle.fab_reply.proofs.Replying.{usage_reply}
 use Rattle.fab_reply.proofs.command.reply.Goals as goal
 
 pub returns-in_ok-from_slice-in-None-clause-given : goal.returns-in_ok-from_slice-in-None-clause-given
 returns-in_ok-from_slice-in-None-clause-given g c =
-    rw (c.in-None.is, c.in_ok-from_slice-in-None.ensures) ([], unasked (Keeps-refl (g.S.Source.left c.args.source.now)), usage_reply [])
+    rw (c.in-None.is, c.in_ok-from_slice-in-None.ensures) ([], unasked (Keeps-refl (g.S.Source.left c.args.source.now)), one_reply (usage_reply []), refl)
 
 pub returns-in_ok-replied-in-Some-clause-given : goal.returns-in_ok-replied-in-Some-clause-given
 returns-in_ok-replied-in-Some-clause-given g c =
-    let replied = subst (λ t. IsReply (Some c.in-Some.command) t c.in_ok-replied-in-Some.field-0.0 c.in_ok-replied-in-Some.field-0.1) c.deref.ensures.value c.in_ok-replied-in-Some.ensures in
-    rw c.in-Some.is (c.in_ok-text-in-Some.text.items, read c.in_ok-text-in-Some.ensures.text, replied)
+    let J = g.M.Journals in
+    let old : Makers = record { may_fail = J.may_fail c.args.journals.now; kept = J.kept c.args.journals.now; faults = J.faults c.args.journals.now } in
+    let new : Makers = record { may_fail = J.may_fail c.replied.new.journals; kept = J.kept c.replied.new.journals; faults = J.faults c.replied.new.journals } in
+    let status = c.in_ok-replied-in-Some.field-0.0 in
+    let reply = c.in_ok-replied-in-Some.field-0.1 in
+    rw c.in-Some.is (
+      c.in_ok-text-in-Some.text.items,
+      read c.in_ok-text-in-Some.ensures.text,
+      subst (λ t. Answers (Some c.in-Some.command) t status reply) c.deref.ensures.value c.in_ok-replied-in-Some.ensures.replies,
+      subst (λ t. JournalsAre (Some c.in-Some.command) t old new status reply) c.deref.ensures.value c.in_ok-replied-in-Some.ensures.journals,
+    )

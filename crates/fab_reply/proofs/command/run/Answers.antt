@@ -1,23 +1,34 @@
 use Rattle.std.proofs.Common.{subst}
 use Rattle.std.specs.Io.KnownBytes.{Appends}
-use Rattle.fab_reply.proofs.Answering.{ends_so, no_read_fault, no_write_fault}
+use Rattle.fab_reply.proofs.Answering.{ends_so, no_read_fault, no_write_fault, of_answers}
 use Rattle.fab_reply.proofs.command.run.Goals as goal
 
 pub returns-in-Ok-write_all-clause-means : goal.returns-in-Ok-write_all-clause-means
 returns-in-Ok-write_all-clause-means g c =
+    let J = g.M.Journals in
     let given = c.in-Ok.ensures.given in
     let l = g.S.Source.left c.args.source.now in
     let l' = g.S.Source.left c.reply.new.source in
     let w = g.K.Sink.written c.args.sink.now in
     let w' = g.K.Sink.written c.write_all.new.sink in
-    ends_so l l' w w' given.2.is
-    (record { text = given.0; reply = c.in-Ok.reply.1; input = given.1; replies = given.2; all = subst (Appends w w') c.as_slice.ensures c.in-Ok-write_all.ensures.all })
+    ends_so l l' w w' _ _ (of_answers given.2)
+    (record {
+      text = given.0;
+      reply = c.in-Ok.reply.1;
+      input = given.1;
+      replies = given.2;
+      journals = given.3;
+      all = subst (Appends w w') c.as_slice.ensures c.in-Ok-write_all.ensures.all;
+    })
 
 pub returns-in-Ok-write_all-clause-read : goal.returns-in-Ok-write_all-clause-read
-returns-in-Ok-write_all-clause-read g c e = no_read_fault c.in-Ok.ensures.given.2.is e
+returns-in-Ok-write_all-clause-read g c e = no_read_fault (of_answers c.in-Ok.ensures.given.2) e
+
+pub returns-in-Ok-write_all-clause-was_asked : goal.returns-in-Ok-write_all-clause-was_asked
+returns-in-Ok-write_all-clause-was_asked g c e = no_read_fault (of_answers c.in-Ok.ensures.given.2) e
 
 pub returns-in-Ok-write_all-clause-unwritten : goal.returns-in-Ok-write_all-clause-unwritten
-returns-in-Ok-write_all-clause-unwritten g c e = no_read_fault c.in-Ok.ensures.given.2.is e
+returns-in-Ok-write_all-clause-unwritten g c e = no_read_fault (of_answers c.in-Ok.ensures.given.2) e
 
 pub returns-in-Ok-write_all-clause-write : goal.returns-in-Ok-write_all-clause-write
-returns-in-Ok-write_all-clause-write g c e = no_write_fault c.in-Ok.ensures.given.2.is e
+returns-in-Ok-write_all-clause-write g c e = no_write_fault (of_answers c.in-Ok.ensures.given.2) e

@@ -1,6 +1,3 @@
-use Rattle.std.proofs.Common.{◌≡◌, rules, sym, subst}
-use Rattle.fab_reply.specs.Front.{IsFront}
-use Rattle.fab_reply.specs.declared.front.Outcome.TheVariants as outcome
 use Rattle.fab_reply.proofs.Fronts.{one_of_bad, one_of_deep, one_of_many, one_of_whole, bad_by, deep_by, many_by}
 use Rattle.fab_reply.proofs.front.read.Goals as goal
 

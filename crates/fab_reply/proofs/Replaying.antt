@@ -1,0 +1,148 @@
+-- What a replay comes to, as a reply to a text, and that the headline holds of its report.
+use Rattle.std.proofs.Common.{◌≡◌, ◌⊎◌, inl, inr, ℕ, List, [], Option, Some, None, Result, Ok as Fine, Err, IfOk, refl, sym, ◌∙◌, subst, append-nil}
+use Rattle.std.specs.Io.KnownBytes.{Appends, Keeps}
+use Rattle.fab_command.specs.declared.command.Command.{Command}
+use Rattle.fab_command.specs.declared.command.Command.TheVariants.{Replay}
+use Rattle.fab_tree.specs.declared.start.Start.{Start}
+use Rattle.fab_language.specs.Numbers.{resolved}
+use Rattle.fab_rights.specs.declared.rights.Rights.{Rights}
+use Rattle.fab_settings.specs.Settings.{IsAcceptedWith}
+use Rattle.fab_replay.specs.declared.replayed.Replayed.{Replayed}
+use Rattle.fab_replay.specs.declared.replayed.Replayed.TheVariants as replays
+use Rattle.fab_replay.specs.Kept.{IsReplayed, IsPossible}
+use Rattle.fab_reply.specs.declared.front.Outcome.TheVariants as outcome
+use Rattle.fab_reply.specs.declared.status.Status.{Status}
+use Rattle.fab_reply.specs.declared.status.Status.TheVariants.{Ok, JournalFault}
+use Rattle.fab_reply.specs.Front.{Front, IsFront}
+use Rattle.fab_reply.specs.Headline.{Headline}
+use Rattle.fab_reply.specs.Reading.{ReadsText}
+use Rattle.fab_reply.specs.Replays.{Makers, given_of}
+use Rattle.fab_reply.specs.Reply.{Answers, one_reply, interrupted, in_run, before, IsInput, read, IsReplay, JournalsAre, RepliesWith, status_of, text_of}
+use Rattle.fab_reply.proofs.Replying.{barred_reply, replay_reply}
+
+-- what is so of a status and a text is so of what was answered
+pub if_told : {E : Type 0} (P : Status → List ℕ → Type 0) (s : Status) (l : List ℕ) (o : Result (Status × List ℕ) E) → IfOk o (λ r. (r.0 ≡ s) × (r.1 ≡ l)) → P s l
+    → IfOk o (λ r. P r.0 r.1)
+if_told P s l (Fine r) h w = subst (λ x. P x r.1) (sym h.0) (subst (λ x. P s x) (sym h.1) w)
+if_told P s l (Err e) h w = tt
+
+module _ {text : List ℕ} {start : Start} (f : IsFront text (outcome.Bundle start)) (rights : Rights) (accepted : IsAcceptedWith start rights) where
+  -- a replay answers the text
+  pub answered : (answer : Replayed) (old new : Makers) → IsReplayed (given_of start rights) answer old.kept new.kept old.faults new.faults
+      → Answers (Some Replay) text (status_of answer) (text_of answer)
+  answered (replays.Done reply) old new h = one_reply (replay_reply f rights accepted reply (record { moves = h.moves; run = h.run; told = h.told }))
+  answered (replays.NotEnabled event) old new h = one_reply (barred_reply f rights accepted event (record { moves = h.moves; run = h.run; told = h.told }))
+  answered (replays.JournalFault node (Some reply)) old new h = interrupted (in_run f.is accepted (record { moves = h.moves; run = h.run; told = h.told }))
+  answered (replays.JournalFault node None) old new h = interrupted (before f.is accepted h.0)
+
+  -- and the journals are as it left them
+  pub left_behind : (answer : Replayed) (old new : Makers) → IsReplayed (given_of start rights) answer old.kept new.kept old.faults new.faults
+      → IsPossible old.may_fail (resolved start) answer → JournalsAre (Some Replay) text old new (status_of answer) (text_of answer)
+  left_behind (replays.Done reply) old new h p = record {
+    start = start;
+    rights = rights;
+    answer = replays.Done reply;
+    front = f.is;
+    accepted = accepted;
+    is = h;
+    possible = p;
+    status_is = refl;
+    reply_is = refl;
+  }
+  left_behind (replays.NotEnabled event) old new h p = record {
+    start = start;
+    rights = rights;
+    answer = replays.NotEnabled event;
+    front = f.is;
+    accepted = accepted;
+    is = h;
+    possible = p;
+    status_is = refl;
+    reply_is = refl;
+  }
+  left_behind (replays.JournalFault node report) old new h p = record {
+    start = start;
+    rights = rights;
+    answer = replays.JournalFault node report;
+    front = f.is;
+    accepted = accepted;
+    is = h;
+    possible = p;
+    status_is = refl;
+    reply_is = refl;
+  }
+
+-- ---- the headline
+
+-- there is a run of which the report was written
+abbrev pub HasReport : Replayed → Type 0
+HasReport (replays.Done reply) = Unit {0}
+HasReport (replays.NotEnabled event) = ⊥
+HasReport (replays.JournalFault node (Some reply)) = Unit {0}
+HasReport (replays.JournalFault node None) = ⊥
+
+ok_reports : (answer : Replayed) → Ok ≡ status_of answer → HasReport answer
+ok_reports (replays.Done reply) e = tt
+ok_reports (replays.NotEnabled event) e = absurd (cc)
+ok_reports (replays.JournalFault node report) e = absurd (cc)
+
+nothing_more : (w w' : Option (List ℕ)) → Appends w w' [] → Keeps w w'
+nothing_more None w' h = tt
+nothing_more (Some xs) None h = absurd h
+nothing_more (Some xs) (Some ys) h = h ∙ append-nil xs
+
+module _ (l l' w w' : Option (List ℕ)) (old new : Makers) where
+  pub text_read : {c : Command} {text : List ℕ} → IsInput (Some c) l l' text → ReadsText l l' text
+  text_read (read t) = t
+
+  headlined : (start : Start) (rights : Rights) (answer : Replayed) (text reply : List ℕ) → ReadsText l l' text → Front text (outcome.Bundle start)
+      → IsAcceptedWith start rights → IsReplayed (given_of start rights) answer old.kept new.kept old.faults new.faults → reply ≡ text_of answer
+      → Appends w w' reply → HasReport answer → Headline l l' w w'
+  headlined start rights (replays.Done report) text reply input front accepted h is all has = record {
+    text = text;
+    start = start;
+    rights = rights;
+    moves = h.moves;
+    read = input;
+    spelled = front;
+    accepted = accepted;
+    run = h.run;
+    events = inl h.told.0;
+    reported = subst (Appends w w') (is ∙ h.told.1) all;
+    integral = h.integral;
+  }
+  headlined start rights (replays.JournalFault node (Some report)) text reply input front accepted h is all has = record {
+    text = text;
+    start = start;
+    rights = rights;
+    moves = h.moves;
+    read = input;
+    spelled = front;
+    accepted = accepted;
+    run = h.run;
+    events = inr (node, h.told.0);
+    reported = subst (Appends w w') (is ∙ h.told.1) all;
+    integral = h.integral;
+  }
+  headlined start rights (replays.NotEnabled event) text reply input front accepted h is all has = absurd has
+  headlined start rights (replays.JournalFault node None) text reply input front accepted h is all has = absurd has
+
+  pub done_headline : RepliesWith Ok (Some Replay) l l' w w' old new → Headline l l' w w'
+  done_headline e =
+      let x : IsReplay e.text old new Ok e.reply = e.journals in
+      headlined x.start x.rights x.answer e.text e.reply (text_read e.input) x.front x.accepted x.is x.reply_is e.all (ok_reports x.answer x.status_is)
+
+  fault_headlined : (start : Start) (rights : Rights) (answer : Replayed) (node : ℕ) (text reply : List ℕ) → ReadsText l l' text → Front text (outcome.Bundle start)
+      → IsAcceptedWith start rights → IsReplayed (given_of start rights) answer old.kept new.kept old.faults new.faults → JournalFault node ≡ status_of answer
+      → reply ≡ text_of answer → Appends w w' reply → Keeps w w' ⊎ Headline l l' w w'
+  fault_headlined start rights (replays.Done report) node text reply input front accepted h e is all = absurd (cc)
+  fault_headlined start rights (replays.NotEnabled event) node text reply input front accepted h e is all = absurd (cc)
+  fault_headlined start rights (replays.JournalFault n (Some report)) node text reply input front accepted h e is all =
+      inr (headlined start rights (replays.JournalFault n (Some report)) text reply input front accepted h is all tt)
+  fault_headlined start rights (replays.JournalFault n None) node text reply input front accepted h e is all =
+      inl (nothing_more w w' (subst (Appends w w') is all))
+
+  pub fault_headline : (node : ℕ) → RepliesWith (JournalFault node) (Some Replay) l l' w w' old new → Keeps w w' ⊎ Headline l l' w w'
+  fault_headline node e =
+      let x : IsReplay e.text old new (JournalFault node) e.reply = e.journals in
+      fault_headlined x.start x.rights x.answer node e.text e.reply (text_read e.input) x.front x.accepted x.is x.status_is x.reply_is e.all
