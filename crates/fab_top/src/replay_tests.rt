@@ -256,18 +256,25 @@ const FAULTS: &str = "1 w1 before\n\
     6 s1 11\n\
     7 s1 none";
 
-/// The same where the worker and the store recover behind the eighth event.
-const FAULTS_AT_RECOVERIES: &str = "3 w1 10\n\
-    4 w1 10\n\
-    5 w1 10\n\
-    6 w1 10\n\
-    7 w1 none\n\
-    3 s1 12\n\
-    4 s1 12\n\
-    5 s1 none";
+/// The same of schedules with a recovery: of the worker, in the tenth event, and of the store, in the
+/// eleventh, which applies the decision in the fourteenth.
+const WORKER_RECOVERS: &str = "crash w1;recover w1;deliver w1 s1;deliver w1 s1;";
 
-/// The status, what is written, and whether the node's journal was kept with a fault, where its call of
-/// this number fails.
+const STORE_RECOVERS: &str = "crash s1;recover s1;deliver s1 w1;deliver s1 w1;deliver w1 s1;";
+
+const FAULTS_AT_RECOVERIES: &str = "8 w1 3 10\n\
+    8 w1 4 10\n\
+    8 w1 5 10\n\
+    8 w1 6 10\n\
+    8 w1 7 none\n\
+    9 s1 4 9\n\
+    9 s1 5 11\n\
+    9 s1 6 11\n\
+    9 s1 7 14\n\
+    9 s1 8 14\n\
+    9 s1 9 none";
+
+/// The status, and what is written, where the node's journal fails at its call of this number.
 fn replay_with_fault(
     rt: &impl Abort,
     alloc: Global,
@@ -337,6 +344,89 @@ fn journals_fail(rt: HostRuntime) -> Result<(), Fail> {
                 assert_eq!(&rt; reply.as_str(), whole.as_str(), "{row}");
             }
         }
+    }
+    Ok(())
+}
+
+/// A journal call fails in a schedule with a recovery: the event in which it does is the last, cut before
+/// its record.
+fn fails_at_recovery(rt: &impl Abort, alloc: Global, row: &str) -> Result<(), NoMemory> {
+    let Some((front, rest)) = row.split_once(' ') else {
+        panic!(rt; "no front in {row}");
+    };
+    let Some((node, rest)) = rest.split_once(' ') else {
+        panic!(rt; "no node in {row}");
+    };
+    let Some((call, what)) = rest.split_once(' ') else {
+        panic!(rt; "no call in {row}");
+    };
+    let (Ok(count), Ok(number)) = (front.parse::<u32>(), call.parse::<u32>()) else {
+        panic!(rt; "no number in {row}");
+    };
+    let before = events_between(alloc, 0, count)?;
+    let more = if node == "w1" {
+        WORKER_RECOVERS
+    } else {
+        STORE_RECOVERS
+    };
+    let schedule = format!(in alloc; "{before}{more}")?;
+    let (status, reply) = replay_with_fault(rt, alloc, schedule.as_str(), node, number)?;
+    match what.parse::<u32>() {
+        Ok(event) => {
+            let cut = format!(in alloc; "\nevent {event} crashin 0 ")?;
+            let end = format!(in alloc; "\nend {event}\n")?;
+            assert_eq!(rt; status, 10, "{row}");
+            assert!(rt; reply.as_str().contains(cut.as_str()), "{row}");
+            assert!(rt; reply.as_str().ends_with(end.as_str()), "{row}");
+        }
+        Err(_) => assert_eq!(rt; status, 0, "{row}"),
+    }
+    Ok(())
+}
+
+#[test]
+fn journals_fail_at_recoveries(rt: HostRuntime) -> Result<(), Fail> {
+    let alloc = rt.alloc();
+    for row in FAULTS_AT_RECOVERIES.lines() {
+        fails_at_recovery(&rt, alloc, row)?;
+    }
+    Ok(())
+}
+
+/// The bytes that the run leaves in the journals of both nodes, all of them synced: the header, and the
+/// worker's decision, or what the store prepared and then applied.
+const JOURNALS: [(&str, &str); 2] = [
+    (
+        "w1",
+        "4641424a00010000000000140100000000000100000001000000010300010001",
+    ),
+    (
+        "s1",
+        "4641424a000100010000004d04000000000001000000010000000200010000ffff0000000000000000ffff000000000001000001000000005f00010000ffff0000000000000001ffff000000000001000001000000000500000000000b0600000000000100000001",
+    ),
+];
+
+#[test]
+fn journals_are_kept(rt: HostRuntime) -> Result<(), Fail> {
+    let alloc = rt.alloc();
+    let schedule = events_between(alloc, 0, COUNT)?;
+    let text = format!(in alloc; "{TRANSFER}{schedule}}}}}")?;
+    let words = words_of(alloc, "replay")?;
+    let mut source = SureSource::new(Seq::from_slice(alloc, text.as_str().as_bytes())?);
+    let mut sink = SureSink::new(alloc)?;
+    let mut journals = SureJournals::new(alloc)?;
+    fab(alloc, &words, &mut source, &mut sink, &mut journals);
+    for (node, digits) in JOURNALS {
+        let Some(journal) = journals.kept(node) else {
+            panic!(&rt; "no journal of {node}");
+        };
+        let mut found = String::new(alloc);
+        for byte in journal.bytes() {
+            let byte = format!(in alloc; "{byte:02x}")?;
+            found.push_str(byte.as_str())?;
+        }
+        assert_eq!(&rt; found.as_str(), digits);
+        assert_eq!(&rt; journal.synced(), journal.bytes().len() as u64);
     }
     Ok(())
 }
