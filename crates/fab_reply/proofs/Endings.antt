@@ -1,5 +1,5 @@
 -- What each status says.
-use Rattle.std.proofs.Common.{◌≡◌, ◌≢◌, ◌⊎◌, inl, inr, ℕ, List, ◌++◌, length, Option, Some, None, IfSome, refl, sym, ap, ◌∙◌, subst, arith, append-nil, length-append, codes}
+use Rattle.std.proofs.Common.{◌≡◌, ◌≢◌, ◌⊎◌, inl, inr, ℕ, List, [], ◌++◌, length, Option, Some, None, IfSome, refl, sym, ap, ◌∙◌, subst, arith, append-nil, length-append, codes}
 use Rattle.std.specs.Io.KnownBytes.{Appends, Keeps, IsAtEnd, Consumes}
 use Rattle.fab_base.specs.declared.limit.What.TheVariants.{Bytes}
 use Rattle.fab_command.specs.declared.command.Command.{Command}
@@ -12,7 +12,7 @@ use Rattle.fab_reply.specs.Replays.{Makers}
 use Rattle.fab_reply.proofs.Answering.{short}
 use Rattle.fab_reply.proofs.Fronts.{one_of_long}
 use Rattle.fab_reply.specs.Headline.{Headline}
-use Rattle.fab_reply.proofs.Replaying.{done_headline, fault_headline}
+use Rattle.fab_reply.proofs.Replaying.{done_headline, fault_headline, no_fault}
 use Rattle.fab_reply.proofs.Replying.{usage_reply, limit_reply}
 
 all_some : {A : Type 0} {P : A → Type 0} (o : Option A) → ((x : A) → P x) → IfSome o P
@@ -211,3 +211,8 @@ module _ (command : Option Command) (l l' w w' : Option (List ℕ)) (old new : M
   part_headline status e node h =
       let there : RepliesWith (JournalFault node) command l l' w w' old new = subst (λ s. Ends command s l l' w w' old new) h e in
       fault_headline l l' w w' old new node (subst (λ c. RepliesWith (JournalFault node) c l l' w w' old new) (fault_of_replay status e node h) there)
+
+  pub none_fails : (status : Status) → Ends command status l l' w w' old new → old.may_fail ≡ Some [] → (node : ℕ) → status ≡ JournalFault node → ⊥
+  none_fails status e none node h =
+      let there : RepliesWith (JournalFault node) command l l' w w' old new = subst (λ s. Ends command s l l' w w' old new) h e in
+      no_fault l l' w w' old new node (subst (λ c. RepliesWith (JournalFault node) c l l' w w' old new) (fault_of_replay status e node h) there) none

@@ -1,10 +1,12 @@
 -- What a replay comes to, as a reply to a text, and that the headline holds of its report.
-use Rattle.std.proofs.Common.{◌≡◌, ◌⊎◌, inl, inr, ℕ, List, [], Option, Some, None, Result, Ok as Fine, Err, IfOk, refl, sym, ◌∙◌, subst, append-nil}
+use Rattle.std.proofs.Common.{◌≡◌, ◌⊎◌, inl, inr, ℕ, List, [], Option, Some, None, Result, Ok as Fine, Err, IfOk, refl, sym, ◌∙◌, subst, append-nil, arith}
 use Rattle.std.specs.Io.KnownBytes.{Appends, Keeps}
 use Rattle.fab_command.specs.declared.command.Command.{Command}
 use Rattle.fab_command.specs.declared.command.Command.TheVariants.{Replay}
 use Rattle.fab_tree.specs.declared.start.Start.{Start}
 use Rattle.fab_language.specs.Numbers.{resolved}
+use Rattle.fab_language.specs.Words.{node_text}
+use Rattle.fab_device.specs.Kept.{CannotFail}
 use Rattle.fab_rights.specs.declared.rights.Rights.{Rights}
 use Rattle.fab_settings.specs.Settings.{IsAcceptedWith}
 use Rattle.fab_replay.specs.declared.replayed.Replayed.{Replayed}
@@ -14,7 +16,12 @@ use Rattle.fab_reply.specs.declared.front.Outcome.TheVariants as outcome
 use Rattle.fab_reply.specs.declared.status.Status.{Status}
 use Rattle.fab_reply.specs.declared.status.Status.TheVariants.{Ok, JournalFault}
 use Rattle.fab_reply.specs.Front.{Front, IsFront}
-use Rattle.fab_reply.specs.Headline.{Headline}
+use Rattle.fab_world.specs.Machine.{Move}
+use Rattle.fab_world.specs.Serial.{IsRun}
+use Rattle.fab_core.specs.Cores.{setting}
+use Rattle.fab_isolation.proofs.Posts.{post_few}
+use Rattle.fab_shadow.proofs.Runs.{bundles_isolated}
+use Rattle.fab_reply.specs.Headline.{Headline, IsIsolated}
 use Rattle.fab_reply.specs.Reading.{ReadsText}
 use Rattle.fab_reply.specs.Replays.{Makers, given_of}
 use Rattle.fab_reply.specs.Reply.{Answers, one_reply, interrupted, in_run, before, IsInput, read, IsReplay, JournalsAre, RepliesWith, status_of, text_of}
@@ -91,6 +98,12 @@ nothing_more None w' h = tt
 nothing_more (Some xs) None h = absurd h
 nothing_more (Some xs) (Some ys) h = h ∙ append-nil xs
 
+-- a run of an accepted bundle is isolated
+isolated_run : (start : Start) (rights : Rights) (moves : List Move) → IsAcceptedWith start rights → IsRun (setting (given_of start rights)) moves
+    → IsIsolated start rights moves
+isolated_run start rights moves accepted run nodes sees shows n d set out into =
+    bundles_isolated start rights nodes sees shows set moves n d run (post_few start rights accepted moves run) out into
+
 module _ (l l' w w' : Option (List ℕ)) (old new : Makers) where
   pub text_read : {c : Command} {text : List ℕ} → IsInput (Some c) l l' text → ReadsText l l' text
   text_read (read t) = t
@@ -110,6 +123,7 @@ module _ (l l' w w' : Option (List ℕ)) (old new : Makers) where
     events = inl h.told.0;
     reported = subst (Appends w w') (is ∙ h.told.1) all;
     integral = h.integral;
+    isolated = isolated_run start rights h.moves accepted h.run;
   }
   headlined start rights (replays.JournalFault node (Some report)) text reply input front accepted h is all has = record {
     text = text;
@@ -123,6 +137,7 @@ module _ (l l' w w' : Option (List ℕ)) (old new : Makers) where
     events = inr (node, h.told.0);
     reported = subst (Appends w w') (is ∙ h.told.1) all;
     integral = h.integral;
+    isolated = isolated_run start rights h.moves accepted h.run;
   }
   headlined start rights (replays.NotEnabled event) text reply input front accepted h is all has = absurd has
   headlined start rights (replays.JournalFault node None) text reply input front accepted h is all has = absurd has
@@ -141,6 +156,23 @@ module _ (l l' w w' : Option (List ℕ)) (old new : Makers) where
       inr (headlined start rights (replays.JournalFault n (Some report)) text reply input front accepted h is all tt)
   fault_headlined start rights (replays.JournalFault n None) node text reply input front accepted h e is all =
       inl (nothing_more w w' (subst (Appends w w') is all))
+
+  -- where it is told that no journal may fail, there is no fault
+  nobody_fails : (told : Option (List (List ℕ))) (name : List ℕ) → told ≡ Some [] → CannotFail told name
+  nobody_fails told name e =
+      let there : CannotFail (Some []) name = λ h. (let l = h.1 in absurd (omega (arith, l))) in
+      subst (λ t. CannotFail t name) (sym e) there
+
+  fault_possible : (start : Start) (answer : Replayed) (node : ℕ) → IsPossible old.may_fail (resolved start) answer → JournalFault node ≡ status_of answer
+      → old.may_fail ≡ Some [] → ⊥
+  fault_possible start (replays.Done report) node p e none = absurd (cc)
+  fault_possible start (replays.NotEnabled event) node p e none = absurd (cc)
+  fault_possible start (replays.JournalFault n report) node p e none = p (nobody_fails old.may_fail (node_text (resolved start) n) none)
+
+  pub no_fault : (node : ℕ) → RepliesWith (JournalFault node) (Some Replay) l l' w w' old new → old.may_fail ≡ Some [] → ⊥
+  no_fault node e none =
+      let x : IsReplay e.text old new (JournalFault node) e.reply = e.journals in
+      fault_possible x.start x.answer node x.possible x.status_is none
 
   pub fault_headline : (node : ℕ) → RepliesWith (JournalFault node) (Some Replay) l l' w w' old new → Keeps w w' ⊎ Headline l l' w w'
   fault_headline node e =

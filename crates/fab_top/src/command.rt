@@ -1,5 +1,5 @@
 //! What the program does with its words, its input and its output.
-ghost use Rattle.std.specs.Prelude.{◌≡◌, ◌≢◌, ◌⊎◌, ◌≤◌, List, ℕ, Some, None as Nothing, codes, IfSome};
+ghost use Rattle.std.specs.Prelude.{◌≡◌, ◌≢◌, ◌⊎◌, ◌≤◌, List, ℕ, [], Some, None as Nothing, codes, IfSome};
 ghost use Rattle.std.specs.Io.KnownBytes.{Keeps, IsAtEnd};
 ghost use Rattle.fab_base.specs.Faults.{Rose};
 ghost use Rattle.fab_words.specs.Words.{asked_by};
@@ -71,7 +71,7 @@ pub fn fab<S: Source, K: Sink, M: Journals>(
     ensures sink_unfailed { result ≢ WriteFault → K.faults sink.new ≡ K.faults sink.old }
 
     // With `Ok` of a replay, and where a journal failed in its run, the report of that run was written,
-    // and the headline's first half holds of it. Where a journal failed before there was a run, nothing
+    // and the headline holds of it, integrity and isolation. Where a journal failed before there was a run, nothing
     // was written.
     ensures headline { asked_by words.now ≡ Some Replay → result ≡ Done → Headline (S.left source.old) (S.left source.new) (K.written sink.old) (K.written sink.new) }
     ensures headline_of_a_part { (node : ℕ) → result ≡ JournalFault node
@@ -80,6 +80,8 @@ pub fn fab<S: Source, K: Sink, M: Journals>(
     // `JournalFault` comes of a replay alone, and only it makes journals and has them kept. What was kept,
     // and which faults there were, says `means`.
     ensures journal_fault { (node : ℕ) → result ≡ JournalFault node → asked_by words.now ≡ Some Replay }
+    // Where it is told that no journal may fail, none does.
+    ensures journals_unfailing { M.may_fail journals.old ≡ Some [] → (node : ℕ) → result ≡ JournalFault node → ⊥ }
     ensures journals_untouched { (asked_by words.now ≡ Some Replay → ⊥) → journals.new ≡ journals.old }
     ensures journals_faults { M.faults journals.old ≤ M.faults journals.new }
     ensures journals_told { M.may_fail journals.new ≡ M.may_fail journals.old }
