@@ -1,0 +1,8 @@
+pub mod Events
+pub mod Hidden
+pub mod Kept
+pub mod Numbers
+pub mod Parts
+pub mod Places
+pub mod Scopes
+pub mod Views

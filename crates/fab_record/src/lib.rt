@@ -1,0 +1,18 @@
+//! What a run releases to a set of nodes, and what the set may know of a bundle, computed.
+#![tactic(auto)]
+
+mod changes;
+mod downgrades;
+mod entries;
+mod events;
+mod hidden;
+mod names;
+mod numbers;
+mod part;
+mod past;
+mod scope;
+mod sights;
+mod whole;
+
+pub use part::public_part;
+pub use whole::released;
