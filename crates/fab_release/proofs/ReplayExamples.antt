@@ -14,7 +14,9 @@ use Rattle.fab_language.specs.declared.ending.Ending.TheVariants.{Ended, Missing
 use Rattle.fab_language.specs.Meaning.{Meant}
 use Rattle.fab_net.specs.declared.event.Event.TheVariants as e
 use Rattle.fab_net.specs.declared.event.Inner.TheVariants as i
+use Rattle.fab_protocol.specs.Caches.{cached_row}
 use Rattle.fab_protocol.specs.Stores.{shelf_of}
+use Rattle.fab_protocol.specs.Versions.{Row}
 use Rattle.fab_protocol.proofs.Toy.{account, box, holding, accounts, attempt, rights}
 use Rattle.fab_world.specs.Workers.{kept_of}
 use Rattle.fab_world.specs.Machine.{Setting, Move}
@@ -24,7 +26,7 @@ use Rattle.fab_release.specs.declared.release.Release.{Release}
 use Rattle.fab_release.specs.declared.release.Release.TheVariants as r
 use Rattle.fab_release.specs.declared.release.Released.{Released}
 use Rattle.fab_release.specs.Sights.{Sight, Public}
-use Rattle.fab_release.specs.Replay.{public}
+use Rattle.fab_release.specs.Replay.{Votes, WorkerSeen, public, row_at, no_caches, decided}
 use Rattle.fab_release.specs.Isolation.{released_in}
 
 abbrev told : Release → Released
@@ -477,3 +479,46 @@ without_boot : public partners questions_known
     ≡ map spelled (Vote first Yes ∷ Inquire first ∷ [])
 unfolding kept_of shelf_of
 without_boot = refl
+
+-- ---- of two stores of a set each has a cache of its own, here with room for one object
+
+abbrev two_stores : Sight
+two_stores = record strangers { has = λ n. (n == 1) || (n == 4) }
+
+abbrev one_each : Public
+one_each = record P { cache = 1 }
+
+abbrev box_read : Row
+box_read = (box, 3, boxed 2)
+
+abbrev account_read : Row
+account_read = (account 0, 1, holding (pos 100))
+
+abbrev voting : WorkerSeen
+voting = record {
+  boot = 1;
+  number = 1;
+  request = 1;
+  stage = Votes (record { value = None; touched = (box, 3) ∷ (account 0, 1) ∷ []; writes = []; creates = [] });
+  known = box_read ∷ account_read ∷ [];
+  given = [];
+  commits = [];
+  caches = no_caches two_stores one_each;
+}
+
+box_is_cached : cached_row (decided two_stores one_each 0 true voting).caches box ≡ Some box_read
+box_is_cached = refl
+
+account_is_cached : cached_row (decided two_stores one_each 0 true voting).caches (account 0) ≡ Some account_read
+account_is_cached = refl
+
+-- ---- a version that is told is found behind newer ones
+
+abbrev account_written : Row
+account_written = (account 0, 2, holding (pos 95))
+
+told_is_found : row_at (account_written ∷ account_read ∷ []) (account 0) 1 ≡ account_read ∷ []
+told_is_found = refl
+
+newer_is_found : row_at (account_written ∷ account_read ∷ []) (account 0) 2 ≡ account_written ∷ []
+newer_is_found = refl
