@@ -11,7 +11,7 @@ use Rattle.fab_reply.specs.Reply.{Answers, one_reply, interrupted, in_run, befor
 use Rattle.fab_reply.specs.Replays.{Makers}
 use Rattle.fab_reply.proofs.Answering.{short}
 use Rattle.fab_reply.proofs.Fronts.{one_of_long}
-use Rattle.fab_reply.specs.Headline.{Headline}
+use Rattle.fab_reply.specs.Headline.{Headline, IsOfFault, IsOfSchedule}
 use Rattle.fab_reply.proofs.Replaying.{done_headline, fault_headline, no_fault}
 use Rattle.fab_reply.proofs.Replying.{usage_reply, limit_reply}
 
@@ -202,12 +202,12 @@ module _ (command : Option Command) (l l' w w' : Option (List ℕ)) (old new : M
   fault_of_replay (NotEnabled event) e node h = absurd (cc)
 
   -- the headline holds of what was written
-  pub whole_headline : (status : Status) → Ends command status l l' w w' old new → command ≡ Some Replay → status ≡ Ok → Headline l l' w w'
+  pub whole_headline : (status : Status) → Ends command status l l' w w' old new → command ≡ Some Replay → status ≡ Ok → Headline IsOfSchedule l l' w w'
   whole_headline status e asked h =
       let there : RepliesWith Ok command l l' w w' old new = subst (λ s. Ends command s l l' w w' old new) h e in
       done_headline l l' w w' old new (subst (λ c. RepliesWith Ok c l l' w w' old new) asked there)
 
-  pub part_headline : (status : Status) → Ends command status l l' w w' old new → (node : ℕ) → status ≡ JournalFault node → Keeps w w' ⊎ Headline l l' w w'
+  pub part_headline : (status : Status) → Ends command status l l' w w' old new → (node : ℕ) → status ≡ JournalFault node → Keeps w w' ⊎ Headline (IsOfFault node) l l' w w'
   part_headline status e node h =
       let there : RepliesWith (JournalFault node) command l l' w w' old new = subst (λ s. Ends command s l l' w w' old new) h e in
       fault_headline l l' w w' old new node (subst (λ c. RepliesWith (JournalFault node) c l l' w w' old new) (fault_of_replay status e node h) there)

@@ -11,7 +11,7 @@ use Rattle.fab_rights.specs.declared.rights.Rights.{Rights}
 use Rattle.fab_settings.specs.Settings.{IsAcceptedWith}
 use Rattle.fab_replay.specs.declared.replayed.Replayed.{Replayed}
 use Rattle.fab_replay.specs.declared.replayed.Replayed.TheVariants as replays
-use Rattle.fab_replay.specs.Kept.{IsReplayed, IsPossible}
+use Rattle.fab_replay.specs.Kept.{IsOfRun, IsReplayed, IsPossible}
 use Rattle.fab_reply.specs.declared.front.Outcome.TheVariants as outcome
 use Rattle.fab_reply.specs.declared.status.Status.{Status}
 use Rattle.fab_reply.specs.declared.status.Status.TheVariants.{Ok, JournalFault}
@@ -21,7 +21,9 @@ use Rattle.fab_world.specs.Serial.{IsRun}
 use Rattle.fab_core.specs.Cores.{setting}
 use Rattle.fab_isolation.proofs.Posts.{post_few}
 use Rattle.fab_shadow.proofs.Runs.{bundles_isolated}
-use Rattle.fab_reply.specs.Headline.{Headline, IsIsolated}
+use Rattle.fab_node.specs.Standing.{GivenModel}
+use Rattle.fab_replay.specs.Replays.{StopsIn, report_of}
+use Rattle.fab_reply.specs.Headline.{Headline, IsIsolated, IsOfFault, IsOfSchedule}
 use Rattle.fab_reply.specs.Reading.{ReadsText}
 use Rattle.fab_reply.specs.Replays.{Makers, given_of}
 use Rattle.fab_reply.specs.Reply.{Answers, one_reply, interrupted, in_run, before, IsInput, read, IsReplay, JournalsAre, RepliesWith, status_of, text_of}
@@ -81,18 +83,6 @@ module _ {text : List ℕ} {start : Start} (f : IsFront text (outcome.Bundle sta
 
 -- ---- the headline
 
--- there is a run of which the report was written
-abbrev pub HasReport : Replayed → Type 0
-HasReport (replays.Done reply) = Unit {0}
-HasReport (replays.NotEnabled event) = ⊥
-HasReport (replays.JournalFault node (Some reply)) = Unit {0}
-HasReport (replays.JournalFault node None) = ⊥
-
-ok_reports : (answer : Replayed) → Ok ≡ status_of answer → HasReport answer
-ok_reports (replays.Done reply) e = tt
-ok_reports (replays.NotEnabled event) e = absurd (cc)
-ok_reports (replays.JournalFault node report) e = absurd (cc)
-
 nothing_more : (w w' : Option (List ℕ)) → Appends w w' [] → Keeps w w'
 nothing_more None w' h = tt
 nothing_more (Some xs) None h = absurd h
@@ -108,10 +98,10 @@ module _ (l l' w w' : Option (List ℕ)) (old new : Makers) where
   pub text_read : {c : Command} {text : List ℕ} → IsInput (Some c) l l' text → ReadsText l l' text
   text_read (read t) = t
 
-  headlined : (start : Start) (rights : Rights) (answer : Replayed) (text reply : List ℕ) → ReadsText l l' text → Front text (outcome.Bundle start)
-      → IsAcceptedWith start rights → IsReplayed (given_of start rights) answer old.kept new.kept old.faults new.faults → reply ≡ text_of answer
-      → Appends w w' reply → HasReport answer → Headline l l' w w'
-  headlined start rights (replays.Done report) text reply input front accepted h is all has = record {
+  headlined : (P : GivenModel → List Move → Type 0) (start : Start) (rights : Rights) (answer : Replayed) (text reply report : List ℕ) (h : IsOfRun (given_of start rights) answer old.kept new.kept)
+      → ReadsText l l' text → Front text (outcome.Bundle start) → IsAcceptedWith start rights → P (given_of start rights) h.moves
+      → report ≡ report_of (given_of start rights) h.moves → reply ≡ report → Appends w w' reply → Headline P l l' w w'
+  headlined P start rights answer text reply report h input front accepted events of is all = record {
     text = text;
     start = start;
     rights = rights;
@@ -120,40 +110,34 @@ module _ (l l' w w' : Option (List ℕ)) (old new : Makers) where
     spelled = front;
     accepted = accepted;
     run = h.run;
-    events = inl h.told.0;
-    reported = subst (Appends w w') (is ∙ h.told.1) all;
+    events = events;
+    reported = subst (Appends w w') (is ∙ of) all;
     integral = h.integral;
     isolated = isolated_run start rights h.moves accepted h.run;
   }
-  headlined start rights (replays.JournalFault node (Some report)) text reply input front accepted h is all has = record {
-    text = text;
-    start = start;
-    rights = rights;
-    moves = h.moves;
-    read = input;
-    spelled = front;
-    accepted = accepted;
-    run = h.run;
-    events = inr (node, h.told.0);
-    reported = subst (Appends w w') (is ∙ h.told.1) all;
-    integral = h.integral;
-    isolated = isolated_run start rights h.moves accepted h.run;
-  }
-  headlined start rights (replays.NotEnabled event) text reply input front accepted h is all has = absurd has
-  headlined start rights (replays.JournalFault node None) text reply input front accepted h is all has = absurd has
 
-  pub done_headline : RepliesWith Ok (Some Replay) l l' w w' old new → Headline l l' w w'
+  done_headlined : (start : Start) (rights : Rights) (answer : Replayed) (text reply : List ℕ) → ReadsText l l' text → Front text (outcome.Bundle start)
+      → IsAcceptedWith start rights → IsReplayed (given_of start rights) answer old.kept new.kept old.faults new.faults → Ok ≡ status_of answer
+      → reply ≡ text_of answer → Appends w w' reply → Headline IsOfSchedule l l' w w'
+  done_headlined start rights (replays.Done report) text reply input front accepted h e is all =
+      headlined IsOfSchedule start rights (replays.Done report) text reply report h input front accepted h.told.0 h.told.1 is all
+  done_headlined start rights (replays.NotEnabled event) text reply input front accepted h e is all = absurd (cc)
+  done_headlined start rights (replays.JournalFault node report) text reply input front accepted h e is all = absurd (cc)
+
+  pub done_headline : RepliesWith Ok (Some Replay) l l' w w' old new → Headline IsOfSchedule l l' w w'
   done_headline e =
       let x : IsReplay e.text old new Ok e.reply = e.journals in
-      headlined x.start x.rights x.answer e.text e.reply (text_read e.input) x.front x.accepted x.is x.reply_is e.all (ok_reports x.answer x.status_is)
+      done_headlined x.start x.rights x.answer e.text e.reply (text_read e.input) x.front x.accepted x.is x.status_is x.reply_is e.all
 
   fault_headlined : (start : Start) (rights : Rights) (answer : Replayed) (node : ℕ) (text reply : List ℕ) → ReadsText l l' text → Front text (outcome.Bundle start)
       → IsAcceptedWith start rights → IsReplayed (given_of start rights) answer old.kept new.kept old.faults new.faults → JournalFault node ≡ status_of answer
-      → reply ≡ text_of answer → Appends w w' reply → Keeps w w' ⊎ Headline l l' w w'
+      → reply ≡ text_of answer → Appends w w' reply → Keeps w w' ⊎ Headline (IsOfFault node) l l' w w'
   fault_headlined start rights (replays.Done report) node text reply input front accepted h e is all = absurd (cc)
   fault_headlined start rights (replays.NotEnabled event) node text reply input front accepted h e is all = absurd (cc)
   fault_headlined start rights (replays.JournalFault n (Some report)) node text reply input front accepted h e is all =
-      inr (headlined start rights (replays.JournalFault n (Some report)) text reply input front accepted h is all tt)
+      let same : n ≡ node = cc in
+      inr (headlined (IsOfFault node) start rights (replays.JournalFault n (Some report)) text reply report h input front accepted
+      (subst (λ m. StopsIn (given_of start rights) h.moves m) same h.told.0) h.told.1 is all)
   fault_headlined start rights (replays.JournalFault n None) node text reply input front accepted h e is all =
       inl (nothing_more w w' (subst (Appends w w') is all))
 
@@ -174,7 +158,7 @@ module _ (l l' w w' : Option (List ℕ)) (old new : Makers) where
       let x : IsReplay e.text old new (JournalFault node) e.reply = e.journals in
       fault_possible x.start x.answer node x.possible x.status_is none
 
-  pub fault_headline : (node : ℕ) → RepliesWith (JournalFault node) (Some Replay) l l' w w' old new → Keeps w w' ⊎ Headline l l' w w'
+  pub fault_headline : (node : ℕ) → RepliesWith (JournalFault node) (Some Replay) l l' w w' old new → Keeps w w' ⊎ Headline (IsOfFault node) l l' w w'
   fault_headline node e =
       let x : IsReplay e.text old new (JournalFault node) e.reply = e.journals in
       fault_headlined x.start x.rights x.answer node e.text e.reply (text_read e.input) x.front x.accepted x.is x.status_is x.reply_is e.all

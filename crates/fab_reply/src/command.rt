@@ -3,7 +3,7 @@ ghost use Rattle.std.specs.Prelude.{◌≡◌, ◌≢◌, ◌⊎◌, ◌≤◌, 
 ghost use Rattle.std.specs.Io.KnownBytes.{Keeps, IsAtEnd};
 ghost use Rattle.fab_base.specs.Faults.{Rose};
 ghost use Rattle.fab_command.specs.declared.command.Command.TheVariants.{Replay};
-ghost use Rattle.fab_reply.specs.Headline.{Headline};
+ghost use Rattle.fab_reply.specs.Headline.{Headline, IsOfFault, IsOfSchedule};
 ghost use Rattle.fab_reply.specs.Reply.{Answers, Replies, IsInput, Ends, ComesTo, JournalsAre, SpeaksOfText, RepliesInPart, line};
 ghost use Rattle.fab_reply.specs.Front.{IsFront};
 ghost use Rattle.fab_reply.specs.Reading.{TakesAtMost};
@@ -182,9 +182,9 @@ pub fn answer<S: Source, K: Sink, M: Journals>(
     // With `Ok` of a replay, and where a journal failed in its run, the report of that run was written,
     // and the headline holds of it, integrity and isolation. Where a journal failed before there was a run, nothing
     // was written.
-    ensures headline { asked ≡ Some Replay → result ≡ Done → Headline (S.left source.old) (S.left source.new) (K.written sink.old) (K.written sink.new) }
+    ensures headline { asked ≡ Some Replay → result ≡ Done → Headline IsOfSchedule (S.left source.old) (S.left source.new) (K.written sink.old) (K.written sink.new) }
     ensures headline_of_a_part { (node : ℕ) → result ≡ JournalFault node
-        → Keeps (K.written sink.old) (K.written sink.new) ⊎ Headline (S.left source.old) (S.left source.new) (K.written sink.old) (K.written sink.new) }
+        → Keeps (K.written sink.old) (K.written sink.new) ⊎ Headline (IsOfFault node) (S.left source.old) (S.left source.new) (K.written sink.old) (K.written sink.new) }
 
     // `JournalFault` comes of a replay alone, and only it makes journals and has them kept. What was kept,
     // and which faults there were, says `means`.

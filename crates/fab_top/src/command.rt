@@ -8,7 +8,7 @@ ghost use Rattle.fab_reply.specs.Reading.{TakesAtMost};
 ghost use Rattle.fab_reply.specs.declared.status.Status.{Status as AnyStatus};
 ghost use Rattle.fab_reply.specs.declared.status.Status.TheVariants.{Ok as Done, Usage, ReadFault, WriteFault, Memory, JournalFault};
 ghost use Rattle.fab_command.specs.declared.command.Command.TheVariants.{Replay};
-ghost use Rattle.fab_reply.specs.Headline.{Headline};
+ghost use Rattle.fab_reply.specs.Headline.{Headline, IsOfFault, IsOfSchedule};
 
 use fab_base::{Sink, Source};
 use fab_device::Journals;
@@ -73,9 +73,9 @@ pub fn fab<S: Source, K: Sink, M: Journals>(
     // With `Ok` of a replay, and where a journal failed in its run, the report of that run was written,
     // and the headline holds of it, integrity and isolation. Where a journal failed before there was a run, nothing
     // was written.
-    ensures headline { asked_by words.now ≡ Some Replay → result ≡ Done → Headline (S.left source.old) (S.left source.new) (K.written sink.old) (K.written sink.new) }
+    ensures headline { asked_by words.now ≡ Some Replay → result ≡ Done → Headline IsOfSchedule (S.left source.old) (S.left source.new) (K.written sink.old) (K.written sink.new) }
     ensures headline_of_a_part { (node : ℕ) → result ≡ JournalFault node
-        → Keeps (K.written sink.old) (K.written sink.new) ⊎ Headline (S.left source.old) (S.left source.new) (K.written sink.old) (K.written sink.new) }
+        → Keeps (K.written sink.old) (K.written sink.new) ⊎ Headline (IsOfFault node) (S.left source.old) (S.left source.new) (K.written sink.old) (K.written sink.new) }
 
     // `JournalFault` comes of a replay alone, and only it makes journals and has them kept. What was kept,
     // and which faults there were, says `means`.
