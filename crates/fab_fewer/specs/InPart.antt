@@ -62,7 +62,8 @@ module _ (sees shows : ℕ → Bool) (r : Resolved) where
         → GrowsInView (meaning r answers request tid fuel) (meaning r more request tid fuel)
     pub wrote : (answers : FlatMap) (request : Request) (tid : Tid) (fuel : ℕ) → IsTrue (ascends answers) → AreShaped r.classes answers → IsFitting r request
         → WroteInView (meaning r answers request tid fuel)
-    pub in_part : (answers few : FlatMap) (request : Request) (tid : Tid) (fuel : ℕ) → IsTrue (ascends answers) → AreShaped r.classes answers → IsFitting r request
+    pub in_part : (answers few : FlatMap) (request : Request) (tid : Tid) (fuel : ℕ) → IsTrue (ascends answers) → AreShaped r.classes answers
+        → IsFitting r request
         → IsPart few (rows_shown sees shows r answers)
         → let full = meaning r answers request tid fuel in
         AgreesInPart request full few (erased sees shows r few request tid fuel (given_by sees shows r full))

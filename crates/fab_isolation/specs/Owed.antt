@@ -55,7 +55,8 @@ module _ (sight : Sight) where
     pub goes : (before : List (ℕ × Oid)) (site : ℕ) (o : Oid) (after : List (ℕ × Oid)) → seen_in full ≡ before ++ (site, o) ∷ after
         → AreKnown known before → get known o ≡ None → part.ending ≡ Missing site o
     -- where all of them are known, it lacks what the full run lacks in view, and ends where that does
-    pub misses : AreKnown known (seen_in full) → (site : ℕ) (o : Oid) → full.ending ≡ Missing site o → IsTrue (is_seen (site, o)) → part.ending ≡ Missing site o
+    pub misses : AreKnown known (seen_in full) → (site : ℕ) (o : Oid) → full.ending ≡ Missing site o → IsTrue (is_seen (site, o))
+        → part.ending ≡ Missing site o
     pub ends : AreKnown known (seen_in full) → (v : Option Value) → full.ending ≡ Ended v → (u : Option Value) × (part.ending ≡ Ended u)
     pub same : AreKnown known (seen_in full) → (v : Option Value) → full.ending ≡ Ended v → IsSame full part
 
@@ -74,7 +75,8 @@ pub record IsFollowed (S : Setting) (sight : Sight) (P : Public) : Type 0 where
       → AllByRecursion (λ o. IsTrue (is_among o (touched (seen_in sight (S.means w request t N))))) (shown_names sight (S.means w request t N).written)
   -- an object of a store in the set, which may hold it, is touched and lacked in view alone
   pub asks : (w request : ℕ) (t : Tid) (N : FlatMap) → IsTrue (ascends N) → AreFit S N
-      → AllByRecursion (λ x. IsTrue (sight.has x.1.store) → IsTrue (may_hold S.rights x.1.store x.1.class) → IsTrue (is_seen sight x)) (S.means w request t N).touches
+      → AllByRecursion (λ x. IsTrue (sight.has x.1.store) → IsTrue (may_hold S.rights x.1.store x.1.class) → IsTrue (is_seen sight x))
+      (S.means w request t N).touches
   pub lacks : (w request : ℕ) (t : Tid) (N : FlatMap) (site : ℕ) (o : Oid) → IsTrue (ascends N) → AreFit S N → (S.means w request t N).ending ≡ Missing site o
       → IsTrue (sight.has o.store) → IsTrue (may_hold S.rights o.store o.class) → IsTrue (is_seen sight (site, o))
   -- and over a part of the seen objects it is followed

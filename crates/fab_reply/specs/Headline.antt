@@ -25,7 +25,8 @@ use Rattle.fab_reply.specs.Replays.{given_of}
 -- set: it is rebuilt from what everybody may know of the bundle, its public part, and the release record alone. The set sees the labels that
 -- one of its nodes may read, and the classes under them.
 abbrev pub IsIsolated : Start → Rights → List Move → Type 0
-IsIsolated s rights moves = (nodes : ℕ) (sees shows : ℕ → Bool) (n d : ℕ) → IsSetOf s rights nodes sees shows → has_bit nodes n ≡ false → has_bit nodes d ≡ true
+IsIsolated s rights moves = (nodes : ℕ) (sees shows : ℕ → Bool) (n d : ℕ) → IsSetOf s rights nodes sees shows
+    → has_bit nodes n ≡ false → has_bit nodes d ≡ true
     → let sight = sight_of sees shows (has_bit nodes) (resolved s) in
     let everybody = public_of sees shows rights (public_part sees shows (resolved s)) in
     (world_by (given_of s rights) moves).sent n d ≡ public sight everybody (released_in sight (setting (given_of s rights)) moves) n d
@@ -37,8 +38,8 @@ IsOfSchedule g moves = moves ≡ moves_of (events_of g.program)
 abbrev pub IsOfFault : ℕ → GivenModel → List Move → Type 0
 IsOfFault node g moves = StopsIn g moves node
 
--- A text was read that spells an accepted bundle, and what was written is the report of one run from its start, of which P holds. And for every set of nodes that contains the hostile ones, each object whose integrity excludes the set
--- holds what replaying the committed requests of the others in the order of their decisions gives, each at most once; and each node outside
+-- A text was read that spells an accepted bundle, and what was written is the report of one run from its start, of which P holds. And for every
+-- set of nodes that contains the hostile ones, each object whose integrity excludes the set holds what replaying the committed requests of the others in the order of their decisions gives, each at most once; and each node outside
 -- the set has sent each node of it exactly the public replay of the release record.
 pub record Headline (P : GivenModel → List Move → Type 0) (left left' written written' : Option (List ℕ)) : Type 0 where
   pub text : List ℕ
