@@ -1,6 +1,6 @@
 //! What a command line may ask for.
 
-use fab_base::Text;
+use fab_base::{Seq, Text};
 
 /// What a command line may ask for.
 #[derive(Debug, Drop)]
@@ -15,4 +15,7 @@ pub enum Command {
     Format,
     /// The run of a bundle's schedule, and its report.
     Replay,
+    /// The same run, and in place of the report the messages that these nodes and the hostile ones got
+    /// from the others.
+    View { nodes: Seq<Text> },
 }

@@ -1,5 +1,5 @@
 -- Nodes at the start of a run, one after the other.
-use Rattle.std.proofs.Common.{◌≡◌, ℕ, zero, suc, ◌+◌, ◌<◌, ◌≤◌, Bool, true, false, not, cond, IsTrue, List, [], ◌∷◌, ◌++◌, map, length, Option, Some, None, refl, sym, ap, ◌∙◌, subst, arith, append_assoc}
+use Rattle.std.proofs.Common.{◌≡◌, ℕ, zero, suc, ◌+◌, ◌≤◌, Bool, true, false, not, cond, List, [], ◌∷◌, ◌++◌, map, length, Option, Some, None, refl, sym, ap, ◌∙◌, subst, arith, append_assoc}
 use Rattle.std.specs.Bool.{IsFalse}
 use Rattle.std.specs.Prelude.{replicate, option_map, reverse, slice_index_or}
 use Rattle.std.proofs.lemmas.Bool.{and_left}
@@ -10,7 +10,7 @@ use Rattle.fab_world.specs.Machine.{at_start}
 use Rattle.fab_core.proofs.Tables.{node_below}
 use Rattle.fab_node.specs.Standing.{GivenModel, IsGiven, JournalModel, NodeModel}
 use Rattle.fab_queues.specs.Channels.{Network, queue_of, sent_of}
-use Rattle.fab_core.specs.Cores.{IsCore, NodesStand, SlotStands, count_in, is_honest, posts_from, setting, slot}
+use Rattle.fab_core.specs.Cores.{IsCore, SlotStands, count_in, is_honest, posts_from, setting, slot}
 use Rattle.fab_core.specs.Telling.{those_in}
 use Rattle.fab_core.specs.Starts.{AreAtStart, AreBack, IsFailedAt, honest_below, journals_faults, nodes_faults}
 use Rattle.fab_core.proofs.Between.{those_map}
@@ -109,35 +109,47 @@ faults_of [] = refl
 faults_of (None ∷ xs) = faults_of xs
 faults_of (Some x ∷ xs) = ap (λ ys. key_of x.journal ∷ ys) (faults_of xs)
 
-one_turned : (slot : Option NodeModel) → reverse (nodes_faults (slot ∷ [])) ≡ nodes_faults (slot ∷ [])
-one_turned None = refl
-one_turned (Some x) = refl
-
--- the journal of the last node is put in front of those that come behind
-pub back_next : {C : Type 0} (view : C → JournalModel) (old now : List C) (made left : List (Option NodeModel)) (slot : Option NodeModel) (all : List (ℕ × Bool))
-    → made ≡ left ++ slot ∷ [] → map view now ≡ map view old ++ map (λ x. x.journal) (those_in (slot ∷ []))
-    → nodes_faults made ++ reverse (map (λ c. key_of (view c)) old) ≡ all → nodes_faults left ++ reverse (map (λ c. key_of (view c)) now) ≡ all
-back_next view old now made left slot all parts put h =
-    let keys : map (λ c. key_of (view c)) now ≡ map (λ c. key_of (view c)) old ++ nodes_faults (slot ∷ []) =
-    keys_of view now ∙ ap (map key_of) put ∙ map-append key_of (map view old) (map (λ x. x.journal) (those_in (slot ∷ [])))
-    ∙ ap (λ ys. ys ++ map key_of (map (λ x. x.journal) (those_in (slot ∷ [])))) (sym (keys_of view old))
-    ∙ ap (λ ys. map (λ c. key_of (view c)) old ++ ys) (sym (faults_of (slot ∷ [])))
-    in
-    ap (λ ys. nodes_faults left ++ reverse ys) keys
-    ∙ ap (λ ys. nodes_faults left ++ ys) (reverse-append (map (λ c. key_of (view c)) old) (nodes_faults (slot ∷ [])))
-    ∙ ap (λ ys. nodes_faults left ++ (ys ++ reverse (map (λ c. key_of (view c)) old))) (one_turned slot)
-    ∙ sym (append_assoc (nodes_faults left) (nodes_faults (slot ∷ [])) (reverse (map (λ c. key_of (view c)) old)))
-    ∙ ap (λ ys. ys ++ reverse (map (λ c. key_of (view c)) old)) (sym (faults_both left (slot ∷ [])) ∙ ap nodes_faults (sym parts))
-    ∙ h
-
-pub one_key : (keys : List (ℕ × Bool)) (a b : ℕ) (s t : Bool) → a ≡ b → s ≡ t → keys ++ (a, s) ∷ [] ≡ keys ++ (b, t) ∷ []
-one_key keys a b s t same alike = ap (λ n. keys ++ (n, s) ∷ []) same ∙ ap (λ u. keys ++ (b, u) ∷ []) alike
-
-map_turned : {A B : Type 0} (f : A → B) (xs : List A) → map f (reverse xs) ≡ reverse (map f xs)
+pub map_turned : {A B : Type 0} (f : A → B) (xs : List A) → map f (reverse xs) ≡ reverse (map f xs)
 map_turned f [] = refl
 map_turned f (x ∷ xs) =
     ap (map f) (reverse-append (x ∷ []) xs) ∙ map-append f (reverse xs) (x ∷ []) ∙ ap (λ ys. ys ++ f x ∷ []) (map_turned f xs)
     ∙ sym (reverse-append (f x ∷ []) (map f xs))
+
+one_turned : (slot : Option NodeModel) → reverse (nodes_faults (slot ∷ [])) ≡ nodes_faults (slot ∷ [])
+one_turned None = refl
+one_turned (Some x) = refl
+
+same_turned : (slot : Option NodeModel) → reverse (map (λ x. x.journal) (those_in (slot ∷ []))) ≡ map (λ x. x.journal) (those_in (slot ∷ []))
+same_turned None = refl
+same_turned (Some x) = refl
+
+-- the journal of the last node is put in front of those that come behind
+pub back_next : {C : Type 0} (view : C → JournalModel) (old now : List C) (made left : List (Option NodeModel)) (slot : Option NodeModel) (all : List JournalModel)
+    → made ≡ left ++ slot ∷ [] → map view now ≡ map view old ++ map (λ x. x.journal) (those_in (slot ∷ []))
+    → map (λ x. x.journal) (those_in made) ++ reverse (map view old) ≡ all → map (λ x. x.journal) (those_in left) ++ reverse (map view now) ≡ all
+back_next view old now made left slot all parts put h =
+    let last = map (λ (x : NodeModel). x.journal) (those_in (slot ∷ [])) in
+    let first = map (λ (x : NodeModel). x.journal) (those_in left) in
+    ap (λ ys. first ++ reverse ys) put
+    ∙ ap (λ ys. first ++ ys) (reverse-append (map view old) last)
+    ∙ ap (λ ys. first ++ (ys ++ reverse (map view old))) (same_turned slot)
+    ∙ sym (append_assoc first last (reverse (map view old)))
+    ∙ ap (λ ys. ys ++ reverse (map view old))
+    (sym (map-append (λ (x : NodeModel). x.journal) (those_in left) (those_in (slot ∷ [])))
+    ∙ ap (map (λ (x : NodeModel). x.journal)) (sym (those_both left (slot ∷ [])) ∙ ap those_in (sym parts)))
+    ∙ h
+
+-- their keys are those of the nodes, and of what was left
+pub handed_keys : {C : Type 0} (view : C → JournalModel) (back rest : List C) (nodes : List (Option NodeModel))
+    → map view back ≡ map (λ x. x.journal) (those_in nodes) ++ reverse (map view rest)
+    → map (λ c. key_of (view c)) back ≡ nodes_faults nodes ++ reverse (map (λ c. key_of (view c)) rest)
+handed_keys view back rest nodes h =
+    keys_of view back ∙ ap (map key_of) h ∙ map-append key_of (map (λ (x : NodeModel). x.journal) (those_in nodes)) (reverse (map view rest))
+    ∙ ap (λ ys. ys ++ map key_of (reverse (map view rest))) (sym (faults_of nodes))
+    ∙ ap (λ ys. nodes_faults nodes ++ ys) (map_turned key_of (map view rest) ∙ ap reverse (sym (keys_of view rest)))
+
+pub one_key : (keys : List (ℕ × Bool)) (a b : ℕ) (s t : Bool) → a ≡ b → s ≡ t → keys ++ (a, s) ∷ [] ≡ keys ++ (b, t) ∷ []
+one_key keys a b s t same alike = ap (λ n. keys ++ (n, s) ∷ []) same ∙ ap (λ u. keys ++ (b, u) ∷ []) alike
 
 pub turned_keys : {C : Type 0} (key : C → ℕ × Bool) (journals turned : List C) → turned ≡ reverse journals → reverse (map key turned) ≡ map key journals
 turned_keys key journals turned parts =
@@ -146,10 +158,10 @@ turned_keys key journals turned parts =
 pub journals_keys : (nodes : List (Option NodeModel)) → journals_faults (map (option_map (λ (x : NodeModel). x.journal)) nodes) ≡ nodes_faults nodes
 journals_keys nodes = ap (map key_of) (sym (those_map (λ (x : NodeModel). x.journal) nodes)) ∙ sym (faults_of nodes)
 
-pub all_back : {C : Type 0} (key : C → ℕ × Bool) (js turned : List C) (made : List (Option NodeModel)) (all : List (ℕ × Bool)) → turned ≡ reverse js → made ≡ []
-    → nodes_faults made ++ reverse (map key js) ≡ all → map key turned ≡ all
-all_back key js turned made all parts none h =
-    ap (map key) parts ∙ map_turned key js ∙ ap (λ m. nodes_faults m ++ reverse (map key js)) (sym none) ∙ h
+pub all_back : {C : Type 0} (view : C → JournalModel) (js turned : List C) (made : List (Option NodeModel)) (all : List JournalModel) → turned ≡ reverse js → made ≡ []
+    → map (λ x. x.journal) (those_in made) ++ reverse (map view js) ≡ all → map view turned ≡ all
+all_back view js turned made all parts none h =
+    ap (map view) parts ∙ map_turned view js ∙ ap (λ m. map (λ (x : NodeModel). x.journal) (those_in m) ++ reverse (map view js)) (sym none) ∙ h
 
 -- a journal that was the last one is that of the last node now
 pub taken_on : (old new : List (Option NodeModel)) (slot : Option NodeModel) (had have all : List (ℕ × Bool)) → new ≡ old ++ slot ∷ []

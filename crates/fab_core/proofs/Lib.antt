@@ -26,6 +26,8 @@ pub mod Placing
 pub mod Working
 pub mod AtStart
 pub mod Between
+pub mod Honest
+pub mod Left
 pub mod Ranges
 pub mod Taking
 pub mod Measured

@@ -1,5 +1,6 @@
 pub mod Acts
 pub mod Cores
+pub mod Honest
 pub mod Moved
 pub mod Places
 pub mod Planning

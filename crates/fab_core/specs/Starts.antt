@@ -1,6 +1,8 @@
 -- All nodes at the start of a run, and the journals that they are made of.
-use Rattle.std.specs.Prelude.{◌≡◌, ℕ, zero, suc, ◌+◌, Bool, false, IsTrue, List, [], ◌∷◌, ◌++◌, map, length, Option, if◌then◌else◌}
+use Rattle.std.specs.Prelude.{◌≡◌, ◌<◌, ℕ, zero, suc, ◌+◌, Bool, false, IsTrue, List, [], ◌∷◌, ◌++◌, map, length, take, Option, if◌then◌else◌}
+use Rattle.std.specs.List.{AllByRecursion}
 use Rattle.fab_base.specs.Faults.{Rose}
+use Rattle.fab_base.specs.JournalSpelling.{header_bytes}
 use Rattle.fab_language.specs.Evaluation.{map_at_start}
 use Rattle.fab_tree.specs.declared.resolved.Resolved.{Resolved}
 use Rattle.fab_rights.specs.declared.rights.Rights.{Rights}
@@ -40,6 +42,38 @@ pub record AreBack (g : GivenModel) (node : ℕ) (old new : List (ℕ × Bool)) 
   pub rose : Rose was now
   pub honest : IsTrue (is_honest g node)
   pub place : length before ≡ honest_below g node
+
+-- ---- what journals hold where the header of one couldn't be written
+
+pub record HoldsHeader (n : ℕ) (content : List ℕ) (synced : ℕ) : Type 0 where
+  pub content_is : content ≡ header_bytes 1 n
+  pub synced_is : synced ≡ length content
+
+pub record HoldsFront (n : ℕ) (content : List ℕ) (synced : ℕ) : Type 0 where
+  pub many : ℕ
+  pub content_is : content ≡ take many (header_bytes 1 n)
+  pub synced_is : synced ≡ 0
+
+pub record HoldsNothing (content : List ℕ) (synced : ℕ) : Type 0 where
+  pub content_is : content ≡ []
+  pub synced_is : synced ≡ 0
+
+-- That of node n: its header, where it comes before the one that failed; a front of it, of which nothing is synced, where it is that one; and
+-- nothing, where it comes behind.
+pub record IsLeft (failed n : ℕ) (content : List ℕ) (synced : ℕ) : Type 0 where
+  pub before : n < failed → HoldsHeader n content synced
+  pub here : n ≡ failed → HoldsFront n content synced
+  pub behind : failed < n → HoldsNothing content synced
+
+-- the last of these holds a front of the header, and the others nothing
+pub record EndsInFront {J : Type 0} (content : J → List ℕ) (synced : J → ℕ) (n : ℕ) (all : List J) : Type 0 where
+  pub others : List J
+  pub last : J
+  pub parts : all ≡ others ++ last ∷ []
+  pub empty : AllByRecursion (λ j. content j ≡ []) others
+  pub front : HoldsFront n (content last) (synced last)
+
+-- ---- one node after the other
 
 -- One number more: its node, if it is honest, and its journal is taken from the end.
 pub record IsNext (g : GivenModel) (n : ℕ) (old new : List (Option NodeModel)) (had have : List (ℕ × Bool)) : Type 0 where

@@ -11,7 +11,9 @@ ghost use Rattle.fab_base.specs.JournalSpelling.{header_bytes as header_of};
 ghost use Rattle.fab_device.specs.Devices.{JournalCause, KeepsSure};
 ghost use Rattle.fab_device.specs.declared.traits.JournalError.TheVariants.{Failed as JournalFault};
 ghost use Rattle.fab_core.specs.declared.refused.CoreRefused.TheVariants.{Journal as JournalFailed};
-ghost use Rattle.fab_core.specs.Starts.{AreAtStart, AreBack, IsFailedAt, IsNext, given_by, honest_below, journals_faults, nodes_faults};
+ghost use Rattle.fab_core.specs.Honest.{AreFor, honest_in};
+ghost use Rattle.fab_core.specs.Starts.{AreAtStart, AreBack, EndsInFront, HoldsFront, IsFailedAt, IsLeft, IsNext, given_by, honest_below, journals_faults, nodes_faults};
+ghost use Rattle.fab_core.specs.Telling.{those_in};
 
 use crate::core_state::Core;
 use crate::reading::put_journal;
@@ -58,6 +60,7 @@ fn start_journal<J: Journal>(
     requires { J.content journal.old ≡ [] }
     ensures content { OnOk result (J.content journal.new ≡ header_of 1 number) }
     ensures synced { OnOk result (J.synced journal.new ≡ length (J.content journal.new)) }
+    ensures failed { IsErrOf result JournalFault → HoldsFront number (J.content journal.new) (J.synced journal.new) }
     ensures cause { JournalCause (J.faults journal.old) (J.faults journal.new) result }
     ensures sure { KeepsSure (J.sure journal.old) (J.sure journal.new) (IsErrOf result JournalFault) }
 {
@@ -82,6 +85,7 @@ fn honest_node<J: Journal + Drop>(
     ensures failed { IsErrOf result JournalFault
         → IsFailedAt given.now number nodes.old.items nodes.new.items (map (λ j. (J.faults j, J.sure j)) rest.old.items)
         (map (λ j. (J.faults j, J.sure j)) rest.new.items) }
+    ensures left { IsErrOf result JournalFault → EndsInFront J.content J.synced number rest.new.items }
 {
     nodes.reserve(1)?;
     let role = role_at_start(alloc, given, number)?;
@@ -117,6 +121,7 @@ fn next_node<J: Journal + Drop>(
     ensures failed { IsErrOf result JournalFault
         → IsFailedAt given.now number nodes.old.items nodes.new.items (map (λ j. (J.faults j, J.sure j)) rest.old.items)
         (map (λ j. (J.faults j, J.sure j)) rest.new.items) }
+    ensures left { IsErrOf result JournalFault → EndsInFront J.content J.synced number rest.new.items }
 {
     if is_honest(given, number) {
         honest_node(alloc, given, number, nodes, rest)
@@ -130,8 +135,9 @@ fn next_node<J: Journal + Drop>(
 /// in order from the end. The vector has a place for each.
 fn hand_back<J: Journal + Drop>(nodes: Vec<Option<Node<J>>>, rest: Vec<J>) -> Vec<J>
     requires { length rest.items + count_in nodes.items ≤ vec_capacity rest }
-    ensures { map (λ j. (J.faults j, J.sure j)) result.items
-        ≡ nodes_faults nodes.items ++ reverse (map (λ j. (J.faults j, J.sure j)) rest.items) }
+    ensures { map (λ journal. record { content = J.content journal; synced = J.synced journal; room = J.room journal; faults = J.faults journal; sure = J.sure journal }) result.items
+        ≡ map (λ node. node.journal) (those_in nodes.items)
+        ++ reverse (map (λ journal. record { content = J.content journal; synced = J.synced journal; room = J.room journal; faults = J.faults journal; sure = J.sure journal }) rest.items) }
 {
     let mut journals = rest;
     let mut made = nodes;
@@ -143,6 +149,7 @@ fn hand_back<J: Journal + Drop>(nodes: Vec<Option<Node<J>>>, rest: Vec<J>) -> Ve
 }
 
 /// The nodes at the start, of these journals, which come in order from the end; and the emptied vector.
+#[tactic(auto, unfolding(crate::specs::Honest::honest_up))]
 fn make_nodes<J: Journal + Drop>(
     alloc: Global,
     given: &Given,
@@ -157,6 +164,8 @@ fn make_nodes<J: Journal + Drop>(
     ensures places { IfOk result (λ made. HasPlaces made.0.items (length made.1.items) (vec_capacity made.1)) }
     ensures back { (node : ℕ) (back : _) → result ≡ Err (JournalFailed node back)
         → AreBack given.now node (reverse (map (λ j. (J.faults j, J.sure j)) journals.items)) (map (λ j. (J.faults j, J.sure j)) back) }
+    ensures left { (node : ℕ) (back : _) → result ≡ Err (JournalFailed node back)
+        → AreFor (λ n j. IsLeft node n (J.content j) (J.synced j)) (honest_in given.now) back }
 {
     let mut rest = journals;
     let mut nodes = Vec::new(alloc);
@@ -222,6 +231,9 @@ impl<J: Journal + Drop> Core<J> {
         // Each is handed back, and the count of one has risen that may fail.
         ensures back { (node : ℕ) (back : _) → result ≡ Err (JournalFailed node back)
             → AreBack (given_by program.value rights) node (map (λ j. (J.faults j, J.sure j)) journals) (map (λ j. (J.faults j, J.sure j)) back) }
+        // Those before it hold their headers, synced; it holds a front of its own; and those behind it hold nothing.
+        ensures left { (node : ℕ) (back : _) → result ≡ Err (JournalFailed node back)
+            → AreFor (λ n j. IsLeft node n (J.content j) (J.synced j)) (honest_in (given_by program.value rights)) back }
     {
         let Ok((given, queues, places)) = parts_at_start(alloc, program, rights) else {
             return Err(CoreRefused::Memory);

@@ -17,6 +17,7 @@ use fab_device::Journal;
 use fab_eval::Job;
 use fab_net::{Logged, ReqOutcome};
 use fab_node::{Node, Role};
+use fab_rights::Rights;
 use fab_tree::resolved::Resolved;
 use fab_worker::WorkerState;
 use std::sync::Arc;
@@ -111,6 +112,13 @@ impl<J: Journal> Core<J> {
         ensures { result.now.value ≡ self.now.given.program }
     {
         self.given.program()
+    }
+
+    /// The rights that it was made of.
+    pub fn rights(&self) -> &Rights
+        ensures { result.now ≡ self.now.given.rights }
+    {
+        self.given.rights()
     }
 
     /// The log of the run so far.

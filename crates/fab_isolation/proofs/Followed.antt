@@ -39,6 +39,8 @@ use Rattle.fab_fewer.proofs.AsksInView.{asks_are_in_view}
 use Rattle.fab_fewer.proofs.Blanks.{blanks_change_nothing, blanked_is_alike}
 use Rattle.fab_fewer.proofs.InPart.{views_replay}
 use Rattle.fab_views.proofs.Bundles.{view_of}
+use Rattle.fab_views.proofs.Declared.{labels_declared}
+use Rattle.fab_views.proofs.Labels.{HasLabels}
 use Rattle.fab_release.specs.Sights.{Sight, Public}
 use Rattle.fab_release.specs.Bundles.{erased_of, public_of, public_part, sight_of}
 use Rattle.fab_release.specs.Isolation.{IsSightOf}
@@ -102,6 +104,9 @@ module _ (s : Start) (rights : Rights) (nodes : ℕ) (sees shows : ℕ → Bool)
   abbrev P : Public
   P = public_of sees shows rights (public_part sees shows (resolved s))
 
+  declared : HasLabels (resolved s)
+  declared = labels_declared s h.accepted.named
+
   view : IsView sees shows (resolved s)
   view = view_of s nodes sees shows h.accepted.named h.accepted.labelled h.seen
 
@@ -111,8 +116,8 @@ module _ (s : Start) (rights : Rights) (nodes : ℕ) (sees shows : ℕ → Bool)
   is_sight : IsSightOf S sight
   is_sight = record {
     hostile = h.hostile;
-    holds = held_is_shown r nodes sees shows h.seen rights h.accepted.rights_are;
-    fetches = fetched_is_shown r nodes sees shows h.seen rights h.accepted.rights_are;
+    holds = held_is_shown r nodes sees shows h.seen declared rights h.accepted.rights_are;
+    fetches = fetched_is_shown r nodes sees shows h.seen declared rights h.accepted.rights_are;
   }
 
   is_public : IsPublicOf S sight P
@@ -182,7 +187,7 @@ module _ (s : Start) (rights : Rights) (nodes : ℕ) (sees shows : ℕ → Bool)
           made = same.made;
           elsewhere = subst (AllByRecursion AtSeenStores) (sym same.names)
               (chosen_names (λ o. in_view sees shows r o.site) AtSeenStores full.made full.made (λ o i. i)
-              (λ o v i has. held_is_shown r nodes sees shows h.seen rights h.accepted.rights_are o.store o.class has (made_held w number q found t N is up fit o i)));
+              (λ o v i has. held_is_shown r nodes sees shows h.seen declared rights h.accepted.rights_are o.store o.class has (made_held w number q found t N is up fit o i)));
           objects = same.objects;
           ascending = agrees.ascending known (settled v e) sorted;
         };
@@ -223,11 +228,11 @@ module _ (s : Start) (rights : Rights) (nodes : ℕ) (sees shows : ℕ → Bool)
       → IsTrue (may_hold rights x.1.store x.1.class) → IsTrue (is_seen sight x)
   asked x f has may =
       both_true (in_view sees shows r x.0) (shows x.1.class)
-      (f (held_is_asked r nodes sees shows h.seen rights h.accepted.rights_are x.1.store x.1.class has may))
-      (held_is_shown r nodes sees shows h.seen rights h.accepted.rights_are x.1.store x.1.class has may)
+      (f (held_is_asked r nodes sees shows h.seen declared rights h.accepted.rights_are x.1.store x.1.class has may))
+      (held_is_shown r nodes sees shows h.seen declared rights h.accepted.rights_are x.1.store x.1.class has may)
 
   learns : LearnsAsking sees shows (resolved s)
-  learns = learns_asking r nodes sees shows h.seen h.accepted.labelled view
+  learns = learns_asking r nodes sees shows h.seen declared h.accepted.labelled view
 
   asks_by : (w number : ℕ) (o : Option Request) → request_at r w number ≡ o → (t : Tid) (N : FlatMap) → IsTrue (ascends N) → AreFit S N
       → AllByRecursion (λ x. IsTrue (has_bit nodes x.1.store) → IsTrue (may_hold rights x.1.store x.1.class) → IsTrue (is_seen sight x)) (full_of o t N).touches

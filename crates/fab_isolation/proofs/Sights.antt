@@ -16,8 +16,10 @@ use Rattle.fab_rights.specs.declared.rights.ClassRights.{ClassRights}
 use Rattle.fab_rights.specs.declared.rights.Rights.{Rights}
 use Rattle.fab_rights.proofs.Bits.{has_bit_exact}
 use Rattle.fab_settings.proofs.Nodes.{holds_number}
+use Rattle.fab_shapes.proofs.Lists.{at_index}
 use Rattle.fab_fewer.specs.Asking.{access_of, is_asked_in_view}
 use Rattle.fab_views.specs.Views.{IsSeenBy}
+use Rattle.fab_views.proofs.Labels.{IsLabelledClass, HasLabels}
 
 some_below : {A : Type 0} (P : A → Type 0) (xs : List A) (i : ℕ) → IsSomeAnd (slice_get xs i) P → i < length xs
 some_below P [] i h = absurd h
@@ -40,16 +42,19 @@ fetched_bit : (o : Option ClassRights) (n : ℕ) → IsTrue (computed.fetches o 
 fetched_bit None n h = absurd (true≢false (sym h))
 fetched_bit (Some c) n h = (has_bit_exact c.fetchers n).0 h
 
-module _ (r : Resolved) (nodes : ℕ) (sees shows : ℕ → Bool) (seen : IsSeenBy r nodes sees shows) where
-  -- a label that a node of the set reads is seen
-  pub reads_are_seen : (n l : ℕ) → has_bit nodes n ≡ true → IsNode r n → IsReader (delegations_of r) (label_at r l) (principal_of r n) → IsTrue (sees l)
-  reads_are_seen n l bit node reads = (seen.labels l).1 (n, (has_bit_exact nodes n).0 bit, node, reads)
+module _ (r : Resolved) (nodes : ℕ) (sees shows : ℕ → Bool) (seen : IsSeenBy r nodes sees shows) (declared : HasLabels r) where
+  class_labelled : (class : ℕ) (c : Class) → slice_get r.classes class ≡ Some c → IsLabelledClass (length r.labels) c
+  class_labelled class c e = at_index (IsLabelledClass (length r.labels)) r.classes class c declared.classes e
+
+  -- a declared label that a node of the set reads is seen
+  pub reads_are_seen : (n l : ℕ) → l < length r.labels → has_bit nodes n ≡ true → IsNode r n → IsReader (delegations_of r) (label_at r l) (principal_of r n) → IsTrue (sees l)
+  reads_are_seen n l is bit node reads = (seen.labels l).1 (is, (n, (has_bit_exact nodes n).0 bit, node, reads))
 
   -- and so is a class of such a label
   read_classes : (n class : ℕ) → has_bit nodes n ≡ true → IsNode r n
       → (o : Option Class) → slice_get r.classes class ≡ o → IsSomeAnd o (λ c. IsReader (delegations_of r) (label_at r c.label.number) (principal_of r n)) → shows class ≡ true
   read_classes n class bit node None e h = absurd h
-  read_classes n class bit node (Some c) e h = seen.classes class c e ∙ reads_are_seen n c.label.number bit node h
+  read_classes n class bit node (Some c) e h = seen.classes class c e ∙ reads_are_seen n c.label.number (class_labelled class c e).label bit node h
 
   module _ (rights : Rights) (are : AreRights r rights) where
     pub held_is_shown : (n class : ℕ) → has_bit nodes n ≡ true → IsTrue (may_hold rights n class) → shows class ≡ true
@@ -70,8 +75,8 @@ module _ (r : Resolved) (nodes : ℕ) (sees shows : ℕ → Bool) (seen : IsSeen
     pub held_is_asked : (n class : ℕ) → has_bit nodes n ≡ true → IsTrue (may_hold rights n class) → IsTrue (is_asked_in_view sees shows r class)
     held_is_asked n class bit may =
         let number = holds_number r rights are n class may in
-        by (slice_get r.classes class) (role_is_node r n _ number.0) number.1
+        by (slice_get r.classes class) refl (role_is_node r n _ number.0) number.1
       where
-        by : (o : Option Class) → IsNode r n → IsSomeAnd o (λ c. HoldsClass r (delegations_of r) n c) → IsTrue (list_any sees (access_of o))
-        by None node h = absurd h
-        by (Some c) node h = either_true (sees c.access.number) (reads_are_seen n c.access.number bit node h.learns)
+        by : (o : Option Class) → slice_get r.classes class ≡ o → IsNode r n → IsSomeAnd o (λ c. HoldsClass r (delegations_of r) n c) → IsTrue (list_any sees (access_of o))
+        by None e node h = absurd h
+        by (Some c) e node h = either_true (sees c.access.number) (reads_are_seen n c.access.number (class_labelled class c e).access bit node h.learns)

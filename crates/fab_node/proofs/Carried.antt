@@ -19,7 +19,7 @@ use Rattle.fab_node.specs.declared.plan.NodePlan.{NodePlan}
 use Rattle.fab_node.specs.declared.plan.NodePlan.TheVariants as plans
 use Rattle.fab_node.specs.declared.role.Role.{Role}
 use Rattle.fab_node.specs.declared.role.Role.TheVariants as roles
-use Rattle.fab_node.specs.Standing.{BeginsWith, GivenModel, IsJournalOf, IsTornPart, JournalModel, NodeModel, RoleStands, Stands, node_at_start}
+use Rattle.fab_node.specs.Standing.{GivenModel, IsJournalOf, IsTornPart, JournalModel, Lasts, NodeModel, RoleStands, Stands, node_at_start}
 use Rattle.fab_node.specs.Deeds.{CanDo, EndsAt, IsPlanFor, Writes, cut_at, done_by, down, entry_in, failed, readied_for}
 use Rattle.fab_node.proofs.Written.{readied_entries, readied_failed, readied_whole}
 
@@ -213,8 +213,8 @@ module _ (g : GivenModel) (x : Node) (old new : NodeModel) (number : new.number 
       (subst (λ (r : Role). RoleStands g old.number y r) (sym role) (role_down g old.number x y old.role same down idle s.role))
 
   -- for good
-  pub failed_stands : new.failed ≡ true → BeginsWith old.number x.entries new.journal.content → Stands g (failed x) new
-  failed_stands fails front = record {
+  pub failed_stands : new.failed ≡ true → Lasts old.number x.entries new.journal.content new.journal.synced → Stands g (failed x) new
+  failed_stands fails lasts = record {
     up = low;
     failed = fails;
     role = old_role (failed x) refl refl refl;
@@ -223,7 +223,7 @@ module _ (g : GivenModel) (x : Node) (old new : NodeModel) (number : new.number 
     whole = λ up. absurd (true≢false (sym up));
     torn = s.torn;
     journal = journal_at (failed x) old.number new.number new.journal.content new.journal.synced number
-        (record { content_is = λ never. absurd (true≢false never); synced_is = λ never. absurd (true≢false never); front = front });
+        (record { content_is = λ never. absurd (true≢false never); synced_is = λ never. absurd (true≢false never); lasts = lasts });
   }
 
   -- and may come back
@@ -257,6 +257,6 @@ start_stands g n role new number same up fails content synced s =
       journal = journal_at node_at_start n new.number new.journal.content new.journal.synced number (record {
         content_is = λ _. bare ∙ sym (append-nil (journal_bytes 1 n []));
         synced_is = λ _. synced ∙ ap length bare;
-        front = ([], bare ∙ sym (append-nil (journal_bytes 1 n [])));
+        lasts = record { front = ([], bare ∙ sym (append-nil (journal_bytes 1 n []))); durable = omega (arith, synced ∙ ap length bare) };
       });
     }

@@ -85,7 +85,7 @@ written = refl
 
 -- that of a node which hasn't failed is exactly its records and what is torn
 torn_journal : IsJournalOf 7 torn (journal_bytes 1 7 (e.Boot 2 ∷ []) ++ 0 ∷ 0 ∷ []) 17
-torn_journal = record { content_is = λ _. refl; synced_is = λ _. refl; front = (0 ∷ 0 ∷ [], refl) }
+torn_journal = record { content_is = λ _. refl; synced_is = λ _. refl; lasts = record { front = (0 ∷ 0 ∷ [], refl); durable = omega (arith) } }
 
 -- a byte more is none
 byte_more : IsJournalOf 7 torn (journal_bytes 1 7 (e.Boot 2 ∷ []) ++ 0 ∷ 0 ∷ 0 ∷ []) 17 → ⊥
@@ -96,5 +96,13 @@ synced_too_far : IsJournalOf 7 torn (journal_bytes 1 7 (e.Boot 2 ∷ []) ++ 0 �
 synced_too_far h = let same = h.synced_is refl in omega (arith, same)
 
 -- that of one which has failed may hold more
-more_behind : IsJournalOf 7 (failed booted) (journal_bytes 1 7 (e.Boot 2 ∷ []) ++ 9 ∷ 9 ∷ []) 3
-more_behind = record { content_is = λ never. absurd (true≢false never); synced_is = λ never. absurd (true≢false never); front = (9 ∷ 9 ∷ [], refl) }
+more_behind : IsJournalOf 7 (failed booted) (journal_bytes 1 7 (e.Boot 2 ∷ []) ++ 9 ∷ 9 ∷ []) 17
+more_behind = record {
+  content_is = λ never. absurd (true≢false never);
+  synced_is = λ never. absurd (true≢false never);
+  lasts = record { front = (9 ∷ 9 ∷ [], refl); durable = omega (arith) };
+}
+
+-- but what it has of its records is synced
+unsynced_record : IsJournalOf 7 (failed booted) (journal_bytes 1 7 (e.Boot 2 ∷ [])) 16 → ⊥
+unsynced_record h = omega (arith, h.lasts.durable)

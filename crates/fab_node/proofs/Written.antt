@@ -12,7 +12,7 @@ use Rattle.fab_world.specs.Workers.{Act}
 use Rattle.fab_settings.specs.Settings.{setting_of}
 use Rattle.fab_node.specs.declared.plan.NodePlan.{NodePlan}
 use Rattle.fab_node.specs.declared.plan.NodePlan.TheVariants as plans
-use Rattle.fab_node.specs.Standing.{BeginsWith, GivenModel, IsJournalOf, JournalStands}
+use Rattle.fab_node.specs.Standing.{GivenModel, IsJournalOf, JournalStands, Lasts}
 use Rattle.fab_node.specs.Deeds.{CallsJournal, EndsAt, IsReady, Writes, cut_at, done_by, down, entry_in, keep_in, readied_for}
 
 -- ---- how a node begins to do what is planned
@@ -68,22 +68,26 @@ module _ (n : ℕ) (x : Node) (content : List ℕ) (synced : ℕ) where
     woken_journal (plans.Wakes role k step) cuts new now same length_same = record {
       content_is = λ _. same ∙ sym (append-nil (journal_bytes 1 n x.entries));
       synced_is = λ _. length_same;
-      front = ([], same ∙ sym (append-nil (journal_bytes 1 n x.entries)));
+      lasts = record { front = ([], same ∙ sym (append-nil (journal_bytes 1 n x.entries))); durable = omega (arith, length_same) };
     }
 
     pub restarted : (new : List ℕ) (now : ℕ) → new ≡ take keep content → now ≡ keep → IsJournalOf n (readied_for plan x) new now
     restarted new now content_same synced_same = woken_journal plan there new now (content_same ∙ kept_front) (synced_same ∙ so_long)
 
     -- a call that failed has left a front with all of them
-    pub front_left : (new : List ℕ) → IsFrontFrom keep content new → BeginsWith n x.entries new
-    front_left new left =
+    pub front_left : (new : List ℕ) (now : ℕ) → IsFrontFrom keep content new → now ≡ synced → Lasts n x.entries new now
+    front_left new now left same =
         let whole = journal_bytes 1 n x.entries in
         let more : ℕ = length new - length whole in
-        let long : length new ≡ length whole + more = omega (arith, left.longer, so_long) in (
-          take more x.torn,
-          sym left.front ∙ ap (take (length new)) (h.stands.content_is h.unfailed) ∙ ap (λ k. take k (whole ++ x.torn)) long
-              ∙ take-append-add whole x.torn more,
-        )
+        let long : length new ≡ length whole + more = omega (arith, left.longer, so_long) in
+        record {
+          front = (
+            take more x.torn,
+            sym left.front ∙ ap (take (length new)) (h.stands.content_is h.unfailed) ∙ ap (λ k. take k (whole ++ x.torn)) long
+                ∙ take-append-add whole x.torn more,
+          );
+          durable = omega (arith, same, h.stands.lasts.durable);
+        }
 
   -- it is up already
   pub stayed : (plan : NodePlan) → keep_in plan ≡ None → IsJournalOf n x content synced → IsJournalOf n (readied_for plan x) content synced
@@ -127,7 +131,7 @@ module _ (n : ℕ) (y : Node) (content : List ℕ) (synced : ℕ) (h : IsJournal
       record {
         content_is = λ _. bare ∙ ap (λ (torn : List ℕ). journal_bytes 1 n (y.entries ++ entry ∷ []) ++ torn) (sym whole);
         synced_is = λ _. all ∙ ap length same;
-        front = ([], bare);
+        lasts = record { front = ([], bare); durable = omega (arith, all, ap length same) };
       }
 
   -- the record is written and synced
@@ -137,8 +141,11 @@ module _ (n : ℕ) (y : Node) (content : List ℕ) (synced : ℕ) (h : IsJournal
       subst (λ (o : Option Entry). JournalStands n (y.entries ++ option_list o) y.torn y.failed new now) (sym there) (grown entry new now added all)
 
   -- a front of it is there
-  pub still_begins : (more new : List ℕ) → new ≡ content ++ more → BeginsWith n y.entries new
-  still_begins more new added = (more, added ∙ ap (λ (c : List ℕ). c ++ more) all_whole)
+  pub still_lasts : (more new : List ℕ) (now : ℕ) → new ≡ content ++ more → now ≡ synced → Lasts n y.entries new now
+  still_lasts more new now added same = record {
+    front = (more, added ∙ ap (λ (c : List ℕ). c ++ more) all_whole);
+    durable = omega (arith, same, h.lasts.durable);
+  }
 
   module _ (keep : ℕ) (entry : Entry) (new : List ℕ) (now : ℕ) (added : new ≡ content ++ take keep (record_bytes 1 entry)) where
     abbrev cut_by : List ℕ → Bool → Node
@@ -155,7 +162,7 @@ module _ (n : ℕ) (y : Node) (content : List ℕ) (synced : ℕ) (h : IsJournal
         record {
           content_is = λ _. same;
           synced_is = λ _. long ∙ h.synced_is unfailed;
-          front = (take keep (record_bytes 1 entry), same);
+          lasts = record { front = (take keep (record_bytes 1 entry), same); durable = omega (arith, long, h.lasts.durable) };
         }
 
     pub cut_with : (g : GivenModel) (act : Act) → act.entry ≡ Some entry → now ≡ (if keep == length (record_bytes 1 entry) then length new else synced)
@@ -190,9 +197,10 @@ module _ (n : ℕ) (x : Node) (act : Act) (plan : NodePlan) (first : List ℕ) (
     written new all added long =
         done_with n at ready now is at_unfailed at_whole act one.0 new all one.1 (added ∙ ap (λ (b : List ℕ). ready ++ b) (same ∙ one.2)) long
 
-    pub written_front : (new : List ℕ) (k : ℕ) → new ≡ ready ++ take k bytes → BeginsWith n x.entries new
-    written_front new k added =
-        subst (λ (es : List Entry). BeginsWith n es new) (readied_entries plan x) (still_begins n at ready now is at_unfailed at_whole (take k bytes) new added)
+    pub written_front : (new : List ℕ) (all k : ℕ) → new ≡ ready ++ take k bytes → all ≡ now → Lasts n x.entries new all
+    written_front new all k added same =
+        subst (λ (es : List Entry). Lasts n es new all) (readied_entries plan x)
+        (still_lasts n at ready now is at_unfailed at_whole (take k bytes) new all added same)
 
     pub written_part : (g : GivenModel) (keep : ℕ) (new : List ℕ) (all : ℕ) → new ≡ ready ++ take keep bytes
         → all ≡ (if keep == length bytes then length new else now) → IsJournalOf n (cut_at g keep act at) new all
@@ -224,3 +232,7 @@ on_ok (Err e) a b f = tt
 pub on_err : {T E A B : Type 0} (r : Result T E) → OnErr r A → (A → B) → OnErr r B
 on_err (Ok x) a f = tt
 on_err (Err e) a f = f a
+
+pub on_errs : {T E A B C : Type 0} (r : Result T E) → OnErr r A → OnErr r B → (A → B → C) → OnErr r C
+on_errs (Ok x) a b f = tt
+on_errs (Err e) a b f = f a b

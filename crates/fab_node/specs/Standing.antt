@@ -81,12 +81,17 @@ IsTornPart bytes = (entry : Entry) × (n : ℕ) × IsEntry 1 entry × (n < lengt
 abbrev pub BeginsWith : ℕ → List Entry → List ℕ → Type 0
 BeginsWith n entries content = (more : List ℕ) × (content ≡ journal_bytes 1 n entries ++ more)
 
+-- and all of them are synced
+pub record Lasts (n : ℕ) (entries : List Entry) (content : List ℕ) (synced : ℕ) : Type 0 where
+  pub front : BeginsWith n entries content
+  pub durable : length (journal_bytes 1 n entries) ≤ synced
+
 -- The journal of a node that hasn't failed holds the header, the whole records, and what is torn, and all but what is torn is synced; that
--- of one that has begins with the header and the whole records.
+-- of one that has begins with the header and the whole records, and these are synced.
 pub record JournalStands (n : ℕ) (entries : List Entry) (torn : List ℕ) (failed : Bool) (content : List ℕ) (synced : ℕ) : Type 0 where
   pub content_is : failed ≡ false → content ≡ journal_bytes 1 n entries ++ torn
   pub synced_is : failed ≡ false → synced ≡ length (journal_bytes 1 n entries)
-  pub front : BeginsWith n entries content
+  pub lasts : Lasts n entries content synced
 
 -- so many bytes are synced of this content, which is that of the machine's node of this number
 abbrev pub IsJournalOf : ℕ → Node → List ℕ → ℕ → Type 0

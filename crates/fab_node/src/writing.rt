@@ -6,7 +6,7 @@ ghost use Rattle.fab_device.specs.Devices.{KeepsSure};
 ghost use Rattle.fab_world.specs.Machine.{Node as Standing};
 ghost use Rattle.fab_world.specs.Workers.{Act};
 ghost use Rattle.fab_node.specs.Deeds.{CallsJournal, HasRoomFor, IsReady, Writes, cut_at, done_by, entry_in, keep_in, readied_for};
-ghost use Rattle.fab_node.specs.Standing.{BeginsWith, GivenModel, IsJournalOf};
+ghost use Rattle.fab_node.specs.Standing.{GivenModel, IsJournalOf, Lasts};
 
 use crate::plan::NodePlan;
 use fab_base::Failed;
@@ -19,6 +19,7 @@ fn append_fitting<J: Journal>(journal: &mut J, bytes: &[u8]) -> Result<(), Faile
     ensures content { OnOk result (J.content journal.new ≡ J.content journal.old ++ bytes.now) }
     ensures synced { OnOk result (J.synced journal.new ≡ length (J.content journal.new)) }
     ensures err { OnErr result ((n : ℕ) × (J.content journal.new ≡ J.content journal.old ++ take n bytes.now)) }
+    ensures unsynced { OnErr result (J.synced journal.new ≡ J.synced journal.old) }
     ensures cause { HasCause (J.faults journal.old) (J.faults journal.new) result }
     ensures success { OnOk result (J.faults journal.new ≡ J.faults journal.old) }
     ensures sure { KeepsSure (J.sure journal.old) (J.sure journal.new) (IsErr result) }
@@ -66,7 +67,7 @@ fn ready<J: Journal>(journal: &mut J, plan: &NodePlan) -> Result<(), Failed>
     ensures ok { OnOk result ((n : ℕ) (x : Standing) → IsReady n x (J.content journal.old) (J.synced journal.old) plan.now
         → IsJournalOf n (readied_for plan.now x) (J.content journal.new) (J.synced journal.new)) }
     ensures err { OnErr result ((n : ℕ) (x : Standing) → IsReady n x (J.content journal.old) (J.synced journal.old) plan.now
-        → BeginsWith n x.entries (J.content journal.new)) }
+        → Lasts n x.entries (J.content journal.new) (J.synced journal.new)) }
     ensures called { OnErr result (CallsJournal plan.now) }
     ensures room { J.room journal.old ≤ J.room journal.new }
     ensures cause { HasCause (J.faults journal.old) (J.faults journal.new) result }
@@ -79,14 +80,14 @@ fn ready<J: Journal>(journal: &mut J, plan: &NodePlan) -> Result<(), Failed>
     }
 }
 
-/// Writes the record of a plan, and syncs it. After a failure the whole records are still there.
+/// Writes the record of a plan, and syncs it. After a failure the whole records are still there, and synced.
 pub fn write<J: Journal>(journal: &mut J, plan: &NodePlan) -> Result<(), Failed>
     requires ready { (n : ℕ) × (x : Standing) × (act : Act) × Writes n x act (J.content journal.old) (J.synced journal.old) plan.now }
     requires room { HasRoomFor (entry_in plan.now) (J.room journal.old) }
     ensures ok { OnOk result ((n : ℕ) (x : Standing) (act : Act) → Writes n x act (J.content journal.old) (J.synced journal.old) plan.now
         → IsJournalOf n (done_by act (readied_for plan.now x)) (J.content journal.new) (J.synced journal.new)) }
     ensures err { OnErr result ((n : ℕ) (x : Standing) (act : Act) → Writes n x act (J.content journal.old) (J.synced journal.old) plan.now
-        → BeginsWith n x.entries (J.content journal.new)) }
+        → Lasts n x.entries (J.content journal.new) (J.synced journal.new)) }
     ensures called { OnErr result (CallsJournal plan.now) }
     ensures cause { HasCause (J.faults journal.old) (J.faults journal.new) result }
     ensures success { OnOk result (J.faults journal.new ≡ J.faults journal.old) }
@@ -100,7 +101,7 @@ pub fn write<J: Journal>(journal: &mut J, plan: &NodePlan) -> Result<(), Failed>
 }
 
 /// Writes so many bytes of the record of a plan, and syncs them where they are the whole of it. Answers
-/// whether they are. After a failure the whole records are still there.
+/// whether they are. After a failure the whole records are still there, and synced.
 pub fn write_front<J: Journal>(
     journal: &mut J,
     plan: &NodePlan,
@@ -114,7 +115,7 @@ pub fn write_front<J: Journal>(
     ensures ok { OnOk result ((g : GivenModel) (n : ℕ) (x : Standing) (act : Act) → Writes n x act (J.content journal.old) (J.synced journal.old) plan.now
         → IsJournalOf n (cut_at g keep act (readied_for plan.now x)) (J.content journal.new) (J.synced journal.new)) }
     ensures err { OnErr result ((n : ℕ) (x : Standing) (act : Act) → Writes n x act (J.content journal.old) (J.synced journal.old) plan.now
-        → BeginsWith n x.entries (J.content journal.new)) }
+        → Lasts n x.entries (J.content journal.new) (J.synced journal.new)) }
     ensures cause { HasCause (J.faults journal.old) (J.faults journal.new) result }
     ensures success { OnOk result (J.faults journal.new ≡ J.faults journal.old) }
     ensures sure { KeepsSure (J.sure journal.old) (J.sure journal.new) (IsErr result) }
@@ -134,6 +135,7 @@ fn write_bytes<J: Journal>(journal: &mut J, bytes: &[u8], keep: usize) -> Result
     ensures content { OnOk result (J.content journal.new ≡ J.content journal.old ++ take keep bytes.now) }
     ensures synced { OnOk result (J.synced journal.new ≡ (if keep == length bytes.now then length (J.content journal.new) else J.synced journal.old)) }
     ensures err { OnErr result ((n : ℕ) × (J.content journal.new ≡ J.content journal.old ++ take n bytes.now)) }
+    ensures unsynced { OnErr result (J.synced journal.new ≡ J.synced journal.old) }
     ensures cause { HasCause (J.faults journal.old) (J.faults journal.new) result }
     ensures success { OnOk result (J.faults journal.new ≡ J.faults journal.old) }
     ensures sure { KeepsSure (J.sure journal.old) (J.sure journal.new) (IsErr result) }

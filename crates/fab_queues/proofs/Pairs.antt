@@ -163,9 +163,13 @@ pub record IsOpened (old : Network) (n : ℕ) (pairs : List Traffic) (a b at : �
   pub place : at ≡ a * n + b
   pub stands : here ≡ slice_index_or pairs at here
 
+pub opened : {old : Network} {n : ℕ} {pairs : List Traffic} {a b at : ℕ} {here : Traffic} → network_of n pairs ≡ old → a < old.nodes → b < old.nodes
+    → length pairs ≡ n * n → at ≡ a * n + b → here ≡ slice_index_or pairs at here → IsOpened old n pairs a b at here
+opened same from to square place stands = record { same = same; from = from; to = to; square = square; place = place; stands = stands }
+
 -- it is the traffic of the pair
-pub here_is : (old : Network) (n : ℕ) (pairs : List Traffic) (a b at : ℕ) (here : Traffic) → IsOpened old n pairs a b at here → traffic_at old a b ≡ here
-here_is old n pairs a b at here o =
+pub here_is : {old : Network} {n : ℕ} {pairs : List Traffic} {a b at : ℕ} {here : Traffic} → IsOpened old n pairs a b at here → traffic_at old a b ≡ here
+here_is {old} {n} {pairs} {a} {b} {at} {here} o =
     let from : a < n = subst (λ m. a < m.nodes) (sym o.same) o.from in
     let to : b < n = subst (λ m. b < m.nodes) (sym o.same) o.to in
     let short : at < length pairs = subst (λ m. at < m) (sym o.square) (subst (λ m. m < n * n) (sym o.place) (mul-add-lt a n b n from to)) in
@@ -176,9 +180,9 @@ here_is old n pairs a b at here o =
     ∙ sym o.stands
 
 -- other traffic in its place is that of the pair
-pub turned : {A : Type 0} (f : Traffic → A) (old : Network) (n : ℕ) (pairs : List Traffic) (a b at : ℕ) (here : Traffic) → IsOpened old n pairs a b at here → (t : Traffic) (x : A)
+pub turned : {A : Type 0} (f : Traffic → A) {old : Network} {n : ℕ} {pairs : List Traffic} {a b at : ℕ} {here : Traffic} → IsOpened old n pairs a b at here → (t : Traffic) (x : A)
     → f t ≡ x → (c d : ℕ) → f (traffic_at (network_of n (slice_set pairs at t)) c d) ≡ with_pair (λ c d. f (traffic_at old c d)) a b x c d
-turned f old n pairs a b at here o t x h c d =
+turned f {old} {n} {pairs} {a} {b} {at} {here} o t x h c d =
     let from : a < n = subst (λ m. a < m.nodes) (sym o.same) o.from in
     let to : b < n = subst (λ m. b < m.nodes) (sym o.same) o.to in
     ap (λ m. f (traffic_at (network_of n (slice_set pairs m t)) c d)) o.place
@@ -188,11 +192,11 @@ turned f old n pairs a b at here o t x h c d =
     ∙ ap (λ m. with_pair (λ c d. f (traffic_at m c d)) a b x c d) o.same
 
 -- and what the change keeps of it is kept of all pairs
-pub kept : {A : Type 0} (f : Traffic → A) (old : Network) (n : ℕ) (pairs : List Traffic) (a b at : ℕ) (here : Traffic) → IsOpened old n pairs a b at here → (t : Traffic)
+pub kept : {A : Type 0} (f : Traffic → A) {old : Network} {n : ℕ} {pairs : List Traffic} {a b at : ℕ} {here : Traffic} → IsOpened old n pairs a b at here → (t : Traffic)
     → f t ≡ f here → (c d : ℕ) → f (traffic_at (network_of n (slice_set pairs at t)) c d) ≡ f (traffic_at old c d)
-kept f old n pairs a b at here o t h c d =
-    turned f old n pairs a b at here o t (f here) h c d
-    ∙ pair-kept (λ c d. f (traffic_at old c d)) a b (f here) (ap f (sym (here_is old n pairs a b at here o))) c d
+kept f {old} {n} {pairs} {a} {b} {at} {here} o t h c d =
+    turned f o t (f here) h c d
+    ∙ pair-kept (λ c d. f (traffic_at old c d)) a b (f here) (ap f (sym (here_is o))) c d
 
 none_among : (k at : ℕ) → slice_index_or (replicate k no_traffic) at no_traffic ≡ no_traffic
 none_among zero at = refl

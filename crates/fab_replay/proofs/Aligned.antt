@@ -7,7 +7,7 @@ use Rattle.fab_device.specs.Kept.{Entry}
 use Rattle.fab_node.specs.Standing.{JournalModel}
 use Rattle.fab_core.specs.Cores.{slot}
 use Rattle.fab_core.specs.Telling.{those_in}
-use Rattle.fab_replay.specs.Kept.{AreFor}
+use Rattle.fab_core.specs.Honest.{AreFor}
 use Rattle.fab_replay.specs.Running.{entries_of, entry_of}
 
 -- where there is a journal exactly at nodes of this kind

@@ -1,5 +1,5 @@
 -- What a replay leaves where it ends: its journals, and that none failed of which it is told that it can't.
-use Rattle.std.specs.Prelude.{◌≡◌, ◌<◌, ◌==◌, ℕ, Bool, true, false, List, map, Option, Some, None}
+use Rattle.std.specs.Prelude.{◌≡◌, ◌<◌, ◌==◌, ℕ, Bool, true, false, List, map, take, Option, Some, None}
 use Rattle.std.proofs.Common.{refl, sym, ap, ◌∙◌, subst, true≢false, eq-eqb}
 use Rattle.fab_device.specs.Kept.{Entry}
 use Rattle.fab_language.specs.Words.{node_text}
@@ -11,13 +11,15 @@ use Rattle.fab_world.specs.Serial.{IsRun}
 use Rattle.fab_core.specs.Cores.{CoreModel, is_honest, setting, slot, world_by}
 use Rattle.fab_core.specs.Moved.{faults_in}
 use Rattle.fab_core.specs.Telling.{IsJournalAt, those_in}
-use Rattle.fab_replay.specs.Honest.{honest_in}
+use Rattle.fab_core.specs.Honest.{AreFor, honest_in}
 use Rattle.fab_replay.specs.Integral.{IsExcluded, IsIntegral}
-use Rattle.fab_replay.specs.Kept.{AreFor, IsEntryAt, IsOfRun, IsPossible, has_mark, with_more}
+use Rattle.fab_replay.specs.Isolated.{IsIsolated}
+use Rattle.fab_replay.specs.Kept.{IsCutShort, IsEntryAt, IsOfRun, IsPossible, OfRun, has_mark, with_more}
 use Rattle.fab_replay.specs.Replays.{Tells, StopsIn, events_of}
-use Rattle.fab_replay.specs.Running.{AreBehind, AreTaken, AreUnfailed, ComesTo, IsBehind, IsUnfailed, entries_of, failed_by}
+use Rattle.fab_replay.specs.Running.{AreBehind, AreTaken, AreUnfailed, ComesTo, HasMore, IsBehind, IsUnfailed, entries_of, failed_by}
 use Rattle.fab_replay.specs.declared.replayed.Replayed.{Replayed}
 use Rattle.fab_replay.specs.declared.replayed.Replayed.TheVariants as r
+use Rattle.fab_replay.specs.declared.replayed.Wanted.{Wanted}
 use Rattle.fab_replay.specs.declared.running.Ran.{Ran}
 use Rattle.fab_replay.specs.declared.running.Ran.TheVariants as ran
 use Rattle.fab_replay.proofs.Aligned.{StandsAt, entries_for}
@@ -77,46 +79,67 @@ module _ (told : Option (List (List ℕ))) (g : GivenModel) (moves : List Move) 
       entries_for g.program IsLeft (IsEntryAt g moves) (λ n j h. record { name = refl; journal = h.journal; sound = h.sound; failed = h.failed }) (honest_in g) (those_in new)
       (in_order g 64 (honest_within g given) IsLeft new (λ n. left_at n (slot old n) (slot new n) (at n) (unfailed n) (behind n)))
 
-  pub is_possible : (answer : Replayed) → Tells g moves answer → IsPossible told g.program answer
-  is_possible (r.Done bytes) h = tt
-  is_possible (r.NotEnabled number) h = tt
-  is_possible (r.JournalFault node None) h = absurd h
-  is_possible (r.JournalFault node (Some bytes)) h = λ cannot.
+  pub is_possible : (wanted : Wanted) (answer : Replayed) → Tells g wanted moves answer → IsPossible told g.program answer
+  is_possible wanted (r.Done bytes) h = tt
+  is_possible wanted (r.NotEnabled number) h = tt
+  is_possible wanted (r.JournalFault node None) h = absurd h
+  is_possible wanted (r.JournalFault node (Some bytes)) h = λ cannot.
       let mark : has_mark moves node ≡ true = cut_marks g moves node h.0 node ∙ eq-eqb node node refl in
       true≢false (sym ((unfailed node).sure cannot) ∙ (behind node).never mark)
 
 -- ---- the whole
 
-pub ended : {J : Type 0} (seen : J → JournalModel) (told : Option (List (List ℕ))) (first last : CoreModel) (program : Resolved) (nodes : List ℕ) (ran : Ran) (answer : Replayed)
-    (kept new : Option (List Entry)) (journals : List J) → IsGiven first.given
-    → ((n : ℕ) → IsJournalAt first.given ((world_by first.given first.moves).node n) n (slot first.journals n)) → AreTaken told first.given first.journals
-    → last.given ≡ first.given → ComesTo first.given last.moves ran → AreBehind (failed_by ran) first.journals last.journals
-    → IsRun (setting last.given) last.moves → ((nodes : ℕ) (ex : ℕ → Bool) → IsExcluded last.given nodes ex → IsIntegral last.given last.moves (has_bit nodes) ex)
-    → ((n : ℕ) → IsJournalAt last.given ((world_by last.given last.moves).node n) n (slot last.journals n)) → Tells last.given last.moves answer
-    → program ≡ first.given.program → nodes ≡ honest_in first.given → map seen journals ≡ those_in last.journals → new ≡ with_more kept (entries_of program nodes (map seen journals))
-    → IsOfRun first.given answer kept new × IsPossible told first.given.program answer
-ended seen told first last program nodes ran answer kept new journals given at taken e came behind run whole left tells p q js k =
-    let g = first.given in
-    let marks = marks_of g last.moves ran came in
-    let b : AreBehind (has_mark last.moves) first.journals last.journals =
-    λ n. subst (λ t. IsBehind t (slot first.journals n) (slot last.journals n)) (sym (marks n)) (behind n) in
-    let u : AreUnfailed told g first.journals = are_unfailed told g first.moves first.journals given at taken in
-    let here : (n : ℕ) → IsJournalAt g ((world_by g last.moves).node n) n (slot last.journals n) =
-    subst (λ (x : GivenModel). (n : ℕ) → IsJournalAt x ((world_by x last.moves).node n) n (slot last.journals n)) e left in
-    let t : Tells g last.moves answer = subst (λ (x : GivenModel). Tells x last.moves answer) e tells in (
+module _ {J : Type 0} (seen : J → JournalModel) (told : Option (List (List ℕ))) (first last : CoreModel) (program : Resolved) (nodes : List ℕ) (ran : Ran) (journals : List J)
+    (given : IsGiven first.given) (at : (n : ℕ) → IsJournalAt first.given ((world_by first.given first.moves).node n) n (slot first.journals n))
+    (taken : AreTaken told first.given first.journals) (e : last.given ≡ first.given) (came : ComesTo first.given last.moves ran)
+    (behind : AreBehind (failed_by ran) first.journals last.journals)
+    (left : (n : ℕ) → IsJournalAt last.given ((world_by last.given last.moves).node n) n (slot last.journals n))
+    (p : program ≡ first.given.program) (q : nodes ≡ honest_in first.given) (js : map seen journals ≡ those_in last.journals) where
+  unfailed_first : AreUnfailed told first.given first.journals
+  unfailed_first = are_unfailed told first.given first.moves first.journals given at taken
+
+  behind_marks : AreBehind (has_mark last.moves) first.journals last.journals
+  behind_marks n =
+      subst (λ t. IsBehind t (slot first.journals n) (slot last.journals n)) (sym (marks_of first.given last.moves ran came n)) (behind n)
+
+  abbrev entries : List Entry
+  entries = entries_of first.given.program (honest_in first.given) (those_in last.journals)
+
+  are : AreFor (IsEntryAt first.given last.moves) (honest_in first.given) entries
+  are =
+      are_kept told first.given last.moves first.journals last.journals unfailed_first behind_marks given
+      (subst (λ (x : GivenModel). (n : ℕ) → IsJournalAt x ((world_by x last.moves).node n) n (slot last.journals n)) e left)
+
+  are_those : entries_of program nodes (map seen journals) ≡ entries
+  are_those =
+      ap (entries_of program nodes) js
+      ∙ ap (λ (r : Resolved). entries_of r nodes (those_in last.journals)) p
+      ∙ ap (λ ns. entries_of first.given.program ns (those_in last.journals)) q
+
+  module _ (wanted : Wanted) (answer : Replayed) (kept new : Option (List Entry)) (run : IsRun (setting last.given) last.moves)
+      (tells : Tells last.given wanted last.moves answer) where
+    is_run : IsRun (setting first.given) last.moves
+    is_run = subst (λ (x : GivenModel). IsRun (setting x) last.moves) e run
+
+    does_tell : Tells first.given wanted last.moves answer
+    does_tell = subst (λ (x : GivenModel). Tells x wanted last.moves answer) e tells
+
+    pub ended : ((nodes : ℕ) (ex : ℕ → Bool) → IsExcluded last.given nodes ex → IsIntegral last.given last.moves (has_bit nodes) ex) → IsIsolated last.given last.moves
+        → new ≡ with_more kept (entries_of program nodes (map seen journals)) → IsOfRun first.given wanted answer kept new × IsPossible told first.given.program answer
+    ended whole apart k = (
       record {
         moves = last.moves;
-        run = subst (λ (x : GivenModel). IsRun (setting x) last.moves) e run;
-        told = t;
+        run = is_run;
+        told = does_tell;
         integral = subst (λ (x : GivenModel). (nodes : ℕ) (ex : ℕ → Bool) → IsExcluded x nodes ex → IsIntegral x last.moves (has_bit nodes) ex) e whole;
-        kept = record {
-          entries = entries_of g.program (honest_in g) (those_in last.journals);
-          each = are_kept told g last.moves first.journals last.journals u b given here;
-          kept =
-              k ∙ ap (λ xs. with_more kept (entries_of program nodes xs)) js
-              ∙ ap (λ (r : Resolved). with_more kept (entries_of r nodes (those_in last.journals))) p
-              ∙ ap (λ ns. with_more kept (entries_of g.program ns (those_in last.journals))) q;
-        };
+        isolated = subst (λ (x : GivenModel). IsIsolated x last.moves) e apart;
+        kept = record { entries = entries; each = are; kept = k ∙ ap (with_more kept) are_those };
       },
-      is_possible told g last.moves first.journals last.journals u b answer t,
+      is_possible told first.given last.moves first.journals last.journals unfailed_first behind_marks wanted answer does_tell,
     )
+
+    -- memory ran out in the midst of keeping them
+    pub cut_short : HasMore kept new (entries_of program nodes (map seen journals)) → IsCutShort first.given wanted kept new
+    cut_short h =
+        OfRun last.moves answer is_run does_tell
+        (record { entries = entries; many = h.many; each = are; kept = h.kept ∙ ap (λ xs. with_more kept (take h.many xs)) are_those })

@@ -7,9 +7,10 @@ use Rattle.fab_world.specs.Machine.{Move, at_start, are_enabled, enabled, form_o
 use Rattle.fab_world.specs.Serial.{IsRun}
 use Rattle.fab_node.specs.Standing.{GivenModel}
 use Rattle.fab_core.specs.Cores.{setting, unmarked, world_by}
-use Rattle.fab_replay.specs.Replays.{HasNoFault, StopsBefore, Tells, events_of, moves_of, report_of}
+use Rattle.fab_replay.specs.Replays.{HasNoFault, StopsBefore, Tells, events_of, moves_of, text_of}
 use Rattle.fab_replay.specs.declared.replayed.Replayed.{Replayed}
 use Rattle.fab_replay.specs.declared.replayed.Replayed.TheVariants as r
+use Rattle.fab_replay.specs.declared.replayed.Wanted.{Wanted}
 use Rattle.fab_replay.proofs.Moves.{enabled_parts}
 
 -- an event that may not come behind those before it is in no run that has it there
@@ -51,12 +52,12 @@ same_number g moves others m n h k run other =
       | Shorter rest p ↦ absurd (never_runs g others n k h.before rest p (subst (λ ms. IsTrue (are_enabled S (at_start S) ms)) h.moves_are run.enabled))
     ]
 
-pub one_answer : (g : GivenModel) (moves others : List Move) (x y : Replayed) → IsRun (setting g) moves → IsRun (setting g) others → Tells g moves x → Tells g others y
+pub one_answer : (g : GivenModel) (wanted : Wanted) (moves others : List Move) (x y : Replayed) → IsRun (setting g) moves → IsRun (setting g) others → Tells g wanted moves x → Tells g wanted others y
     → HasNoFault x → HasNoFault y → x ≡ y
-one_answer g moves others (r.Done a) (r.Done b) run other h k p q = ap r.Done (h.1 ∙ ap (report_of g) (h.0 ∙ sym k.0) ∙ sym k.1)
-one_answer g moves others (r.Done a) (r.NotEnabled n) run other h k p q = absurd (barred_runs g others n k (subst (IsRun (setting g)) h.0 run))
-one_answer g moves others (r.NotEnabled m) (r.Done b) run other h k p q = absurd (barred_runs g moves m h (subst (IsRun (setting g)) k.0 other))
-one_answer g moves others (r.NotEnabled m) (r.NotEnabled n) run other h k p q = ap r.NotEnabled (same_number g moves others m n h k run other)
-one_answer g moves others (r.JournalFault node report) y run other h k p q = absurd p
-one_answer g moves others (r.Done a) (r.JournalFault node report) run other h k p q = absurd q
-one_answer g moves others (r.NotEnabled m) (r.JournalFault node report) run other h k p q = absurd q
+one_answer g wanted moves others (r.Done a) (r.Done b) run other h k p q = ap r.Done (h.1 ∙ ap (text_of g wanted) (h.0 ∙ sym k.0) ∙ sym k.1)
+one_answer g wanted moves others (r.Done a) (r.NotEnabled n) run other h k p q = absurd (barred_runs g others n k (subst (IsRun (setting g)) h.0 run))
+one_answer g wanted moves others (r.NotEnabled m) (r.Done b) run other h k p q = absurd (barred_runs g moves m h (subst (IsRun (setting g)) k.0 other))
+one_answer g wanted moves others (r.NotEnabled m) (r.NotEnabled n) run other h k p q = ap r.NotEnabled (same_number g moves others m n h k run other)
+one_answer g wanted moves others (r.JournalFault node report) y run other h k p q = absurd p
+one_answer g wanted moves others (r.Done a) (r.JournalFault node report) run other h k p q = absurd q
+one_answer g wanted moves others (r.NotEnabled m) (r.JournalFault node report) run other h k p q = absurd q

@@ -1,27 +1,19 @@
 -- What is kept of journals, one after the other.
-use Rattle.std.specs.Prelude.{◌≡◌, ◌<◌, ℕ, suc, Bool, false, IsTrue, List, [], ◌∷◌, ◌++◌, map, length, Contains, Option, Some}
+use Rattle.std.specs.Prelude.{◌≡◌, ◌<◌, ℕ, suc, Bool, false, IsTrue, List, [], ◌∷◌, ◌++◌, map, length, take, reverse, Contains, Option, Some, None}
 use Rattle.std.specs.List.{AllByRecursion}
 use Rattle.std.proofs.Common.{refl, sym, ap, ◌∙◌, subst, arith, append_assoc, true≢false}
-use Rattle.std.proofs.lemmas.List.{map-append, length-append, append-nil, length-map}
+use Rattle.std.proofs.lemmas.List.{map-append, length-append, append-nil, length-map, reverse-append}
 use Rattle.fab_base.specs.Faults.{Rose}
-use Rattle.fab_device.specs.Kept.{CannotFail}
+use Rattle.fab_device.specs.Kept.{CannotFail, Entry, with_entry}
 use Rattle.fab_language.specs.Words.{node_text}
 use Rattle.fab_tree.specs.declared.resolved.Resolved.{Resolved}
 use Rattle.fab_node.specs.Standing.{GivenModel, JournalModel}
-use Rattle.fab_core.specs.Starts.{AreBack, honest_below}
+use Rattle.fab_core.specs.Starts.{AreBack, IsLeft, honest_below}
 use Rattle.fab_core.proofs.AtStart.{key_of}
-use Rattle.fab_replay.specs.Honest.{honest_up}
-use Rattle.fab_replay.specs.Kept.{AreFor, IsEntryBehind}
+use Rattle.fab_core.specs.Honest.{AreFor, honest_up}
+use Rattle.fab_replay.specs.Kept.{IsEntryBehind, with_more}
 use Rattle.fab_replay.specs.Running.{AreNew, IsNew, IsUnfailed, entries_of}
-use Rattle.fab_replay.proofs.Numbered.{IsPlace, honest_long, place_of}
-
--- ---- one for each node
-
-pub for_long : {A : Type 0} (P : ℕ → A → Type 0) (ns : List ℕ) (xs : List A) → AreFor P ns xs → length xs ≡ length ns
-for_long P [] [] h = refl
-for_long P (n ∷ ns) (x ∷ xs) h = ap suc (for_long P ns xs h.1)
-for_long P [] (x ∷ xs) h = absurd h
-for_long P (n ∷ ns) [] h = absurd h
+use Rattle.fab_core.proofs.Honest.{IsPlace, for_long, honest_long, place_of}
 
 -- ---- journals that were made
 
@@ -73,6 +65,35 @@ module _ {J : Type 0} (seen : J → JournalModel) (told : Option (List (List ℕ
   pub new_many : (g : GivenModel) (ns : List ℕ) (js : List J) (m : ℕ) → ns ≡ honest_up g m → AreNew told r ns (map seen js) → length js ≡ honest_below g m
   new_many g ns js m e h = sym (length-map js seen) ∙ for_long (λ n j. IsNew told (node_text r n) j) ns (map seen js) h ∙ ap length e ∙ honest_long g m
 
+-- ---- journals that are kept
+
+pub more_none : (k : Option (List Entry)) → k ≡ with_more k []
+more_none None = refl
+more_none (Some xs) = ap Some (sym (append-nil xs))
+
+pub more_one : (k : Option (List Entry)) (done : List Entry) (x : Entry) → with_entry (with_more k done) x ≡ with_more k (done ++ x ∷ [])
+more_one None done x = refl
+more_one (Some xs) done x = ap Some (append_assoc xs done (x ∷ []))
+
+-- one of those that are left is kept
+pub kept_on : {J : Type 0} (seen : J → JournalModel) (r : Resolved) (done : List Entry) (n : ℕ) (after rest : List ℕ) (items more : List J) (j : J) (name : List ℕ) (all : List Entry)
+    → rest ≡ n ∷ after → items ≡ more ++ j ∷ [] → name ≡ node_text r n → done ++ entries_of r rest (map seen (reverse items)) ≡ all
+    → (done ++ record { node = name; content = (seen j).content; synced = (seen j).synced; faults = (seen j).faults } ∷ []) ++ entries_of r after (map seen (reverse more)) ≡ all
+kept_on seen r done n after rest items more j name all parts last named h =
+    append_assoc done (record { node = name; content = (seen j).content; synced = (seen j).synced; faults = (seen j).faults } ∷ []) (entries_of r after (map seen (reverse more)))
+    ∙ ap (λ t. done ++ record { node = t; content = (seen j).content; synced = (seen j).synced; faults = (seen j).faults } ∷ entries_of r after (map seen (reverse more))) named
+    ∙ ap (λ js. done ++ entries_of r (n ∷ after) (map seen js)) (sym (ap reverse last ∙ reverse-append more (j ∷ [])))
+    ∙ ap (λ ns. done ++ entries_of r ns (map seen (reverse items))) (sym parts)
+    ∙ h
+
+-- what was kept is a front of the whole
+pub front_of : (done rest all : List Entry) → done ++ rest ≡ all → done ≡ take (length done) all
+front_of done rest all e = sym (take_front done rest) ∙ ap (take (length done)) e
+  where
+    take_front : (xs ys : List Entry) → take (length xs) (xs ++ ys) ≡ xs
+    take_front [] ys = refl
+    take_front (x ∷ xs) ys = ap (λ zs. x ∷ zs) (take_front xs ys)
+
 -- ---- a count that rose
 
 pub positive : (before now : ℕ) → before ≡ 0 → Rose before now → 0 < now
@@ -122,6 +143,14 @@ module _ {J : Type 0} (seen : J → JournalModel) (told : Option (List (List ℕ
   long : length (honest_up g node) ≡ length back.before
   long = honest_long g node ∙ sym back.place
 
+  apart_below : (ks : List ℕ) → AllByRecursion (λ k. k < node) ks → AllByRecursion (λ k. k ≡ node → ⊥) ks
+  apart_below [] h = tt
+  apart_below (k ∷ ks) h = let first = h.0 in ((λ e. omega (arith, first, e)), apart_below ks h.1)
+
+  apart_above : (ks : List ℕ) → AllByRecursion (λ k. node < k) ks → AllByRecursion (λ k. k ≡ node → ⊥) ks
+  apart_above [] h = tt
+  apart_above (k ∷ ks) h = let first = h.0 in ((λ e. omega (arith, first, e)), apart_above ks h.1)
+
   keys_none : (ns : List ℕ) (js : List J) → AreNew told g.program ns (map seen js) → AllByRecursion (λ (k : ℕ × Bool). k.0 ≡ 0) (map (λ j. key_of (seen j)) js)
   keys_none [] [] h = tt
   keys_none (n ∷ ns) (j ∷ js) h = (h.0.faults, keys_none ns js h.1)
@@ -140,20 +169,23 @@ module _ {J : Type 0} (seen : J → JournalModel) (told : Option (List (List ℕ
   counts : AreFor (IsCount node) (honest_up g m) (map (λ j. key_of (seen j)) backs)
   counts =
       let none = subst (AllByRecursion (λ (k : ℕ × Bool). k.0 ≡ 0)) back.old_is (keys_none (honest_up g m) olds new) in
-      let all = counted node back.was back.now (honest_up g node) place.rest back.before back.behind long more place.front place.others none back.rose in
+      let all = counted node back.was back.now (honest_up g node) place.rest back.before back.behind long more (apart_below (honest_up g node) place.front)
+      (apart_above place.rest place.others) none back.rose
+      in
       subst (λ ns. AreFor (IsCount node) ns (map (λ j. key_of (seen j)) backs)) (sym place.parts)
       (subst (AreFor (IsCount node) (honest_up g node ++ node ∷ place.rest)) (sym back.new_is) all)
 
-  entries : (ns : List ℕ) (js : List J) → AreFor (IsCount node) ns (map (λ j. key_of (seen j)) js)
+  entries : (ns : List ℕ) (js : List J) → AreFor (IsCount node) ns (map (λ j. key_of (seen j)) js) → AreFor (λ n j. IsLeft node n (seen j).content (seen j).synced) ns js
       → AreFor (IsEntryBehind g node) ns (entries_of g.program ns (map seen js))
-  entries [] [] h = tt
-  entries (n ∷ ns) (j ∷ js) h = (record { name = refl; sound = h.0.0; failed = h.0.1 }, entries ns js h.1)
-  entries [] (j ∷ js) h = absurd h
-  entries (n ∷ ns) [] h = absurd h
+  entries [] [] h k = tt
+  entries (n ∷ ns) (j ∷ js) h k = (record { name = refl; left = k.0; sound = h.0.0; failed = h.0.1 }, entries ns js h.1 k.1)
+  entries [] (j ∷ js) h k = absurd h
+  entries (n ∷ ns) [] h k = absurd h
 
   -- the journals are as behind a header that couldn't be written
-  pub back_entries : AreFor (IsEntryBehind g node) (honest_up g m) (entries_of g.program (honest_up g m) (map seen backs))
-  back_entries = entries (honest_up g m) backs counts
+  pub back_entries : AreFor (λ n j. IsLeft node n (seen j).content (seen j).synced) (honest_up g m) backs
+      → AreFor (IsEntryBehind g node) (honest_up g m) (entries_of g.program (honest_up g m) (map seen backs))
+  back_entries left = entries (honest_up g m) backs counts left
 
   -- and the one that failed isn't one of which it is told that it can't
   pub back_possible : CannotFail told (node_text g.program node) → ⊥

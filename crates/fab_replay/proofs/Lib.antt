@@ -13,3 +13,5 @@ pub mod Ends
 pub mod Starting
 pub mod Exact
 mod ReplaysExamples
+pub mod Isolating
+pub mod Viewing

@@ -1,19 +1,15 @@
 -- Honest nodes in order, and their journals.
-use Rattle.std.specs.Prelude.{◌≡◌, ℕ, zero, suc, ◌+◌, ◌<◌, ◌≤◌, Bool, true, false, cond, not, IsTrue, List, [], ◌∷◌, ◌++◌, length, Contains, Option, Some}
+use Rattle.std.specs.Prelude.{◌≡◌, ℕ, zero, suc, ◌+◌, ◌<◌, Bool, true, false, cond, not, IsTrue, List, [], ◌∷◌, ◌++◌, Contains, Option, Some}
 use Rattle.std.specs.List.{filter, range_with_len, AllByRecursion}
-use Rattle.std.proofs.Common.{refl, sym, ap, ◌∙◌, subst, arith, inl, inr, append_assoc, append-nil}
-use Rattle.std.proofs.lemmas.List.{length-append}
-use Rattle.std.proofs.lemmas.Bool.{cases_eq}
+use Rattle.std.proofs.Common.{refl, sym, ap, ◌∙◌, subst, arith, append-nil}
 use Rattle.std.proofs.lemmas.Bool.{and_parts}
 use Rattle.fab_rights.specs.Computed.{is_node}
 use Rattle.fab_protocol.proofs.Lists.{all_append}
 use Rattle.fab_node.specs.Standing.{GivenModel, IsGiven, JournalModel}
 use Rattle.fab_core.specs.Cores.{is_honest, setting, slot}
-use Rattle.fab_core.specs.Starts.{honest_below}
 use Rattle.fab_core.specs.Telling.{those_in}
 use Rattle.fab_core.proofs.Tables.{node_below}
-use Rattle.fab_replay.specs.Honest.{honest_up}
-use Rattle.fab_replay.specs.Kept.{AreFor}
+use Rattle.fab_core.specs.Honest.{AreFor, honest_up}
 use Rattle.fab_replay.proofs.Aligned.{StandsAt, aligned, placed}
 
 pub honest_within : (g : GivenModel) → IsGiven g → (n : ℕ) → IsTrue (is_honest g n) → n < 64
@@ -34,18 +30,6 @@ pub up_without : (g : GivenModel) (n : ℕ) (old : List ℕ) → is_honest g n �
 up_without g n old hostile was =
     was ∙ sym (append-nil (honest_up g n)) ∙ ap (λ b. honest_up g n ++ cond b (n ∷ []) []) (sym hostile) ∙ sym (up_more g n)
 
-pub honest_long : (g : GivenModel) (n : ℕ) → length (honest_up g n) ≡ honest_below g n
-unfolding honest_up
-honest_long g zero = refl
-honest_long g (suc n) =
-    length-append (honest_up g n) (cond (is_honest g n) (n ∷ []) [])
-    ∙ ap (λ m. m + length (cond (is_honest g n) (n ∷ []) [])) (honest_long g n)
-    ∙ ap (λ m. honest_below g n + m) (one (is_honest g n))
-  where
-    one : (b : Bool) → length (cond b (n ∷ []) []) ≡ cond b 1 0
-    one true = refl
-    one false = refl
-
 -- each is honest, and below
 pub each_honest : (g : GivenModel) (n : ℕ) → AllByRecursion (λ k. IsTrue (is_honest g k)) (honest_up g n)
 unfolding honest_up
@@ -55,51 +39,6 @@ each_honest g (suc n) = all_append (λ k. IsTrue (is_honest g k)) (honest_up g n
     one : (b : Bool) → is_honest g n ≡ b → AllByRecursion (λ k. IsTrue (is_honest g k)) (cond b (n ∷ []) [])
     one true e = (e, tt)
     one false e = tt
-
-none_above : (node : ℕ) (g : GivenModel) (n : ℕ) → n ≤ node → AllByRecursion (λ k. k ≡ node → ⊥) (honest_up g n)
-unfolding honest_up
-none_above node g zero few = tt
-none_above node g (suc n) few =
-    all_append (λ k. k ≡ node → ⊥) (honest_up g n) (cond (is_honest g n) (n ∷ []) []) (none_above node g n (omega (arith, few))) (one (is_honest g n))
-  where
-    one : (b : Bool) → AllByRecursion (λ k. k ≡ node → ⊥) (cond b (n ∷ []) [])
-    one true = (λ e. omega (arith, few, e), tt)
-    one false = tt
-
--- an honest one stands behind those below it, and not among those that follow
-pub record IsPlace (g : GivenModel) (node m : ℕ) : Type 0 where
-  pub rest : List ℕ
-  pub parts : honest_up g m ≡ honest_up g node ++ node ∷ rest
-  pub front : AllByRecursion (λ k. k ≡ node → ⊥) (honest_up g node)
-  pub others : AllByRecursion (λ k. k ≡ node → ⊥) rest
-
-pub place_of : (g : GivenModel) (node m : ℕ) → IsTrue (is_honest g node) → node < m → IsPlace g node m
-unfolding honest_up
-place_of g node zero honest below = absurd (omega (arith, below))
-place_of g node (suc m) honest below = elim (cases_eq node m) [
-  | inl same ↦ record {
-    rest = [];
-    parts =
-        ap (λ b. honest_up g m ++ cond b (m ∷ []) []) (ap (is_honest g) (sym same) ∙ honest)
-        ∙ ap (λ k. honest_up g k ++ k ∷ []) (sym same);
-    front = none_above node g node (omega arith);
-    others = tt;
-  }
-  | inr apart ↦
-      let before = place_of g node m honest (omega (arith, below, apart)) in
-      record {
-        rest = before.rest ++ cond (is_honest g m) (m ∷ []) [];
-        parts =
-            ap (λ ns. ns ++ cond (is_honest g m) (m ∷ []) []) before.parts
-            ∙ append_assoc (honest_up g node) (node ∷ before.rest) (cond (is_honest g m) (m ∷ []) []);
-        front = before.front;
-        others = all_append (λ k. k ≡ node → ⊥) before.rest (cond (is_honest g m) (m ∷ []) []) before.others (one apart (is_honest g m));
-      }
-]
-  where
-    one : (node ≡ m → ⊥) → (b : Bool) → AllByRecursion (λ k. k ≡ node → ⊥) (cond b (m ∷ []) [])
-    one apart true = (λ e. apart (sym e), tt)
-    one apart false = tt
 
 -- ---- members
 

@@ -29,11 +29,12 @@ use Rattle.fab_world.specs.Machine.{Move}
 use Rattle.fab_node.specs.Standing.{GivenModel}
 use Rattle.fab_core.specs.Cores.{marked, unmarked}
 use Rattle.fab_core.specs.Starts.{given_by}
-use Rattle.fab_replay.specs.Honest.{honest_in, honest_up}
+use Rattle.fab_core.specs.Honest.{AreFor, honest_in, honest_up}
 use Rattle.fab_replay.specs.Integral.{IsExcluded, IsIntegral}
-use Rattle.fab_replay.specs.Kept.{AreFor, IsEntryAt, IsEntryBehind, IsPossible, has_mark, with_more}
+use Rattle.fab_replay.specs.Kept.{IsEntryAt, IsEntryBehind, IsPossible, has_mark, with_more}
 use Rattle.fab_replay.specs.Replays.{StopsBefore, Tells, event_of, moves_of}
 use Rattle.fab_replay.specs.declared.replayed.Replayed.TheVariants as r
+use Rattle.fab_replay.specs.declared.replayed.Wanted.{Wanted}
 
 -- ---- events
 
@@ -104,8 +105,8 @@ none_of_number_zero : (g : GivenModel) (moves : List Move) → StopsBefore g mov
 none_of_number_zero g moves h = let n = h.number_is in omega (arith, n)
 
 -- behind a run there is a report
-report_of_a_fault : (g : GivenModel) (moves : List Move) (node : ℕ) → Tells g moves (r.JournalFault node None) → ⊥
-report_of_a_fault g moves node h = h
+report_of_a_fault : (g : GivenModel) (wanted : Wanted) (moves : List Move) (node : ℕ) → Tells g wanted moves (r.JournalFault node None) → ⊥
+report_of_a_fault g wanted moves node h = h
 
 -- ---- a bundle: the principal A, the worker w, the store t and the hostile store h, with the numbers 0, 1 and 2
 

@@ -1,6 +1,7 @@
-pub mod Honest
 pub mod Integral
+pub mod Isolated
 pub mod Kept
 pub mod Making
 pub mod Replays
 pub mod Running
+pub mod View

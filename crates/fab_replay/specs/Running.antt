@@ -1,5 +1,5 @@
 -- Steps of a replay: how far it came, and what became of the journals on the way.
-use Rattle.std.specs.Prelude.{◌≡◌, ◌==◌, ℕ, Bool, true, false, IsTrue, List, [], ◌∷◌, ◌++◌, Option, Some}
+use Rattle.std.specs.Prelude.{◌≡◌, ◌==◌, ℕ, Bool, true, false, IsTrue, List, [], ◌∷◌, ◌++◌, take, Option, Some}
 use Rattle.fab_base.specs.Faults.{Rose}
 use Rattle.fab_device.specs.Kept.{CannotFail, Entry}
 use Rattle.fab_language.specs.Words.{node_text}
@@ -11,8 +11,8 @@ use Rattle.fab_node.specs.Standing.{GivenModel, JournalModel}
 use Rattle.fab_core.specs.Cores.{EventHasDone, marked, setting, slot, unmarked, world_by}
 use Rattle.fab_core.specs.Moved.{faults_in, node_at, sure_in}
 use Rattle.fab_core.specs.Telling.{those_in}
-use Rattle.fab_replay.specs.Honest.{honest_in}
-use Rattle.fab_replay.specs.Kept.{AreFor}
+use Rattle.fab_core.specs.Honest.{AreFor, honest_in}
+use Rattle.fab_replay.specs.Kept.{with_more}
 use Rattle.fab_replay.specs.Replays.{StopsBefore, StopsIn, events_of, moves_of}
 use Rattle.fab_replay.specs.declared.running.Came.{Came}
 use Rattle.fab_replay.specs.declared.running.Came.TheVariants as c
@@ -90,6 +90,11 @@ abbrev pub entries_of : Resolved → List ℕ → List JournalModel → List Ent
 entries_of r [] js = []
 entries_of r (n ∷ ns) [] = []
 entries_of r (n ∷ ns) (j ∷ js) = entry_of r n j ∷ entries_of r ns js
+
+-- the first so many of these entries were kept
+pub record HasMore (old new : Option (List Entry)) (entries : List Entry) : Type 0 where
+  pub many : ℕ
+  pub kept : new ≡ with_more old (take many entries)
 
 -- a new journal of a node: nothing is in it, it hasn't failed, and it never does where that is told
 pub record IsNew (told : Option (List (List ℕ))) (name : List ℕ) (journal : JournalModel) : Type 0 where

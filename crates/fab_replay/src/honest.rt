@@ -5,7 +5,7 @@ ghost use Rattle.fab_language.specs.Names.{is_hostile as is_hostile_role};
 ghost use Rattle.fab_settings.specs.Settings.{is_hostile_node};
 ghost use Rattle.fab_core.specs.Cores.{is_honest};
 ghost use Rattle.fab_core.specs.Starts.{given_by};
-ghost use Rattle.fab_replay.specs.Honest.{honest_in};
+ghost use Rattle.fab_core.specs.Honest.{honest_in};
 
 use fab_base::{NoMemory, Seq};
 use fab_places::principal_of;

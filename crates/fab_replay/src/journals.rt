@@ -1,9 +1,10 @@
 //! The nodes' journals: made before a run, and kept behind it.
 
-ghost use Rattle.std.specs.Prelude.{◌≡◌, ◌≤◌, IfOk, IfErr, OnOk, map};
+ghost use Rattle.std.specs.Prelude.{◌≡◌, ◌≤◌, Err, IfOk, IfErr, OnOk, OnErr, map};
 ghost use Rattle.fab_replay.specs.Kept.{with_more};
 ghost use Rattle.fab_replay.specs.Making.{HasFailed};
-ghost use Rattle.fab_replay.specs.Running.{AreNew, entries_of, seen_by};
+ghost use Rattle.fab_replay.specs.Running.{AreNew, HasMore, entries_of, seen_by};
+ghost use Rattle.fab_replay.specs.declared.journals.Unmade.TheVariants.{Memory as Wanting};
 
 use fab_base::{NoMemory, Seq};
 use fab_device::{JournalError, Journals};
@@ -28,6 +29,8 @@ pub(crate) fn make_journals<M: Journals>(
     ensures made { IfOk result (λ made. AreNew (M.may_fail journals.old) program.now nodes.now (map (seen_by M.Item.content M.Item.synced M.Item.room M.Item.faults M.Item.sure) made)) }
     ensures failed { IfErr result (HasFailed (M.may_fail journals.old) program.now nodes.now (M.faults journals.old) (M.faults journals.new)) }
     ensures later { M.faults journals.old ≤ M.faults journals.new }
+    ensures same { OnOk result (M.faults journals.new ≡ M.faults journals.old) }
+    ensures wanting { result ≡ Err Wanting → M.faults journals.new ≡ M.faults journals.old }
     ensures kept { M.kept journals.new ≡ M.kept journals.old }
     ensures told { M.may_fail journals.new ≡ M.may_fail journals.old }
 {
@@ -48,7 +51,8 @@ pub(crate) fn make_journals<M: Journals>(
     Ok(made)
 }
 
-/// Gives back the journals of these nodes, one after the other in their order.
+/// Gives back the journals of these nodes, one after the other in their order. Where memory runs out, the first
+/// of them were kept.
 pub(crate) fn keep_all<M: Journals>(
     program: &Resolved,
     nodes: &[u16],
@@ -57,6 +61,8 @@ pub(crate) fn keep_all<M: Journals>(
 ) -> Result<(), NoMemory>
     ensures kept { OnOk result (M.kept journals.new
         ≡ with_more (M.kept journals.old) (entries_of program.now nodes.now (map (seen_by M.Item.content M.Item.synced M.Item.room M.Item.faults M.Item.sure) all))) }
+    ensures part { OnErr result (HasMore (M.kept journals.old) (M.kept journals.new)
+        (entries_of program.now nodes.now (map (seen_by M.Item.content M.Item.synced M.Item.room M.Item.faults M.Item.sure) all))) }
     ensures faults { M.faults journals.new ≡ M.faults journals.old }
     ensures told { M.may_fail journals.new ≡ M.may_fail journals.old }
 {

@@ -5,12 +5,17 @@
 mod events;
 mod honest;
 mod integral;
+mod isolated;
 mod journals;
 mod laws;
 mod replayed;
 mod running;
+mod view;
 mod whole;
 
-pub use laws::replays_are_exact;
-pub use replayed::Replayed;
+pub use integral::is_integral;
+pub use isolated::is_isolated;
+pub use laws::{replays_are_exact, views_are_public};
+pub use replayed::{Replayed, Wanted};
+pub use view::view_into;
 pub use whole::replay;

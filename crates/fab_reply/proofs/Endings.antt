@@ -3,16 +3,18 @@ use Rattle.std.proofs.Common.{◌≡◌, ◌≢◌, ◌⊎◌, inl, inr, ℕ, Li
 use Rattle.std.specs.Io.KnownBytes.{Appends, Keeps, IsAtEnd, Consumes}
 use Rattle.fab_base.specs.declared.limit.What.TheVariants.{Bytes}
 use Rattle.fab_command.specs.declared.command.Command.{Command}
-use Rattle.fab_command.specs.declared.command.Command.TheVariants.{Replay}
+use Rattle.fab_command.specs.declared.command.Command.TheVariants.{Check, Evaluate, Flows, Format, Replay, View}
 use Rattle.fab_reply.specs.declared.status.Status.{Status}
 use Rattle.fab_reply.specs.declared.status.Status.TheVariants.{Ok, Usage, ReadFault, WriteFault, Memory, Syntax, Limit, Name, Label as Labelled, NotEnabled, JournalFault}
 use Rattle.fab_reply.specs.Front.{IsTooLong}
-use Rattle.fab_reply.specs.Reply.{Answers, one_reply, interrupted, in_run, before, Interrupted, IsJournalFault, Replies, usage, syntax, limit, formatted, misnamed, mislabelled, checked, evaluated, unlabelled, flow, replayed, barred, IsReply, IsInput, unasked, read, RepliesWith, Ends, ComesTo, SpeaksOfText, line, what_word}
-use Rattle.fab_reply.specs.Replays.{Makers}
+use Rattle.fab_reply.specs.Reply.{Answers, one_reply, interrupted, in_run, before, Interrupted, IsJournalFault, Replies, usage, syntax, limit, formatted, misnamed, mislabelled, checked, evaluated, unlabelled, flow, unnamed, replayed, barred, AreCut, cut_short, untouched, AreLeft, JournalsAre, RepliesInPart, IsReply, IsInput, unasked, read, RepliesWith, Ends, ComesTo, SpeaksOfText, line, what_word}
+use Rattle.fab_tree.specs.declared.start.Start.{Start}
+use Rattle.fab_replay.specs.declared.replayed.Wanted.{Wanted}
+use Rattle.fab_reply.specs.Replays.{Makers, MakesRuns, Wants}
 use Rattle.fab_reply.proofs.Answering.{short}
 use Rattle.fab_reply.proofs.Fronts.{one_of_long}
 use Rattle.fab_reply.specs.Headline.{Headline, IsOfFault, IsOfSchedule}
-use Rattle.fab_reply.proofs.Replaying.{done_headline, fault_headline, no_fault}
+use Rattle.fab_reply.proofs.Replaying.{done_headline, fault_headline, no_fault, replay_unfailed}
 use Rattle.fab_reply.proofs.Replying.{usage_reply, limit_reply}
 
 all_some : {A : Type 0} {P : A → Type 0} (o : Option A) → ((x : A) → P x) → IfSome o P
@@ -55,8 +57,8 @@ told l l' (read t) r = read_reply l l' t.taken t.whole r
 
 -- an interrupted run has the status of a journal's fault
 is_fault : {command : Option Command} {text reply : List ℕ} {status : Status} → Interrupted command text status reply → IsJournalFault status
-is_fault (in_run g h k) = tt
-is_fault (before g h k) = tt
+is_fault (in_run w g h k) = tt
+is_fault (before u w g h k) = tt
 
 -- ---- the clauses
 
@@ -92,8 +94,8 @@ module _ (command : Option Command) (l l' w w' : Option (List ℕ)) (old new : M
   to_end {status = status} s e = go e.input e.replies
     where
       long_front : {command : Option Command} {text reply : List ℕ} {status : Status} → length text ≡ 4194305 → Interrupted command text status reply → ⊥
-      long_front many (in_run g h k) = let few = short g in omega (arith, many, few)
-      long_front many (before g h k) = let few = short g in omega (arith, many, few)
+      long_front many (in_run v g h k) = let few = short g in omega (arith, many, few)
+      long_front many (before u v g h k) = let few = short g in omega (arith, many, few)
 
       go : {command : Option Command} {text reply : List ℕ} → IsInput command l l' text → Answers command text status reply → IsAtEnd l'
       go (unasked k) (one_reply r) = absurd (speaks_no_usage s (r.only _ _ usage).0)
@@ -165,10 +167,18 @@ module _ (command : Option Command) (l l' w w' : Option (List ℕ)) (old new : M
   only_unasked (NotEnabled event) e h = absurd (cc)
   only_unasked (JournalFault node) e h = absurd (cc)
 
-  -- ---- replays
+  -- ---- runs
+
+  runs_by : (c : Command) (s : Start) (wanted : Wanted) → Wants s c wanted → MakesRuns (Some c)
+  runs_by Replay s wanted h = tt
+  runs_by (View names) s wanted h = tt
+  runs_by Check s wanted h = absurd h
+  runs_by Evaluate s wanted h = absurd h
+  runs_by (Flows a b) s wanted h = absurd h
+  runs_by Format s wanted h = absurd h
 
   -- no reply has the status of a journal's fault
-  no_journal_fault : {asked : Option Command} {text reply : List ℕ} {s : Status} {node : ℕ} → Replies asked text s reply → s ≡ JournalFault node → asked ≡ Some Replay
+  no_journal_fault : {asked : Option Command} {text reply : List ℕ} {s : Status} {node : ℕ} → Replies asked text s reply → s ≡ JournalFault node → ⊥
   no_journal_fault usage h = absurd (cc)
   no_journal_fault (syntax g) h = absurd (cc)
   no_journal_fault (limit g) h = absurd (cc)
@@ -179,40 +189,120 @@ module _ (command : Option Command) (l l' w w' : Option (List ℕ)) (old new : M
   no_journal_fault (evaluated g k m) h = absurd (cc)
   no_journal_fault (unlabelled g k m) h = absurd (cc)
   no_journal_fault (flow g k m n o) h = absurd (cc)
-  no_journal_fault (replayed g k m) h = absurd (cc)
-  no_journal_fault (barred g k m) h = absurd (cc)
+  no_journal_fault (unnamed g k m) h = absurd (cc)
+  no_journal_fault (replayed w g k m) h = absurd (cc)
+  no_journal_fault (barred w g k m) h = absurd (cc)
 
-  of_replay : {asked : Option Command} {text reply : List ℕ} {status : Status} {node : ℕ} → Answers asked text status reply → status ≡ JournalFault node → asked ≡ Some Replay
-  of_replay (one_reply r) h = no_journal_fault r.is h
-  of_replay (interrupted (in_run g k m)) h = refl
-  of_replay (interrupted (before g k m)) h = refl
+  of_run : {asked : Option Command} {text reply : List ℕ} {status : Status} {node : ℕ} → Answers asked text status reply → status ≡ JournalFault node → MakesRuns asked
+  of_run (one_reply r) h = absurd (no_journal_fault r.is h)
+  of_run (interrupted (in_run {command = c} {wanted = u} {s = z} w g k m)) h = runs_by c z u w
+  of_run (interrupted (before {command = c} u {s = z} w g k m)) h = runs_by c z u w
 
-  -- a journal's fault comes of a replay
-  pub fault_of_replay : (status : Status) → Ends command status l l' w w' old new → (node : ℕ) → status ≡ JournalFault node → command ≡ Some Replay
-  fault_of_replay (JournalFault m) e node h = of_replay e.replies h
-  fault_of_replay Ok e node h = absurd (cc)
-  fault_of_replay Usage e node h = absurd (cc)
-  fault_of_replay ReadFault e node h = absurd (cc)
-  fault_of_replay WriteFault e node h = absurd (cc)
-  fault_of_replay Memory e node h = absurd (cc)
-  fault_of_replay (Syntax at) e node h = absurd (cc)
-  fault_of_replay (Limit what) e node h = absurd (cc)
-  fault_of_replay (Name x at) e node h = absurd (cc)
-  fault_of_replay (Labelled x at from to) e node h = absurd (cc)
-  fault_of_replay (NotEnabled event) e node h = absurd (cc)
+  -- a journal's fault comes of a run
+  pub fault_of_run : (status : Status) → Ends command status l l' w w' old new → (node : ℕ) → status ≡ JournalFault node → MakesRuns command
+  fault_of_run (JournalFault m) e node h = of_run e.replies h
+  fault_of_run Ok e node h = absurd (cc)
+  fault_of_run Usage e node h = absurd (cc)
+  fault_of_run ReadFault e node h = absurd (cc)
+  fault_of_run WriteFault e node h = absurd (cc)
+  fault_of_run Memory e node h = absurd (cc)
+  fault_of_run (Syntax at) e node h = absurd (cc)
+  fault_of_run (Limit what) e node h = absurd (cc)
+  fault_of_run (Name x at) e node h = absurd (cc)
+  fault_of_run (Labelled x at from to) e node h = absurd (cc)
+  fault_of_run (NotEnabled event) e node h = absurd (cc)
+
+  -- what is so of a command that makes a run is so of one that is asked
+  for_runs : (P : Option Command → Type 0) → MakesRuns command → ((c : Command) → command ≡ Some c → MakesRuns (Some c) → P (Some c)) → P command
+  for_runs P runs f = by command refl
+    where
+      by : (c : Option Command) → command ≡ c → P command
+      by None e = absurd (let h = subst MakesRuns e runs in h)
+      by (Some c) e = subst P (sym e) (f c e (subst MakesRuns e runs))
+
+  -- the journals of such a command are as a replay left them
+  is_left : (c : Command) (text reply : List ℕ) (status : Status) → MakesRuns (Some c) → JournalsAre (Some c) text old new status reply → AreLeft c text old new status reply
+  is_left Replay text reply status runs h = h
+  is_left (View names) text reply status runs h = h
+  is_left Check text reply status runs h = absurd runs
+  is_left Evaluate text reply status runs h = absurd runs
+  is_left (Flows a b) text reply status runs h = absurd runs
+  is_left Format text reply status runs h = absurd runs
 
   -- the headline holds of what was written
-  pub whole_headline : (status : Status) → Ends command status l l' w w' old new → command ≡ Some Replay → status ≡ Ok → Headline IsOfSchedule l l' w w'
-  whole_headline status e asked h =
+  pub whole_headline : (status : Status) → Ends command status l l' w w' old new → MakesRuns command → status ≡ Ok → Headline command IsOfSchedule l l' w w'
+  whole_headline status e runs h =
       let there : RepliesWith Ok command l l' w w' old new = subst (λ s. Ends command s l l' w w' old new) h e in
-      done_headline l l' w w' old new (subst (λ c. RepliesWith Ok c l l' w w' old new) asked there)
+      for_runs (λ c. Headline c IsOfSchedule l l' w w') runs (λ c is makes. one c makes (subst (λ x. RepliesWith Ok x l l' w w' old new) is there))
+    where
+      one : (c : Command) → MakesRuns (Some c) → RepliesWith Ok (Some c) l l' w w' old new → Headline (Some c) IsOfSchedule l l' w w'
+      one c makes x = done_headline l l' w w' old new c x.text x.reply x.input (is_left c x.text x.reply Ok makes x.journals) x.all
 
-  pub part_headline : (status : Status) → Ends command status l l' w w' old new → (node : ℕ) → status ≡ JournalFault node → Keeps w w' ⊎ Headline (IsOfFault node) l l' w w'
+  pub part_headline : (status : Status) → Ends command status l l' w w' old new → (node : ℕ) → status ≡ JournalFault node
+      → Keeps w w' ⊎ Headline command (IsOfFault node) l l' w w'
   part_headline status e node h =
       let there : RepliesWith (JournalFault node) command l l' w w' old new = subst (λ s. Ends command s l l' w w' old new) h e in
-      fault_headline l l' w w' old new node (subst (λ c. RepliesWith (JournalFault node) c l l' w w' old new) (fault_of_replay status e node h) there)
+      for_runs (λ c. Keeps w w' ⊎ Headline c (IsOfFault node) l l' w w') (fault_of_run status e node h)
+      (λ c is makes. one c makes (subst (λ x. RepliesWith (JournalFault node) x l l' w w' old new) is there))
+    where
+      one : (c : Command) → MakesRuns (Some c) → RepliesWith (JournalFault node) (Some c) l l' w w' old new → Keeps w w' ⊎ Headline (Some c) (IsOfFault node) l l' w w'
+      one c makes x = fault_headline l l' w w' old new c node x.text x.reply x.input (is_left c x.text x.reply (JournalFault node) makes x.journals) x.all
 
   pub none_fails : (status : Status) → Ends command status l l' w w' old new → old.may_fail ≡ Some [] → (node : ℕ) → status ≡ JournalFault node → ⊥
   none_fails status e none node h =
       let there : RepliesWith (JournalFault node) command l l' w w' old new = subst (λ s. Ends command s l l' w w' old new) h e in
-      no_fault l l' w w' old new node (subst (λ c. RepliesWith (JournalFault node) c l l' w w' old new) (fault_of_replay status e node h) there) none
+      for_runs (λ c. ⊥) (fault_of_run status e node h) (λ c is makes. one c makes (subst (λ x. RepliesWith (JournalFault node) x l l' w w' old new) is there))
+    where
+      one : (c : Command) → MakesRuns (Some c) → RepliesWith (JournalFault node) (Some c) l l' w w' old new → ⊥
+      one c makes x = no_fault l l' w w' old new c node x.text x.reply (is_left c x.text x.reply (JournalFault node) makes x.journals) none
+
+  -- ---- the makers of journals
+
+  left_unfailed : (c : Command) (text reply : List ℕ) (status : Status) → AreLeft c text old new status reply → (reply ≢ []) ⊎ (IsJournalFault status → ⊥)
+      → new.faults ≡ old.faults
+  left_unfailed c text reply Ok h k = replay_unfailed c text reply Ok old new h k
+  left_unfailed c text reply (NotEnabled event) h k = replay_unfailed c text reply (NotEnabled event) old new h k
+  left_unfailed c text reply (JournalFault node) h k = replay_unfailed c text reply (JournalFault node) old new h k
+  left_unfailed c text reply Usage h k = ap (λ (m : Makers). m.faults) h
+  left_unfailed c text reply ReadFault h k = ap (λ (m : Makers). m.faults) h
+  left_unfailed c text reply WriteFault h k = ap (λ (m : Makers). m.faults) h
+  left_unfailed c text reply Memory h k = ap (λ (m : Makers). m.faults) h
+  left_unfailed c text reply (Syntax at) h k = ap (λ (m : Makers). m.faults) h
+  left_unfailed c text reply (Limit what) h k = ap (λ (m : Makers). m.faults) h
+  left_unfailed c text reply (Name x at) h k = ap (λ (m : Makers). m.faults) h
+  left_unfailed c text reply (Labelled x at from to) h k = ap (λ (m : Makers). m.faults) h
+
+  are_unfailed : (asked : Option Command) (text reply : List ℕ) (status : Status) → JournalsAre asked text old new status reply
+      → (reply ≢ []) ⊎ (IsJournalFault status → ⊥) → new.faults ≡ old.faults
+  are_unfailed (Some Replay) text reply status h k = left_unfailed Replay text reply status h k
+  are_unfailed (Some (View names)) text reply status h k = left_unfailed (View names) text reply status h k
+  are_unfailed (Some Check) text reply status h k = ap (λ (m : Makers). m.faults) h
+  are_unfailed (Some Evaluate) text reply status h k = ap (λ (m : Makers). m.faults) h
+  are_unfailed (Some (Flows a b)) text reply status h k = ap (λ (m : Makers). m.faults) h
+  are_unfailed (Some Format) text reply status h k = ap (λ (m : Makers). m.faults) h
+  are_unfailed None text reply status h k = ap (λ (m : Makers). m.faults) h
+
+  whole_unfailed : (status : Status) → RepliesWith status command l l' w w' old new → (IsJournalFault status → ⊥) → new.faults ≡ old.faults
+  whole_unfailed status e none = are_unfailed command e.text e.reply status e.journals (inr none)
+
+  part_unfailed : RepliesInPart command l l' w w' old new → new.faults ≡ old.faults
+  part_unfailed e = are_unfailed command e.text e.reply e.status e.journals (inl e.some)
+
+  cut_unfailed : AreCut command l l' old new → new.faults ≡ old.faults
+  cut_unfailed (untouched same) = ap (λ (m : Makers). m.faults) same
+  cut_unfailed (cut_short is input x) = x.unfailed
+
+  -- no journal's making failed, unless that is told
+  pub makers_unfailed : (status : Status) → Ends command status l l' w w' old new → (IsJournalFault status → ⊥) → new.faults ≡ old.faults
+  makers_unfailed Ok e none = whole_unfailed Ok e none
+  makers_unfailed Usage e none = whole_unfailed Usage e none
+  makers_unfailed ReadFault e none = ap (λ (m : Makers). m.faults) e.1
+  makers_unfailed WriteFault e none = part_unfailed e
+  makers_unfailed Memory (inl e) none = cut_unfailed e.1
+  makers_unfailed Memory (inr e) none = part_unfailed e
+  makers_unfailed (Syntax at) e none = whole_unfailed (Syntax at) e none
+  makers_unfailed (Limit what) e none = whole_unfailed (Limit what) e none
+  makers_unfailed (Name x at) e none = whole_unfailed (Name x at) e none
+  makers_unfailed (Labelled x at from to) e none = whole_unfailed (Labelled x at from to) e none
+  makers_unfailed (NotEnabled event) e none = whole_unfailed (NotEnabled event) e none
+  makers_unfailed (JournalFault node) e none = absurd (none tt)

@@ -7,3 +7,6 @@ pub mod Fronts
 pub mod Refusals
 pub mod Replaying
 pub mod Replying
+pub mod Wishes
+pub mod Watching
+pub mod Alike

@@ -1,8 +1,8 @@
 -- What a replay comes to, as a reply to a text, and that the headline holds of its report.
-use Rattle.std.proofs.Common.{◌≡◌, ◌⊎◌, inl, inr, ℕ, List, [], Option, Some, None, Result, Ok as Fine, Err, IfOk, refl, sym, ◌∙◌, subst, append-nil, arith}
+use Rattle.std.proofs.Common.{◌≡◌, ◌≢◌, ◌⊎◌, inl, inr, ℕ, List, [], length, Option, Some, None, Result, Ok as Fine, Err, IfOk, OnErr, refl, sym, ap, ◌∙◌, subst, append-nil, arith}
+use Rattle.std.proofs.lemmas.List.{take_all}
 use Rattle.std.specs.Io.KnownBytes.{Appends, Keeps}
 use Rattle.fab_command.specs.declared.command.Command.{Command}
-use Rattle.fab_command.specs.declared.command.Command.TheVariants.{Replay}
 use Rattle.fab_tree.specs.declared.start.Start.{Start}
 use Rattle.fab_language.specs.Numbers.{resolved}
 use Rattle.fab_language.specs.Words.{node_text}
@@ -11,22 +11,19 @@ use Rattle.fab_rights.specs.declared.rights.Rights.{Rights}
 use Rattle.fab_settings.specs.Settings.{IsAcceptedWith}
 use Rattle.fab_replay.specs.declared.replayed.Replayed.{Replayed}
 use Rattle.fab_replay.specs.declared.replayed.Replayed.TheVariants as replays
-use Rattle.fab_replay.specs.Kept.{IsOfRun, IsReplayed, IsPossible}
+use Rattle.fab_replay.specs.declared.replayed.Wanted.{Wanted}
+use Rattle.fab_replay.specs.Kept.{IsCutShort, IsOfRun, IsPossible, IsReplayed, OfRun, with_more}
 use Rattle.fab_reply.specs.declared.front.Outcome.TheVariants as outcome
 use Rattle.fab_reply.specs.declared.status.Status.{Status}
 use Rattle.fab_reply.specs.declared.status.Status.TheVariants.{Ok, JournalFault}
 use Rattle.fab_reply.specs.Front.{Front, IsFront}
 use Rattle.fab_world.specs.Machine.{Move}
-use Rattle.fab_world.specs.Serial.{IsRun}
-use Rattle.fab_core.specs.Cores.{setting}
-use Rattle.fab_isolation.proofs.Posts.{post_few}
-use Rattle.fab_shadow.proofs.Runs.{bundles_isolated}
 use Rattle.fab_node.specs.Standing.{GivenModel}
-use Rattle.fab_replay.specs.Replays.{StopsIn, report_of}
-use Rattle.fab_reply.specs.Headline.{Headline, IsIsolated, IsOfFault, IsOfSchedule}
+use Rattle.fab_replay.specs.Replays.{StopsIn, text_of as text_by}
+use Rattle.fab_reply.specs.Headline.{Headline, IsOfFault, IsOfSchedule}
 use Rattle.fab_reply.specs.Reading.{ReadsText}
-use Rattle.fab_reply.specs.Replays.{Makers, given_of}
-use Rattle.fab_reply.specs.Reply.{Answers, one_reply, interrupted, in_run, before, IsInput, read, IsReplay, JournalsAre, RepliesWith, status_of, text_of}
+use Rattle.fab_reply.specs.Replays.{Makers, Wants, given_of}
+use Rattle.fab_reply.specs.Reply.{Answers, one_reply, interrupted, in_run, before, AreCut, cut_short, untouched, AreLeft, IsCut, cut, unmade, IsInput, read, IsJournalFault, IsNotEnabled, IsReplay, status_of, text_of}
 use Rattle.fab_reply.proofs.Replying.{barred_reply, replay_reply}
 
 -- what is so of a status and a text is so of what was answered
@@ -35,22 +32,33 @@ pub if_told : {E : Type 0} (P : Status → List ℕ → Type 0) (s : Status) (l 
 if_told P s l (Fine r) h w = subst (λ x. P x r.1) (sym h.0) (subst (λ x. P s x) (sym h.1) w)
 if_told P s l (Err e) h w = tt
 
-module _ {text : List ℕ} {start : Start} (f : IsFront text (outcome.Bundle start)) (rights : Rights) (accepted : IsAcceptedWith start rights) where
+-- where nothing was told, that has a cause
+pub unless_told : {A E P Q R : Type 0} (o : Result A E) → (P → R → Q) → OnErr o P → R → OnErr o Q
+unless_told (Fine r) f h k = tt
+unless_told (Err e) f h k = f h k
+
+module _ {text : List ℕ} {start : Start} (f : IsFront text (outcome.Bundle start)) (rights : Rights) (accepted : IsAcceptedWith start rights)
+    (command : Command) (wanted : Wanted) (wants : Wants start command wanted) where
   -- a replay answers the text
-  pub answered : (answer : Replayed) (old new : Makers) → IsReplayed (given_of start rights) answer old.kept new.kept old.faults new.faults
-      → Answers (Some Replay) text (status_of answer) (text_of answer)
-  answered (replays.Done reply) old new h = one_reply (replay_reply f rights accepted reply (record { moves = h.moves; run = h.run; told = h.told }))
-  answered (replays.NotEnabled event) old new h = one_reply (barred_reply f rights accepted event (record { moves = h.moves; run = h.run; told = h.told }))
-  answered (replays.JournalFault node (Some reply)) old new h = interrupted (in_run f.is accepted (record { moves = h.moves; run = h.run; told = h.told }))
-  answered (replays.JournalFault node None) old new h = interrupted (before f.is accepted h.0)
+  pub answered : (answer : Replayed) (old new : Makers) → IsReplayed (given_of start rights) wanted answer old.kept new.kept old.faults new.faults
+      → Answers (Some command) text (status_of answer) (text_of answer)
+  answered (replays.Done reply) old new (h, e) =
+      one_reply (replay_reply f rights accepted command wanted wants reply (record { moves = h.moves; run = h.run; told = h.told }))
+  answered (replays.NotEnabled event) old new (h, e) =
+      one_reply (barred_reply f rights accepted command wanted wants event (record { moves = h.moves; run = h.run; told = h.told }))
+  answered (replays.JournalFault node (Some reply)) old new (h, e) =
+      interrupted (in_run wants f.is accepted (record { moves = h.moves; run = h.run; told = h.told }))
+  answered (replays.JournalFault node None) old new h = interrupted (before wanted wants f.is accepted h.0)
 
   -- and the journals are as it left them
-  pub left_behind : (answer : Replayed) (old new : Makers) → IsReplayed (given_of start rights) answer old.kept new.kept old.faults new.faults
-      → IsPossible old.may_fail (resolved start) answer → JournalsAre (Some Replay) text old new (status_of answer) (text_of answer)
-  left_behind (replays.Done reply) old new h p = record {
+  is_replay : (answer : Replayed) (old new : Makers) → IsReplayed (given_of start rights) wanted answer old.kept new.kept old.faults new.faults
+      → IsPossible old.may_fail (resolved start) answer → IsReplay command text old new (status_of answer) (text_of answer)
+  is_replay answer old new h p = record {
     start = start;
     rights = rights;
-    answer = replays.Done reply;
+    wanted = wanted;
+    answer = answer;
+    asked = wants;
     front = f.is;
     accepted = accepted;
     is = h;
@@ -58,28 +66,37 @@ module _ {text : List ℕ} {start : Start} (f : IsFront text (outcome.Bundle sta
     status_is = refl;
     reply_is = refl;
   }
-  left_behind (replays.NotEnabled event) old new h p = record {
+
+  pub left_behind : (answer : Replayed) (old new : Makers) → IsReplayed (given_of start rights) wanted answer old.kept new.kept old.faults new.faults
+      → IsPossible old.may_fail (resolved start) answer → AreLeft command text old new (status_of answer) (text_of answer)
+  left_behind (replays.Done reply) old new h p = is_replay (replays.Done reply) old new h p
+  left_behind (replays.NotEnabled event) old new h p = is_replay (replays.NotEnabled event) old new h p
+  left_behind (replays.JournalFault node report) old new h p = is_replay (replays.JournalFault node report) old new h p
+
+  -- where memory ran out in it, or behind it
+  pub cut_replay : (old new : Makers) → IsCutShort (given_of start rights) wanted old.kept new.kept → new.faults ≡ old.faults → new.may_fail ≡ old.may_fail
+      → IsCut command text old new
+  cut_replay old new h unfailed same = cut (record {
     start = start;
     rights = rights;
-    answer = replays.NotEnabled event;
+    wanted = wanted;
+    asked = wants;
     front = f.is;
     accepted = accepted;
     is = h;
-    possible = p;
-    status_is = refl;
-    reply_is = refl;
-  }
-  left_behind (replays.JournalFault node report) old new h p = record {
-    start = start;
-    rights = rights;
-    answer = replays.JournalFault node report;
-    front = f.is;
-    accepted = accepted;
-    is = h;
-    possible = p;
-    status_is = refl;
-    reply_is = refl;
-  }
+    unfailed = unfailed;
+    same = same;
+  })
+
+  pub cut_answer : (answer : Replayed) (old new : Makers) → IsReplayed (given_of start rights) wanted answer old.kept new.kept old.faults new.faults
+      → IsNotEnabled answer → new.may_fail ≡ old.may_fail → IsCut command text old new
+  cut_answer (replays.NotEnabled event) old new (h, e) is same =
+      cut_replay old new
+      (OfRun h.moves (replays.NotEnabled event) h.run h.told
+      (record { entries = h.kept.entries; many = length h.kept.entries; each = h.kept.each; kept = h.kept.kept ∙ ap (with_more old.kept) (sym (take_all (length h.kept.entries) h.kept.entries (omega arith))) }))
+      e same
+  cut_answer (replays.Done reply) old new h is same = absurd is
+  cut_answer (replays.JournalFault node report) old new h is same = absurd is
 
 -- ---- the headline
 
@@ -88,57 +105,59 @@ nothing_more None w' h = tt
 nothing_more (Some xs) None h = absurd h
 nothing_more (Some xs) (Some ys) h = h ∙ append-nil xs
 
--- a run of an accepted bundle is isolated
-isolated_run : (start : Start) (rights : Rights) (moves : List Move) → IsAcceptedWith start rights → IsRun (setting (given_of start rights)) moves
-    → IsIsolated start rights moves
-isolated_run start rights moves accepted run nodes sees shows n d set out into =
-    bundles_isolated start rights nodes sees shows set moves n d run (post_few start rights accepted moves run) out into
+pub text_read : {l l' : Option (List ℕ)} {c : Command} {text : List ℕ} → IsInput (Some c) l l' text → ReadsText l l' text
+text_read (read t) = t
 
-module _ (l l' w w' : Option (List ℕ)) (old new : Makers) where
-  pub text_read : {c : Command} {text : List ℕ} → IsInput (Some c) l l' text → ReadsText l l' text
-  text_read (read t) = t
-
-  headlined : (P : GivenModel → List Move → Type 0) (start : Start) (rights : Rights) (answer : Replayed) (text reply report : List ℕ) (h : IsOfRun (given_of start rights) answer old.kept new.kept)
+module _ (l l' w w' : Option (List ℕ)) (old new : Makers) (command : Command) where
+  headlined : (P : GivenModel → List Move → Type 0) (start : Start) (rights : Rights) (wanted : Wanted) (answer : Replayed) (text reply report : List ℕ)
+      (h : IsOfRun (given_of start rights) wanted answer old.kept new.kept) → Wants start command wanted
       → ReadsText l l' text → Front text (outcome.Bundle start) → IsAcceptedWith start rights → P (given_of start rights) h.moves
-      → report ≡ report_of (given_of start rights) h.moves → reply ≡ report → Appends w w' reply → Headline P l l' w w'
-  headlined P start rights answer text reply report h input front accepted events of is all = record {
+      → report ≡ text_by (given_of start rights) wanted h.moves → reply ≡ report → Appends w w' reply → Headline (Some command) P l l' w w'
+  headlined P start rights wanted answer text reply report h wants input front accepted events of is all = record {
     text = text;
     start = start;
     rights = rights;
+    asked = command;
+    wanted = wanted;
     moves = h.moves;
     read = input;
     spelled = front;
     accepted = accepted;
+    command_is = refl;
+    wants = wants;
     run = h.run;
     events = events;
     reported = subst (Appends w w') (is ∙ of) all;
     integral = h.integral;
-    isolated = isolated_run start rights h.moves accepted h.run;
+    isolated = h.isolated;
   }
 
-  done_headlined : (start : Start) (rights : Rights) (answer : Replayed) (text reply : List ℕ) → ReadsText l l' text → Front text (outcome.Bundle start)
-      → IsAcceptedWith start rights → IsReplayed (given_of start rights) answer old.kept new.kept old.faults new.faults → Ok ≡ status_of answer
-      → reply ≡ text_of answer → Appends w w' reply → Headline IsOfSchedule l l' w w'
-  done_headlined start rights (replays.Done report) text reply input front accepted h e is all =
-      headlined IsOfSchedule start rights (replays.Done report) text reply report h input front accepted h.told.0 h.told.1 is all
-  done_headlined start rights (replays.NotEnabled event) text reply input front accepted h e is all = absurd (cc)
-  done_headlined start rights (replays.JournalFault node report) text reply input front accepted h e is all = absurd (cc)
+  done_headlined : (start : Start) (rights : Rights) (wanted : Wanted) (answer : Replayed) (text reply : List ℕ) → Wants start command wanted → ReadsText l l' text
+      → Front text (outcome.Bundle start) → IsAcceptedWith start rights
+      → IsReplayed (given_of start rights) wanted answer old.kept new.kept old.faults new.faults → Ok ≡ status_of answer
+      → reply ≡ text_of answer → Appends w w' reply → Headline (Some command) IsOfSchedule l l' w w'
+  done_headlined start rights wanted (replays.Done report) text reply wants input front accepted (h, n) e is all =
+      headlined IsOfSchedule start rights wanted (replays.Done report) text reply report h wants input front accepted h.told.0 h.told.1 is all
+  done_headlined start rights wanted (replays.NotEnabled event) text reply wants input front accepted h e is all = absurd (cc)
+  done_headlined start rights wanted (replays.JournalFault node report) text reply wants input front accepted h e is all = absurd (cc)
 
-  pub done_headline : RepliesWith Ok (Some Replay) l l' w w' old new → Headline IsOfSchedule l l' w w'
-  done_headline e =
-      let x : IsReplay e.text old new Ok e.reply = e.journals in
-      done_headlined x.start x.rights x.answer e.text e.reply (text_read e.input) x.front x.accepted x.is x.status_is x.reply_is e.all
+  -- the text and the journals of a run that ended
+  pub done_headline : (text reply : List ℕ) → IsInput (Some command) l l' text → IsReplay command text old new Ok reply → Appends w w' reply
+      → Headline (Some command) IsOfSchedule l l' w w'
+  done_headline text reply input x all =
+      done_headlined x.start x.rights x.wanted x.answer text reply x.asked (text_read input) x.front x.accepted x.is x.status_is x.reply_is all
 
-  fault_headlined : (start : Start) (rights : Rights) (answer : Replayed) (node : ℕ) (text reply : List ℕ) → ReadsText l l' text → Front text (outcome.Bundle start)
-      → IsAcceptedWith start rights → IsReplayed (given_of start rights) answer old.kept new.kept old.faults new.faults → JournalFault node ≡ status_of answer
-      → reply ≡ text_of answer → Appends w w' reply → Keeps w w' ⊎ Headline (IsOfFault node) l l' w w'
-  fault_headlined start rights (replays.Done report) node text reply input front accepted h e is all = absurd (cc)
-  fault_headlined start rights (replays.NotEnabled event) node text reply input front accepted h e is all = absurd (cc)
-  fault_headlined start rights (replays.JournalFault n (Some report)) node text reply input front accepted h e is all =
+  fault_headlined : (start : Start) (rights : Rights) (wanted : Wanted) (answer : Replayed) (node : ℕ) (text reply : List ℕ) → Wants start command wanted
+      → ReadsText l l' text → Front text (outcome.Bundle start) → IsAcceptedWith start rights
+      → IsReplayed (given_of start rights) wanted answer old.kept new.kept old.faults new.faults → JournalFault node ≡ status_of answer
+      → reply ≡ text_of answer → Appends w w' reply → Keeps w w' ⊎ Headline (Some command) (IsOfFault node) l l' w w'
+  fault_headlined start rights wanted (replays.Done report) node text reply wants input front accepted h e is all = absurd (cc)
+  fault_headlined start rights wanted (replays.NotEnabled event) node text reply wants input front accepted h e is all = absurd (cc)
+  fault_headlined start rights wanted (replays.JournalFault n (Some report)) node text reply wants input front accepted (h, k) e is all =
       let same : n ≡ node = cc in
-      inr (headlined (IsOfFault node) start rights (replays.JournalFault n (Some report)) text reply report h input front accepted
+      inr (headlined (IsOfFault node) start rights wanted (replays.JournalFault n (Some report)) text reply report h wants input front accepted
       (subst (λ m. StopsIn (given_of start rights) h.moves m) same h.told.0) h.told.1 is all)
-  fault_headlined start rights (replays.JournalFault n None) node text reply input front accepted h e is all =
+  fault_headlined start rights wanted (replays.JournalFault n None) node text reply wants input front accepted h e is all =
       inl (nothing_more w w' (subst (Appends w w') is all))
 
   -- where it is told that no journal may fail, there is no fault
@@ -153,12 +172,34 @@ module _ (l l' w w' : Option (List ℕ)) (old new : Makers) where
   fault_possible start (replays.NotEnabled event) node p e none = absurd (cc)
   fault_possible start (replays.JournalFault n report) node p e none = p (nobody_fails old.may_fail (node_text (resolved start) n) none)
 
-  pub no_fault : (node : ℕ) → RepliesWith (JournalFault node) (Some Replay) l l' w w' old new → old.may_fail ≡ Some [] → ⊥
-  no_fault node e none =
-      let x : IsReplay e.text old new (JournalFault node) e.reply = e.journals in
-      fault_possible x.start x.answer node x.possible x.status_is none
+  pub no_fault : (node : ℕ) (text reply : List ℕ) → IsReplay command text old new (JournalFault node) reply → old.may_fail ≡ Some [] → ⊥
+  no_fault node text reply x none = fault_possible x.start x.answer node x.possible x.status_is none
 
-  pub fault_headline : (node : ℕ) → RepliesWith (JournalFault node) (Some Replay) l l' w w' old new → Keeps w w' ⊎ Headline (IsOfFault node) l l' w w'
-  fault_headline node e =
-      let x : IsReplay e.text old new (JournalFault node) e.reply = e.journals in
-      fault_headlined x.start x.rights x.answer node e.text e.reply (text_read e.input) x.front x.accepted x.is x.status_is x.reply_is e.all
+  pub fault_headline : (node : ℕ) (text reply : List ℕ) → IsInput (Some command) l l' text → IsReplay command text old new (JournalFault node) reply → Appends w w' reply
+      → Keeps w w' ⊎ Headline (Some command) (IsOfFault node) l l' w w'
+  fault_headline node text reply input x all =
+      fault_headlined x.start x.rights x.wanted x.answer node text reply x.asked (text_read input) x.front x.accepted x.is x.status_is x.reply_is all
+
+-- ---- the makers of journals
+
+-- with an answer that has bytes, or no journal's fault, they have failed no more often
+unfailed_by : (g : GivenModel) (wanted : Wanted) (answer : Replayed) (old new : Makers) → IsReplayed g wanted answer old.kept new.kept old.faults new.faults
+    → (text_of answer ≢ []) ⊎ (IsJournalFault (status_of answer) → ⊥) → new.faults ≡ old.faults
+unfailed_by g wanted (replays.Done report) old new h k = h.1
+unfailed_by g wanted (replays.NotEnabled event) old new h k = h.1
+unfailed_by g wanted (replays.JournalFault node (Some report)) old new h k = h.1
+unfailed_by g wanted (replays.JournalFault node None) old new h (inl k) = absurd (k refl)
+unfailed_by g wanted (replays.JournalFault node None) old new h (inr k) = absurd (k tt)
+
+pub replay_unfailed : (command : Command) (text reply : List ℕ) (status : Status) (old new : Makers) → IsReplay command text old new status reply
+    → (reply ≢ []) ⊎ (IsJournalFault status → ⊥) → new.faults ≡ old.faults
+replay_unfailed command text reply status old new x (inl some) =
+    unfailed_by (given_of x.start x.rights) x.wanted x.answer old new x.is (inl (λ e. some (x.reply_is ∙ e)))
+replay_unfailed command text reply status old new x (inr none) =
+    unfailed_by (given_of x.start x.rights) x.wanted x.answer old new x.is (inr (subst (λ s. IsJournalFault s → ⊥) x.status_is none))
+
+-- where memory ran out, what came of the journals is told of what was read
+pub cut_left : {l l' : Option (List ℕ)} {asked : Option Command} {c : Command} {text : List ℕ} {old new : Makers} → asked ≡ Some c → ReadsText l l' text → IsCut c text old new
+    → AreCut asked l l' old new
+cut_left is input (unmade same) = untouched same
+cut_left {l = l} {l' = l'} {c = c} {text = text} is input (cut x) = cut_short is (subst (λ a. IsInput a l l' text) (sym is) (read {command = c} input)) x

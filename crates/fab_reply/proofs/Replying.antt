@@ -1,5 +1,5 @@
 -- The replies to a text.
-use Rattle.std.proofs.Common.{◌≡◌, inl, inr, ℕ, List, [], ◌++◌, length, Option, Some, None, MatchOption, refl, sym, ap, ◌∙◌, subst, arith, codes}
+use Rattle.std.proofs.Common.{◌≡◌, inl, inr, ℕ, List, [], ◌++◌, length, Option, Some, None, MatchOption, refl, sym, ap, ◌∙◌, subst, arith, codes, true, false, true≢false}
 use Rattle.std.specs.Prelude.{Contains}
 use Rattle.std.specs.Fmt.{decimal}
 use Rattle.fab_base.specs.declared.limit.What.{What}
@@ -13,12 +13,12 @@ use Rattle.fab_language.specs.Faults.{faults, IsFirst}
 use Rattle.fab_language.specs.Flows.{FlowReply, IsFlowReply}
 use Rattle.fab_language.specs.Numbers.{resolved}
 use Rattle.fab_command.specs.declared.command.Command.{Command}
-use Rattle.fab_command.specs.declared.command.Command.TheVariants.{Check, Evaluate, Flows, Format, Replay}
+use Rattle.fab_command.specs.declared.command.Command.TheVariants.{Check, Evaluate, Flows, Format, Replay, View}
 use Rattle.fab_reply.specs.declared.front.Outcome.TheVariants as outcome
 use Rattle.fab_reply.specs.declared.status.Status.{Status}
 use Rattle.fab_reply.specs.declared.status.Status.TheVariants.{Ok, Usage, Syntax, Name, Label as Labelled, Limit, NotEnabled}
 use Rattle.fab_reply.specs.Front.{Front, IsFront}
-use Rattle.fab_reply.specs.Reply.{Replies, usage, syntax, limit, formatted, misnamed, mislabelled, checked, evaluated, unlabelled, flow, replayed, barred, AsksNames, AsksLabels, IsReply, LacksLabel, barred_line, label_of, label_line, line, name_line, status_of, text_of, what_word}
+use Rattle.fab_reply.specs.Reply.{Replies, usage, syntax, limit, formatted, misnamed, mislabelled, checked, evaluated, unlabelled, flow, unnamed, replayed, barred, AsksNames, AsksLabels, IsReply, LacksLabel, barred_line, label_of, label_line, line, name_line, status_of, text_of, what_word}
 use Rattle.fab_labelling.specs.declared.rule.Refusal.{Refusal}
 use Rattle.fab_labelling.specs.Claims.{IsWellLabelled}
 use Rattle.fab_labelling.specs.Refusals.{IsFirstRefusal}
@@ -27,8 +27,13 @@ use Rattle.fab_places.specs.Places.{AreRights}
 use Rattle.fab_settings.specs.Settings.{IsAcceptedWith}
 use Rattle.fab_replay.specs.declared.replayed.Replayed.{Replayed}
 use Rattle.fab_replay.specs.declared.replayed.Replayed.TheVariants as replays
-use Rattle.fab_replay.specs.Replays.{HasNoFault}
-use Rattle.fab_reply.specs.Replays.{ReplaysTo, given_of}
+use Rattle.fab_world.specs.Machine.{Move}
+use Rattle.fab_listing.specs.Named.{are_node_names}
+use Rattle.fab_replay.specs.declared.replayed.Wanted.{Wanted}
+use Rattle.fab_replay.specs.declared.replayed.Wanted.TheVariants.{Report, View as Viewed}
+use Rattle.fab_replay.specs.Replays.{HasNoFault, text_of as text_by}
+use Rattle.fab_reply.specs.Replays.{LacksNode, ReplaysTo, Wants, given_of}
+use Rattle.fab_reply.proofs.Wishes.{same_text, tells_alike}
 use Rattle.fab_fitting.proofs.Rights.{one_rights}
 use Rattle.fab_replay.proofs.Exact.{one_answer}
 use Rattle.fab_reply.proofs.Faults.{one_first}
@@ -77,8 +82,9 @@ module _ {command : Command} {text : List ℕ} where
       go s r (evaluated {s = b} g h k) = not_bundle (sym (f.only (outcome.Bundle b) g))
       go s r (unlabelled {s = b} g h k) = not_bundle (sym (f.only (outcome.Bundle b) g))
       go s r (flow {s = b} g h k l m) = not_bundle (sym (f.only (outcome.Bundle b) g))
-      go s r (replayed {s = b} g h k) = not_bundle (sym (f.only (outcome.Bundle b) g))
-      go s r (barred {s = b} g h k) = not_bundle (sym (f.only (outcome.Bundle b) g))
+      go s r (unnamed {s = b} g h k) = not_bundle (sym (f.only (outcome.Bundle b) g))
+      go s r (replayed {s = b} w g h k) = not_bundle (sym (f.only (outcome.Bundle b) g))
+      go s r (barred {s = b} w g h k) = not_bundle (sym (f.only (outcome.Bundle b) g))
 
   pub limit_reply : {what : What} → IsFront text (outcome.Limit what) → IsReply (Some command) text (Limit what) (line (codes "limit " ++ what_word what))
   limit_reply {what = what} f = record { is = limit f.is; only = λ s r. go s r }
@@ -93,8 +99,9 @@ module _ {command : Command} {text : List ℕ} where
       go s r (evaluated {s = b} g h k) = no_limit (sym (f.only (outcome.Bundle b) g))
       go s r (unlabelled {s = b} g h k) = no_limit (sym (f.only (outcome.Bundle b) g))
       go s r (flow {s = b} g h k l m) = no_limit (sym (f.only (outcome.Bundle b) g))
-      go s r (replayed {s = b} g h k) = no_limit (sym (f.only (outcome.Bundle b) g))
-      go s r (barred {s = b} g h k) = no_limit (sym (f.only (outcome.Bundle b) g))
+      go s r (unnamed {s = b} g h k) = no_limit (sym (f.only (outcome.Bundle b) g))
+      go s r (replayed {s = b} w g h k) = no_limit (sym (f.only (outcome.Bundle b) g))
+      go s r (barred {s = b} w g h k) = no_limit (sym (f.only (outcome.Bundle b) g))
 
 -- ---- of a bundle
 
@@ -117,6 +124,8 @@ module _ {text : List ℕ} {start : Start} (f : IsFront text (outcome.Bundle sta
       go s r (formatted g) = (refl, ap canonical (same g))
       go s r (misnamed c g h) = absurd c
       go s r (mislabelled c g h k) = absurd c
+      go s r (replayed w g h k) = absurd w
+      go s r (barred w g h k) = absurd w
 
   pub name_reply : {command : Command} {x : Fault} → AsksNames command → IsFirst (faults start) x → IsReply (Some command) text (Name x.rule x.at) (name_line x.rule x.at)
   name_reply {x = x} asks h = record { is = misnamed asks f.is h; only = λ s r. go asks s r }
@@ -131,17 +140,21 @@ module _ {text : List ℕ} {start : Start} (f : IsFront text (outcome.Bundle sta
       go w s r (evaluated g k l) = none_first (ap faults (sym (same g)) ∙ k) h
       go w s r (unlabelled g k l) = none_first (ap faults (sym (same g)) ∙ k) h
       go w s r (flow g k l m n) = none_first (ap faults (sym (same g)) ∙ k) h
-      go w s r (replayed g k l) = none_first (ap faults (sym (same g)) ∙ k.named) h
-      go w s r (barred g k l) = none_first (ap faults (sym (same g)) ∙ k.named) h
+      go w s r (unnamed g k l) = none_first (ap faults (sym (same g)) ∙ k) h
+      go w s r (replayed v g k l) = none_first (ap faults (sym (same g)) ∙ k.named) h
+      go w s r (barred v g k l) = none_first (ap faults (sym (same g)) ∙ k.named) h
 
   here : {b : Start} {x : Refusal} → Front text (outcome.Bundle b) → IsFirstRefusal (resolved b) x → IsFirstRefusal (resolved start) x
   here {b} {x} g h = subst (λ y. IsFirstRefusal (resolved y) x) (same g) h
 
-  pub label_reply : {command : Command} {x : Refusal} → AsksLabels command → faults start ≡ [] → IsFirstRefusal (resolved start) x
+  no_names : {A : Type 0} (names : List (List ℕ)) → are_node_names (resolved start) names ≡ false → are_node_names (resolved start) names ≡ true → A
+  no_names names f t = absurd (true≢false (sym t ∙ f))
+
+  pub label_reply : {command : Command} {x : Refusal} → AsksLabels command start → faults start ≡ [] → IsFirstRefusal (resolved start) x
       → IsReply (Some command) text (Labelled x.rule x.at x.source x.target) (label_line (resolved start) x)
   label_reply {x = x} asks right h = record { is = mislabelled asks f.is right h; only = λ s r. go asks s r }
     where
-      go : {c : Command} → AsksLabels c → (s : Status) (r : List ℕ) → Replies (Some c) text s r → (s ≡ Labelled x.rule x.at x.source x.target) × (r ≡ label_line (resolved start) x)
+      go : {c : Command} → AsksLabels c start → (s : Status) (r : List ℕ) → Replies (Some c) text s r → (s ≡ Labelled x.rule x.at x.source x.target) × (r ≡ label_line (resolved start) x)
       go w s r (syntax {at = b} g) = not_bundle (f.only (outcome.Syntax b) g)
       go w s r (limit {what = b} g) = no_limit (f.only (outcome.Limit b) g)
       go w s r (formatted g) = absurd w
@@ -153,8 +166,9 @@ module _ {text : List ℕ} {start : Start} (f : IsFront text (outcome.Bundle sta
       go w s r (evaluated {s = b} g k l) = none_refused (resolved start) x (subst (λ z. IsWellLabelled (resolved z)) (same g) l) h
       go w s r (unlabelled g k l) = absurd w
       go w s r (flow g k l m n) = absurd w
-      go w s r (replayed {s = b} g k l) = none_refused (resolved start) x (subst (λ z. IsWellLabelled (resolved z)) (same g) k.labelled) h
-      go w s r (barred {s = b} g k l) = none_refused (resolved start) x (subst (λ z. IsWellLabelled (resolved z)) (same g) k.labelled) h
+      go w s r (unnamed {names = names} g k l) = no_names names (ap (λ z. are_node_names (resolved z) names) (sym (same g)) ∙ l) w
+      go w s r (replayed {s = b} v g k l) = none_refused (resolved start) x (subst (λ z. IsWellLabelled (resolved z)) (same g) k.labelled) h
+      go w s r (barred {s = b} v g k l) = none_refused (resolved start) x (subst (λ z. IsWellLabelled (resolved z)) (same g) k.labelled) h
 
   module _ (right : faults start ≡ []) (well : IsWellLabelled (resolved start)) where
     pub checked_reply : IsReply (Some Check) text Ok (line (codes "ok"))
@@ -166,6 +180,8 @@ module _ {text : List ℕ} {start : Start} (f : IsFront text (outcome.Bundle sta
         go s r (misnamed c g k) = none_first (ap faults (same g) ∙ right) k
         go s r (mislabelled {x = y} c g k l) = none_refused (resolved start) y well (here g l)
         go s r (checked g k l) = (refl, refl)
+        go s r (replayed w g h k) = absurd w
+        go s r (barred w g h k) = absurd w
 
     pub evaluated_reply : IsReply (Some Evaluate) text Ok (evaluation_text (resolved start))
     evaluated_reply = record { is = evaluated f.is right well; only = λ s r. go s r }
@@ -176,41 +192,92 @@ module _ {text : List ℕ} {start : Start} (f : IsFront text (outcome.Bundle sta
         go s r (misnamed c g k) = none_first (ap faults (same g) ∙ right) k
         go s r (mislabelled {x = y} c g k l) = none_refused (resolved start) y well (here g l)
         go s r (evaluated g k l) = (refl, ap (λ y. evaluation_text (resolved y)) (same g))
+        go s r (replayed w g h k) = absurd w
+        go s r (barred w g h k) = absurd w
 
   -- rights of one bundle are the same
   rights_of : {b : Start} (q rights : Rights) → b ≡ start → AreRights (resolved b) q → AreRights (resolved start) rights → q ≡ rights
   rights_of q rights e h k = one_rights (resolved start) q rights (subst (λ z. AreRights (resolved z) q) e h) k
 
+  -- what one command wants of the bundle's runs is one text
+  one_text : {b : Start} (rights : Rights) (c : Command) (u wanted : Wanted) → IsAcceptedWith start rights → b ≡ start → Wants b c u → Wants start c wanted
+      → (moves : List Move) → text_by (given_of start rights) u moves ≡ text_by (given_of start rights) wanted moves
+  one_text {b} rights c u wanted accepted e h k = same_text start rights c u wanted accepted (subst (λ z. Wants z c u) e h) k
+
   module _ (rights : Rights) (accepted : IsAcceptedWith start rights) where
     -- what a replay of the bundle comes to without a journal's fault
-    one_replay : {b : Start} {q : Rights} (x y : Replayed) → Front text (outcome.Bundle b) → IsAcceptedWith b q → ReplaysTo b q x → ReplaysTo start rights y
-        → HasNoFault x → HasNoFault y → x ≡ y
-    one_replay {b} {q} x y g k l m noted told =
+    one_replay : {b : Start} {q : Rights} (c : Command) (u w : Wanted) (x y : Replayed) → Wants b c u → Wants start c w → Front text (outcome.Bundle b) → IsAcceptedWith b q
+        → ReplaysTo b q u x → ReplaysTo start rights w y → HasNoFault x → HasNoFault y → x ≡ y
+    one_replay {b} {q} c u w x y v n g k l m noted told =
         let e = same g in
-        let here : ReplaysTo start rights x = subst (λ z. ReplaysTo start z x) (rights_of q rights e k.rights_are accepted.rights_are) (subst (λ z. ReplaysTo z q x) e l) in
-        one_answer (given_of start rights) here.moves m.moves x y here.run m.run here.told m.told noted told
+        let here : ReplaysTo start rights u x = subst (λ z. ReplaysTo start z u x) (rights_of q rights e k.rights_are accepted.rights_are) (subst (λ z. ReplaysTo z q u x) e l) in
+        let tells = tells_alike (given_of start rights) u w here.moves x (one_text rights c u w accepted e v n here.moves) here.told in
+        one_answer (given_of start rights) w here.moves m.moves x y here.run m.run tells m.told noted told
 
-    pub replay_reply : (reply : List ℕ) → ReplaysTo start rights (replays.Done reply) → IsReply (Some Replay) text Ok reply
-    replay_reply reply m = record { is = replayed f.is accepted m; only = λ s r. go s r }
+    module _ (command : Command) (wanted : Wanted) (wants : Wants start command wanted) where
+      pub replay_reply : (reply : List ℕ) → ReplaysTo start rights wanted (replays.Done reply) → IsReply (Some command) text Ok reply
+      replay_reply reply m = record { is = replayed wants f.is accepted m; only = λ s r. go wants m s r }
+        where
+          go : {c : Command} {u : Wanted} → Wants start c u → ReplaysTo start rights u (replays.Done reply) → (s : Status) (r : List ℕ) → Replies (Some c) text s r → (s ≡ Ok) × (r ≡ reply)
+          go w m s r (syntax {at = b} g) = not_bundle (f.only (outcome.Syntax b) g)
+          go w m s r (limit {what = b} g) = no_limit (f.only (outcome.Limit b) g)
+          go w m s r (formatted g) = absurd w
+          go w m s r (misnamed c g k) = none_first (ap faults (same g) ∙ accepted.named) k
+          go w m s r (mislabelled {x = y} c g k l) = none_refused (resolved start) y accepted.labelled (here g l)
+          go w m s r (checked g k l) = absurd w
+          go w m s r (evaluated g k l) = absurd w
+          go w m s r (unlabelled g k l) = absurd w
+          go w m s r (flow g k l n o) = absurd w
+          go {u = Report} w m s r (unnamed {names = names} g k l) = absurd w
+          go {u = Viewed nodes seen part} w m s r (unnamed {names = names} g k l) = no_names names (ap (λ z. are_node_names (resolved z) names) (sym (same g)) ∙ l) w.names_are
+          go {c} {u} w m s r (replayed {wanted = z} {reply = t} v g k l) = let e = one_replay c z u (replays.Done t) (replays.Done reply) v w g k l m tt tt in (refl, ap text_of e)
+          go {c} {u} w m s r (barred {wanted = z} {event = n} v g k l) = let e = one_replay c z u (replays.NotEnabled n) (replays.Done reply) v w g k l m tt tt in (ap status_of e, ap text_of e)
+
+      pub barred_reply : (event : ℕ) → ReplaysTo start rights wanted (replays.NotEnabled event) → IsReply (Some command) text (NotEnabled event) (barred_line event)
+      barred_reply event m = record { is = barred wants f.is accepted m; only = λ s r. go wants m s r }
+        where
+          go : {c : Command} {u : Wanted} → Wants start c u → ReplaysTo start rights u (replays.NotEnabled event) → (s : Status) (r : List ℕ) → Replies (Some c) text s r
+              → (s ≡ NotEnabled event) × (r ≡ barred_line event)
+          go w m s r (syntax {at = b} g) = not_bundle (f.only (outcome.Syntax b) g)
+          go w m s r (limit {what = b} g) = no_limit (f.only (outcome.Limit b) g)
+          go w m s r (formatted g) = absurd w
+          go w m s r (misnamed c g k) = none_first (ap faults (same g) ∙ accepted.named) k
+          go w m s r (mislabelled {x = y} c g k l) = none_refused (resolved start) y accepted.labelled (here g l)
+          go w m s r (checked g k l) = absurd w
+          go w m s r (evaluated g k l) = absurd w
+          go w m s r (unlabelled g k l) = absurd w
+          go w m s r (flow g k l n o) = absurd w
+          go {u = Report} w m s r (unnamed {names = names} g k l) = absurd w
+          go {u = Viewed nodes seen part} w m s r (unnamed {names = names} g k l) = no_names names (ap (λ z. are_node_names (resolved z) names) (sym (same g)) ∙ l) w.names_are
+          go {c} {u} w m s r (replayed {wanted = z} {reply = t} v g k l) = let e = one_replay c z u (replays.Done t) (replays.NotEnabled event) v w g k l m tt tt in (ap status_of e, ap text_of e)
+          go {c} {u} w m s r (barred {wanted = z} {event = n} v g k l) = let e = one_replay c z u (replays.NotEnabled n) (replays.NotEnabled event) v w g k l m tt tt in (ap status_of e, ap text_of e)
+
+  -- a word of `view` that names no node
+  module _ (names : List (List ℕ)) (right : faults start ≡ []) where
+    pub unnamed_reply : are_node_names (resolved start) names ≡ false → IsReply (Some (View names)) text (Name rule.Unknown (length text)) (name_line rule.Unknown (length text))
+    unnamed_reply l = record { is = unnamed f.is right l; only = λ s r. go s r }
       where
-        go : (s : Status) (r : List ℕ) → Replies (Some Replay) text s r → (s ≡ Ok) × (r ≡ reply)
+        no_wish : {b : Start} {A : Type 0} (u : Wanted) → b ≡ start → Wants b (View names) u → A
+        no_wish Report e w = absurd w
+        no_wish (Viewed nodes seen part) e w = no_names names l (ap (λ z. are_node_names (resolved z) names) (sym e) ∙ w.names_are)
+
+        go : (s : Status) (r : List ℕ) → Replies (Some (View names)) text s r → (s ≡ Name rule.Unknown (length text)) × (r ≡ name_line rule.Unknown (length text))
         go s r (syntax {at = b} g) = not_bundle (f.only (outcome.Syntax b) g)
         go s r (limit {what = b} g) = no_limit (f.only (outcome.Limit b) g)
-        go s r (misnamed c g k) = none_first (ap faults (same g) ∙ accepted.named) k
-        go s r (mislabelled {x = y} c g k l) = none_refused (resolved start) y accepted.labelled (here g l)
-        go s r (replayed {reply = t} g k l) = let e = one_replay (replays.Done t) (replays.Done reply) g k l m tt tt in (refl, ap text_of e)
-        go s r (barred {event = n} g k l) = let e = one_replay (replays.NotEnabled n) (replays.Done reply) g k l m tt tt in (ap status_of e, ap text_of e)
+        go s r (misnamed c g k) = none_first (ap faults (same g) ∙ right) k
+        go s r (mislabelled c g k m) = no_names names l (ap (λ z. are_node_names (resolved z) names) (sym (same g)) ∙ c)
+        go s r (unnamed g k m) = (refl, refl)
+        go s r (replayed {wanted = u} w g k m) = no_wish u (same g) w
+        go s r (barred {wanted = u} w g k m) = no_wish u (same g) w
 
-    pub barred_reply : (event : ℕ) → ReplaysTo start rights (replays.NotEnabled event) → IsReply (Some Replay) text (NotEnabled event) (barred_line event)
-    barred_reply event m = record { is = barred f.is accepted m; only = λ s r. go s r }
-      where
-        go : (s : Status) (r : List ℕ) → Replies (Some Replay) text s r → (s ≡ NotEnabled event) × (r ≡ barred_line event)
-        go s r (syntax {at = b} g) = not_bundle (f.only (outcome.Syntax b) g)
-        go s r (limit {what = b} g) = no_limit (f.only (outcome.Limit b) g)
-        go s r (misnamed c g k) = none_first (ap faults (same g) ∙ accepted.named) k
-        go s r (mislabelled {x = y} c g k l) = none_refused (resolved start) y accepted.labelled (here g l)
-        go s r (replayed {reply = t} g k l) = let e = one_replay (replays.Done t) (replays.NotEnabled event) g k l m tt tt in (ap status_of e, ap text_of e)
-        go s r (barred {event = n} g k l) = let e = one_replay (replays.NotEnabled n) (replays.NotEnabled event) g k l m tt tt in (ap status_of e, ap text_of e)
+  -- the same of whatever command
+  pub lacking_reply : (c : Command) → faults start ≡ [] → LacksNode start c → IsReply (Some c) text (Name rule.Unknown (length text)) (name_line rule.Unknown (length text))
+  lacking_reply (View names) right h = unnamed_reply names right h
+  lacking_reply Replay right h = absurd h
+  lacking_reply Check right h = absurd h
+  lacking_reply Evaluate right h = absurd h
+  lacking_reply (Flows a b) right h = absurd h
+  lacking_reply Format right h = absurd h
 
   lacks : (a b : List ℕ) {x y : Label} {A : Type 0} → label_of start a ≡ Some x → label_of start b ≡ Some y → LacksLabel start a b → A
   lacks a b p q (inl n) = absurd (cc)
@@ -226,6 +293,8 @@ module _ {text : List ℕ} {start : Start} (f : IsFront text (outcome.Bundle sta
         go s r (misnamed c g k) = none_first (ap faults (same g) ∙ right) k
         go s r (mislabelled c g k l) = absurd c
         go s r (unlabelled g k m) = (refl, refl)
+        go s r (replayed w g k m) = absurd w
+        go s r (barred w g k m) = absurd w
         go s r (flow g k m n o) = lacks a b (ap (λ x. label_of x a) (sym (same g)) ∙ m) (ap (λ x. label_of x b) (sym (same g)) ∙ n) l
 
     pub flow_reply : {x y : Label} {t : List ℕ} → label_of start a ≡ Some x → label_of start b ≡ Some y → IsFlowReply (resolved start) x y t → IsReply (Some (Flows a b)) text Ok t
@@ -236,6 +305,8 @@ module _ {text : List ℕ} {start : Start} (f : IsFront text (outcome.Bundle sta
         go s r (limit {what = b} g) = no_limit (f.only (outcome.Limit b) g)
         go s r (misnamed c g k) = none_first (ap faults (same g) ∙ right) k
         go s r (mislabelled c g k l) = absurd c
+        go s r (replayed w g k m) = absurd w
+        go s r (barred w g k m) = absurd w
         go s r (unlabelled {s = z} g k m) = lacks a b p q (subst (λ w. LacksLabel w a b) (same g) m)
         go s r (flow {from = u} {to = v} g k m n o) =
             let i : u ≡ x = one_label m (ap (λ z. label_of z a) (same g)) p in

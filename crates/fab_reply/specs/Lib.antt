@@ -1,4 +1,5 @@
 pub mod Accepted
+pub mod Alike
 pub mod Front
 pub mod Headline
 pub mod Reading

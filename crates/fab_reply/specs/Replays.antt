@@ -1,26 +1,65 @@
 -- What a replay comes to over a bundle, and what it leaves of the journals.
-use Rattle.std.specs.Prelude.{ℕ, List, Option}
+use Rattle.std.specs.Prelude.{◌≡◌, ◌<◌, ◌||◌, ℕ, true, false, List, Option, Some}
 use Rattle.fab_tree.specs.declared.start.Start.{Start}
 use Rattle.fab_language.specs.Numbers.{resolved}
 use Rattle.fab_rights.specs.declared.rights.Rights.{Rights}
+use Rattle.fab_rights.specs.Computed.{has_bit}
+use Rattle.fab_settings.specs.Settings.{is_hostile_node}
 use Rattle.fab_device.specs.Kept.{Entry}
 use Rattle.fab_world.specs.Machine.{Move}
 use Rattle.fab_world.specs.Serial.{IsRun}
 use Rattle.fab_node.specs.Standing.{GivenModel}
 use Rattle.fab_core.specs.Cores.{setting}
 use Rattle.fab_core.specs.Starts.{given_by}
+use Rattle.fab_command.specs.declared.command.Command.{Command}
+use Rattle.fab_command.specs.declared.command.Command.TheVariants.{Check, Evaluate, Flows, Format, Replay, View}
+use Rattle.fab_listing.specs.Named.{are_node_names, is_named}
 use Rattle.fab_replay.specs.declared.replayed.Replayed.{Replayed}
+use Rattle.fab_replay.specs.declared.replayed.Wanted.{Wanted}
+use Rattle.fab_replay.specs.declared.replayed.Wanted.TheVariants.{Report, View as Viewed}
 use Rattle.fab_replay.specs.Replays.{Tells}
 
 -- what the nodes of a bundle are given
 abbrev pub given_of : Start → Rights → GivenModel
 given_of s rights = given_by (resolved s) rights
 
--- there are moves of a run of the bundle of which the answer tells
-pub record ReplaysTo (s : Start) (rights : Rights) (answer : Replayed) : Type 0 where
+-- there are moves of a run of the bundle of which the answer tells, with the text that is wanted
+pub record ReplaysTo (s : Start) (rights : Rights) (wanted : Wanted) (answer : Replayed) : Type 0 where
   pub moves : List Move
   pub run : IsRun (setting (given_of s rights)) moves
-  pub told : Tells (given_of s rights) moves answer
+  pub told : Tells (given_of s rights) wanted moves answer
+
+-- the words are names of nodes, and these are those nodes and the hostile ones
+pub record AreNamed (s : Start) (names : List (List ℕ)) (nodes : ℕ) : Type 0 where
+  pub names_are : are_node_names (resolved s) names ≡ true
+  pub nodes_are : (n : ℕ) → n < 64 → has_bit nodes n ≡ (is_named (resolved s) names n || is_hostile_node (resolved s) n)
+
+-- what a command wants of a run: `replay` its report, and `view` what was sent into the set of the nodes that it names and of the hostile ones
+abbrev pub Wants : Start → Command → Wanted → Type 0
+Wants s Replay Report = Unit {0}
+Wants s Replay (Viewed nodes seen part) = ⊥
+Wants s (View names) Report = ⊥
+Wants s (View names) (Viewed nodes seen part) = AreNamed s names nodes
+Wants s Check wanted = ⊥
+Wants s Evaluate wanted = ⊥
+Wants s (Flows a b) wanted = ⊥
+Wants s Format wanted = ⊥
+
+-- these are the nodes of the command's set, if it has one
+abbrev pub IsSetOf : Start → Command → ℕ → Type 0
+IsSetOf s (View names) nodes = AreNamed s names nodes
+IsSetOf s _ nodes = Unit {0}
+
+-- a word of the command names no node
+abbrev pub LacksNode : Start → Command → Type 0
+LacksNode s (View names) = are_node_names (resolved s) names ≡ false
+LacksNode s _ = ⊥
+
+-- `replay` and `view` make runs
+abbrev pub MakesRuns : Option Command → Type 0
+MakesRuns (Some Replay) = Unit {0}
+MakesRuns (Some (View names)) = Unit {0}
+MakesRuns _ = ⊥
 
 -- What those tell who make journals: the nodes whose journals may ever fail, the journals that were kept, and how often they have failed.
 pub record Makers : Type 0 where

@@ -1,5 +1,5 @@
 -- What the program replies.
-use Rattle.std.specs.Prelude.{◌≡◌, ◌⊎◌, ℕ, IsTrue, List, [], ◌∷◌, ◌++◌, length, Option, Some, None, find, option_map, slice_get, codes}
+use Rattle.std.specs.Prelude.{◌≡◌, ◌≢◌, ◌⊎◌, ℕ, true, false, IsTrue, List, [], ◌∷◌, ◌++◌, length, Option, Some, None, find, option_map, slice_get, codes}
 use Rattle.std.specs.Fmt.{decimal}
 use Rattle.std.specs.Io.KnownBytes.{Appends, Keeps}
 use Rattle.std.specs.Str.{bytes_eq}
@@ -27,17 +27,19 @@ use Rattle.fab_labelling.specs.Refusals.{IsFirstRefusal}
 use Rattle.fab_reply.specs.declared.front.Outcome.TheVariants as outcome
 use Rattle.fab_reply.specs.Front.{Front}
 use Rattle.fab_reply.specs.Reading.{ReadsText, WritesFront}
-use Rattle.fab_reply.specs.Replays.{Makers, ReplaysTo, given_of}
+use Rattle.fab_reply.specs.Replays.{Makers, ReplaysTo, Wants, given_of}
 use Rattle.fab_rights.specs.declared.rights.Rights.{Rights}
 use Rattle.fab_settings.specs.Settings.{IsAcceptedWith}
 use Rattle.fab_core.specs.Cores.{is_honest}
 use Rattle.fab_replay.specs.declared.replayed.Replayed.{Replayed}
 use Rattle.fab_replay.specs.declared.replayed.Replayed.TheVariants as replays
-use Rattle.fab_replay.specs.Kept.{IsReplayed, IsPossible}
+use Rattle.fab_listing.specs.Named.{are_node_names}
+use Rattle.fab_replay.specs.declared.replayed.Wanted.{Wanted}
+use Rattle.fab_replay.specs.Kept.{IsCutShort, IsReplayed, IsPossible}
 use Rattle.fab_reply.specs.declared.status.Status.{Status}
 use Rattle.fab_reply.specs.declared.status.Status.TheVariants.{Ok, Usage, ReadFault, WriteFault, Memory, Syntax, Name, Label as Labelled, Limit, NotEnabled, JournalFault}
 use Rattle.fab_command.specs.declared.command.Command.{Command}
-use Rattle.fab_command.specs.declared.command.Command.TheVariants.{Check, Evaluate, Flows, Format, Replay}
+use Rattle.fab_command.specs.declared.command.Command.TheVariants.{Check, Evaluate, Flows, Format, Replay, View}
 
 -- a line of a text
 abbrev pub line : List ℕ → List ℕ
@@ -104,16 +106,18 @@ abbrev pub AsksNames : Command → Type 0
 AsksNames Check = Unit {0}
 AsksNames Evaluate = Unit {0}
 AsksNames Replay = Unit {0}
+AsksNames (View names) = Unit {0}
 AsksNames (Flows a b) = Unit {0}
 AsksNames Format = ⊥
 
--- `check`, `eval` and `replay` ask for the rules of labels
-abbrev pub AsksLabels : Command → Type 0
-AsksLabels Check = Unit {0}
-AsksLabels Evaluate = Unit {0}
-AsksLabels Replay = Unit {0}
-AsksLabels (Flows a b) = ⊥
-AsksLabels Format = ⊥
+-- `check`, `eval`, `replay` and `view` ask for the rules of labels, `view` behind the names of its nodes
+abbrev pub AsksLabels : Command → Start → Type 0
+AsksLabels Check s = Unit {0}
+AsksLabels Evaluate s = Unit {0}
+AsksLabels Replay s = Unit {0}
+AsksLabels (View names) s = are_node_names (resolved s) names ≡ true
+AsksLabels (Flows a b) s = ⊥
+AsksLabels Format s = ⊥
 
 -- the label of a word of the command line
 abbrev pub label_of : Start → List ℕ → Option Label
@@ -137,7 +141,7 @@ pub data Replies : Option Command → List ℕ → Status → List ℕ → Type 
       → AsksNames command → Front text (outcome.Bundle s) → IsFirst (faults s) x
       → Replies (Some command) text (Name x.rule x.at) (name_line x.rule x.at)
   mislabelled : {command : Command} {text : List ℕ} {s : Start} {x : Refusal}
-      → AsksLabels command → Front text (outcome.Bundle s) → faults s ≡ [] → IsFirstRefusal (resolved s) x
+      → AsksLabels command s → Front text (outcome.Bundle s) → faults s ≡ [] → IsFirstRefusal (resolved s) x
       → Replies (Some command) text (Labelled x.rule x.at x.source x.target) (label_line (resolved s) x)
   checked : {text : List ℕ} {s : Start}
       → Front text (outcome.Bundle s) → faults s ≡ [] → IsWellLabelled (resolved s) → Replies (Some Check) text Ok (line (codes "ok"))
@@ -151,22 +155,27 @@ pub data Replies : Option Command → List ℕ → Status → List ℕ → Type 
   flow : {a b text reply : List ℕ} {s : Start} {from to : Label}
       → Front text (outcome.Bundle s) → faults s ≡ [] → label_of s a ≡ Some from → label_of s b ≡ Some to
       → FlowReply (resolved s) from to reply → Replies (Some (Flows a b)) text Ok reply
-  -- the report of the schedule's run, or the first of its events that may not come
-  replayed : {text reply : List ℕ} {s : Start} {rights : Rights}
-      → Front text (outcome.Bundle s) → IsAcceptedWith s rights → ReplaysTo s rights (replays.Done reply) → Replies (Some Replay) text Ok reply
-  barred : {text : List ℕ} {s : Start} {rights : Rights} {event : ℕ}
-      → Front text (outcome.Bundle s) → IsAcceptedWith s rights → ReplaysTo s rights (replays.NotEnabled event)
-      → Replies (Some Replay) text (NotEnabled event) (barred_line event)
+  -- so is one that names no node, before the rules of labels
+  unnamed : {names : List (List ℕ)} {text : List ℕ} {s : Start}
+      → Front text (outcome.Bundle s) → faults s ≡ [] → are_node_names (resolved s) names ≡ false
+      → Replies (Some (View names)) text (Name rule.Unknown (length text)) (name_line rule.Unknown (length text))
+  -- what is wanted of the schedule's run, or the first of its events that may not come
+  replayed : {command : Command} {wanted : Wanted} {text reply : List ℕ} {s : Start} {rights : Rights}
+      → Wants s command wanted → Front text (outcome.Bundle s) → IsAcceptedWith s rights → ReplaysTo s rights wanted (replays.Done reply)
+      → Replies (Some command) text Ok reply
+  barred : {command : Command} {wanted : Wanted} {text : List ℕ} {s : Start} {rights : Rights} {event : ℕ}
+      → Wants s command wanted → Front text (outcome.Bundle s) → IsAcceptedWith s rights → ReplaysTo s rights wanted (replays.NotEnabled event)
+      → Replies (Some command) text (NotEnabled event) (barred_line event)
 
--- Interrupted command text status written: a node's journal failed. In a run that is the report of the run as it stands; before there is a
+-- Interrupted command text status written: a node's journal failed. In a run that is what is wanted of the run as it stands; before there is a
 -- run nothing is written.
 pub data Interrupted : Option Command → List ℕ → Status → List ℕ → Type 0 where
-  in_run : {text reply : List ℕ} {s : Start} {rights : Rights} {node : ℕ}
-      → Front text (outcome.Bundle s) → IsAcceptedWith s rights → ReplaysTo s rights (replays.JournalFault node (Some reply))
-      → Interrupted (Some Replay) text (JournalFault node) reply
-  before : {text : List ℕ} {s : Start} {rights : Rights} {node : ℕ}
-      → Front text (outcome.Bundle s) → IsAcceptedWith s rights → IsTrue (is_honest (given_of s rights) node)
-      → Interrupted (Some Replay) text (JournalFault node) []
+  in_run : {command : Command} {wanted : Wanted} {text reply : List ℕ} {s : Start} {rights : Rights} {node : ℕ}
+      → Wants s command wanted → Front text (outcome.Bundle s) → IsAcceptedWith s rights
+      → ReplaysTo s rights wanted (replays.JournalFault node (Some reply)) → Interrupted (Some command) text (JournalFault node) reply
+  before : {command : Command} (wanted : Wanted) {text : List ℕ} {s : Start} {rights : Rights} {node : ℕ}
+      → Wants s command wanted → Front text (outcome.Bundle s) → IsAcceptedWith s rights → IsTrue (is_honest (given_of s rights) node)
+      → Interrupted (Some command) text (JournalFault node) []
 
 -- this is the reply, and there is no other
 pub record IsReply (command : Option Command) (text : List ℕ) (status : Status) (reply : List ℕ) : Type 0 where
@@ -183,6 +192,11 @@ status_of (replays.Done reply) = Ok
 status_of (replays.NotEnabled event) = NotEnabled event
 status_of (replays.JournalFault node reply) = JournalFault node
 
+abbrev pub IsNotEnabled : Replayed → Type 0
+IsNotEnabled (replays.NotEnabled event) = Unit {0}
+IsNotEnabled (replays.Done reply) = ⊥
+IsNotEnabled (replays.JournalFault node reply) = ⊥
+
 abbrev pub text_of : Replayed → List ℕ
 text_of (replays.Done reply) = reply
 text_of (replays.NotEnabled event) = barred_line event
@@ -190,30 +204,53 @@ text_of (replays.JournalFault node (Some reply)) = reply
 text_of (replays.JournalFault node None) = []
 
 -- This is the reply of a replay of the bundle that the text has, and the journals are as it left them.
-pub record IsReplay (text : List ℕ) (old new : Makers) (status : Status) (reply : List ℕ) : Type 0 where
+pub record IsReplay (command : Command) (text : List ℕ) (old new : Makers) (status : Status) (reply : List ℕ) : Type 0 where
   pub start : Start
   pub rights : Rights
+  pub wanted : Wanted
   pub answer : Replayed
+  pub asked : Wants start command wanted
   pub front : Front text (outcome.Bundle start)
   pub accepted : IsAcceptedWith start rights
-  pub is : IsReplayed (given_of start rights) answer old.kept new.kept old.faults new.faults
+  pub is : IsReplayed (given_of start rights) wanted answer old.kept new.kept old.faults new.faults
   pub possible : IsPossible old.may_fail (resolved start) answer
   pub status_is : status ≡ status_of answer
   pub reply_is : reply ≡ text_of answer
 
--- What became of the journals: behind a replay they are as it left them, and nothing came of them otherwise.
+-- What became of the journals: behind a run they are as it left them, and nothing came of them otherwise.
+abbrev pub AreLeft : Command → List ℕ → Makers → Makers → Status → List ℕ → Type 0
+AreLeft command text old new Ok reply = IsReplay command text old new Ok reply
+AreLeft command text old new (NotEnabled event) reply = IsReplay command text old new (NotEnabled event) reply
+AreLeft command text old new (JournalFault node) reply = IsReplay command text old new (JournalFault node) reply
+AreLeft command text old new status reply = new ≡ old
+
 abbrev pub JournalsAre : Option Command → List ℕ → Makers → Makers → Status → List ℕ → Type 0
-JournalsAre (Some Replay) text old new Ok reply = IsReplay text old new Ok reply
-JournalsAre (Some Replay) text old new (NotEnabled event) reply = IsReplay text old new (NotEnabled event) reply
-JournalsAre (Some Replay) text old new (JournalFault node) reply = IsReplay text old new (JournalFault node) reply
+JournalsAre (Some Replay) text old new status reply = AreLeft Replay text old new status reply
+JournalsAre (Some (View names)) text old new status reply = AreLeft (View names) text old new status reply
 JournalsAre command text old new status reply = new ≡ old
+
+-- Memory ran out: of the journals of a run the first were kept, perhaps none, and their makers haven't failed.
+pub record IsCutReplay (command : Command) (text : List ℕ) (old new : Makers) : Type 0 where
+  pub start : Start
+  pub rights : Rights
+  pub wanted : Wanted
+  pub asked : Wants start command wanted
+  pub front : Front text (outcome.Bundle start)
+  pub accepted : IsAcceptedWith start rights
+  pub is : IsCutShort (given_of start rights) wanted old.kept new.kept
+  pub unfailed : new.faults ≡ old.faults
+  pub same : new.may_fail ≡ old.may_fail
+
+pub data IsCut (command : Command) (text : List ℕ) (old new : Makers) : Type 0 where
+  unmade : new ≡ old → IsCut command text old new
+  cut : IsCutReplay command text old new → IsCut command text old new
 
 -- this was read for what is asked: the text, or else nothing
 pub data IsInput : Option Command → Option (List ℕ) → Option (List ℕ) → List ℕ → Type 0 where
   unasked : {old new : Option (List ℕ)} {text : List ℕ} → Keeps old new → IsInput None old new text
   read : {command : Command} {old new : Option (List ℕ)} {text : List ℕ} → ReadsText old new text → IsInput (Some command) old new text
 
--- Some front of the reply was written, and the input was read whole.
+-- Some front of the reply was written, which has some bytes, and the input was read whole.
 pub record RepliesInPart (command : Option Command) (left left' written written' : Option (List ℕ)) (old new : Makers) : Type 0 where
   pub text : List ℕ
   pub status : Status
@@ -221,6 +258,7 @@ pub record RepliesInPart (command : Option Command) (left left' written written'
   pub input : IsInput command left left' text
   pub replies : Answers command text status reply
   pub journals : JournalsAre command text old new status reply
+  pub some : reply ≢ []
   pub front : WritesFront written written' reply
 
 -- The whole reply with this status was written, and the input was read whole.
@@ -232,11 +270,18 @@ pub record RepliesWith (status : Status) (command : Option Command) (left left' 
   pub journals : JournalsAre command text old new status reply
   pub all : Appends written written' reply
 
+-- Memory ran out: nothing came of the journals, or a run of what was read was cut short.
+pub data AreCut (command : Option Command) (left left' : Option (List ℕ)) (old new : Makers) : Type 0 where
+  untouched : new ≡ old → AreCut command left left' old new
+  cut_short : {asked : Command} {text : List ℕ} → command ≡ Some asked → IsInput command left left' text → IsCutReplay asked text old new
+      → AreCut command left left' old new
+
 -- What each status says of the source, of the sink and of the journals, before and after. The last case is that of every status that is a
 -- reply.
 abbrev pub Ends : Option Command → Status → Option (List ℕ) → Option (List ℕ) → Option (List ℕ) → Option (List ℕ) → Makers → Makers → Type 0
 Ends command ReadFault left left' written written' old new = Keeps written written' × (new ≡ old)
-Ends command Memory left left' written written' old new = Keeps written written' ⊎ RepliesInPart command left left' written written' old new
+Ends command Memory left left' written written' old new =
+    (Keeps written written' × AreCut command left left' old new) ⊎ RepliesInPart command left left' written written' old new
 Ends command WriteFault left left' written written' old new = RepliesInPart command left left' written written' old new
 Ends command status left left' written written' old new = RepliesWith status command left left' written written' old new
 

@@ -1,5 +1,5 @@
 //! What each command replies to a text that has a bundle.
-ghost use Rattle.std.specs.Prelude.{◌≡◌, ◌≤◌, Some, None as Nothing, [], length, find, option_copied, IfOk, MatchResult};
+ghost use Rattle.std.specs.Prelude.{◌≡◌, ◌≤◌, Some, None as Nothing, [], length, find, option_copied, IfOk, OnErr, MatchOption, MatchResult};
 ghost use Rattle.std.specs.Str.{bytes_eq};
 ghost use Rattle.fab_tree.specs.Limits.{first_passed};
 ghost use Rattle.fab_language.specs.Faults.{faults, IsFirst};
@@ -7,8 +7,14 @@ ghost use Rattle.fab_language.specs.Numbers.{resolved as resolved_of};
 ghost use Rattle.fab_language.specs.declared.rule.NameRule.TheVariants.{Unknown};
 ghost use Rattle.fab_command.specs.declared.command.Command.TheVariants as asks;
 ghost use Rattle.fab_reply.specs.Front.{IsFront};
-ghost use Rattle.fab_reply.specs.Replays.{Makers};
-ghost use Rattle.fab_reply.specs.Reply.{Answers, IsReply, JournalsAre, label_line, name_line, status_of, text_of};
+ghost use Rattle.fab_tree.specs.declared.start.Start.{Start as AnyStart};
+ghost use Rattle.fab_reply.specs.Accepted.{IsAccepted};
+ghost use Rattle.fab_reply.specs.declared.accepted.Accepted.TheVariants.{Bundle as Whole};
+ghost use Rattle.fab_reply.specs.Replays.{IsSetOf, LacksNode, Makers, MakesRuns, Wants, given_of};
+ghost use Rattle.fab_replay.specs.Replays.{IsReady};
+ghost use Rattle.fab_rights.specs.declared.rights.Rights.{Rights as AnyRights};
+ghost use Rattle.fab_settings.specs.Settings.{IsAcceptedWith};
+ghost use Rattle.fab_reply.specs.Reply.{Answers, AreLeft, IsCut, IsNotEnabled, IsReply, label_line, name_line, status_of, text_of};
 ghost use Rattle.fab_reply.specs.declared.front.Outcome.TheVariants.{Bundle};
 ghost use Rattle.fab_reply.specs.declared.status.Status.TheVariants.{Label as Labelled, Name};
 
@@ -16,13 +22,15 @@ use crate::accepted::{Accepted, accept, named};
 use crate::lines::{barred_line, label_line, name_line};
 use crate::status::Status;
 use fab_base::{NoMemory, Seq, Text};
+use fab_command::Command;
 use fab_device::Journals;
 use fab_evaluation::evaluation;
 use fab_flows::flow_reply;
 use fab_labelling::Refusal;
 use fab_language::{Fault, NameRule};
+use fab_listing::{hostile_nodes, nodes_named};
 use fab_print::print_start;
-use fab_replay::{Replayed, replay};
+use fab_replay::{Replayed, Wanted, replay, view_into};
 use fab_setup::accepted_setup;
 use fab_tree::Start;
 use fab_tree::resolved::{NamedLabel, Resolved};
@@ -114,7 +122,8 @@ pub(crate) fn evaluate(
 
 /// The status and the text of what a replay comes to.
 fn told(alloc: Global, answer: Replayed) -> Result<(Status, Seq<u8>), NoMemory>
-    ensures { IfOk result (λ r. (r.0 ≡ status_of answer) × (r.1 ≡ text_of answer)) }
+    ensures told { IfOk result (λ r. (r.0 ≡ status_of answer) × (r.1 ≡ text_of answer)) }
+    ensures failed { OnErr result (IsNotEnabled answer) }
 {
     match answer {
         Replayed::Done(report) => Ok((Status::Ok, report)),
@@ -129,30 +138,113 @@ fn told(alloc: Global, answer: Replayed) -> Result<(Status, Seq<u8>), NoMemory>
     }
 }
 
-/// What `replay` replies to a text with this bundle.
-pub(crate) fn replayed<M: Journals>(
+/// The nodes that a command names, and the hostile ones; nothing where a word names no node.
+fn set_of(program: &Resolved, command: &Command) -> Option<u64>
+    requires runs { MakesRuns (Some command.now) }
+    ensures { (s : AnyStart) → program.now ≡ resolved_of s → MatchOption result (LacksNode s command.now) (IsSetOf s command.now) }
+{
+    match command {
+        Command::View { nodes } => match nodes_named(program, nodes.as_slice()) {
+            Some(named) => Some(named | hostile_nodes(program)),
+            None => None,
+        },
+        _ => Some(0),
+    }
+}
+
+/// What a command wants of a run of the bundle: for `view`, what its set sees and what everybody may know.
+fn wanted_of(alloc: Global, start: &Start, command: &Command, set: u64) -> Result<Wanted, NoMemory>
+    requires runs { MakesRuns (Some command.now) }
+    requires within { first_passed start.now ≡ Nothing }
+    requires right { faults start.now ≡ [] }
+    requires set { IsSetOf start.now command.now set }
+    ensures { IfOk result (λ w. Wants start.now command.now w × ((rights : AnyRights) → IsAcceptedWith start.now rights → IsReady (given_of start.now rights) w)) }
+{
+    match command {
+        Command::View { .. } => match named(alloc, start)? {
+            Ok(program) => view_into(alloc, program, set),
+            Err(_) => unreachable!(),
+        },
+        _ => Ok(Wanted::Report),
+    }
+}
+
+/// What a command that makes a run replies to a text with this bundle, which is accepted.
+fn run_of<M: Journals>(
     alloc: Global,
     text: &[u8],
     start: &Start,
+    command: &Command,
+    program: Resolved,
+    set: u64,
     journals: &mut M,
 ) -> Result<(Status, Seq<u8>), NoMemory>
-    requires { IsFront text.now (Bundle start.now) }
-    ensures replies { IfOk result (λ r. Answers (Some asks.Replay) text.now r.0 r.1) }
-    ensures journals { IfOk result (λ r. JournalsAre (Some asks.Replay) text.now
+    requires front { IsFront text.now (Bundle start.now) }
+    requires accepted { IsAccepted start.now (Whole program) }
+    requires runs { MakesRuns (Some command.now) }
+    requires set { IsSetOf start.now command.now set }
+    ensures replies { IfOk result (λ r. Answers (Some command.now) text.now r.0 r.1) }
+    ensures journals { IfOk result (λ r. AreLeft command.now text.now
         (record { may_fail = M.may_fail journals.old; kept = M.kept journals.old; faults = M.faults journals.old })
         (record { may_fail = M.may_fail journals.new; kept = M.kept journals.new; faults = M.faults journals.new }) r.0 r.1) }
+    ensures cut { OnErr result (IsCut command.now text.now
+        (record { may_fail = M.may_fail journals.old; kept = M.kept journals.old; faults = M.faults journals.old })
+        (record { may_fail = M.may_fail journals.new; kept = M.kept journals.new; faults = M.faults journals.new })) }
     ensures later { M.faults journals.old ≤ M.faults journals.new }
     ensures told { M.may_fail journals.new ≡ M.may_fail journals.old }
 {
     let _text = text;
+    let wanted = wanted_of(alloc, start, command, set)?;
+    let setup = accepted_setup(alloc, program)?;
+    let answer = replay(alloc, setup.program, setup.rights, &wanted, journals)?;
+    told(alloc, answer)
+}
+
+/// The reply where a word of the command line names nothing: its place is behind the text's last byte.
+fn unknown(alloc: Global, text: &[u8]) -> Result<(Status, Seq<u8>), NoMemory>
+    requires { length text.now ≤ 4194304 }
+    ensures { IfOk result (λ r. (r.0 ≡ Name Unknown (length text.now)) × (r.1 ≡ name_line Unknown (length text.now))) }
+{
+    let at = text.len() as u32;
+    refused(
+        alloc,
+        Fault {
+            rule: NameRule::Unknown,
+            at,
+        },
+    )
+}
+
+/// What a command that makes a run, as `replay` and `view` do, replies to a text with this bundle.
+pub(crate) fn replayed<M: Journals>(
+    alloc: Global,
+    text: &[u8],
+    start: &Start,
+    command: &Command,
+    journals: &mut M,
+) -> Result<(Status, Seq<u8>), NoMemory>
+    requires front { IsFront text.now (Bundle start.now) }
+    requires runs { MakesRuns (Some command.now) }
+    ensures replies { IfOk result (λ r. Answers (Some command.now) text.now r.0 r.1) }
+    ensures journals { IfOk result (λ r. AreLeft command.now text.now
+        (record { may_fail = M.may_fail journals.old; kept = M.kept journals.old; faults = M.faults journals.old })
+        (record { may_fail = M.may_fail journals.new; kept = M.kept journals.new; faults = M.faults journals.new }) r.0 r.1) }
+    ensures cut { OnErr result (IsCut command.now text.now
+        (record { may_fail = M.may_fail journals.old; kept = M.kept journals.old; faults = M.faults journals.old })
+        (record { may_fail = M.may_fail journals.new; kept = M.kept journals.new; faults = M.faults journals.new })) }
+    ensures later { M.faults journals.old ≤ M.faults journals.new }
+    ensures told { M.may_fail journals.new ≡ M.may_fail journals.old }
+{
     match accept(alloc, start)? {
-        Accepted::Bundle(resolved) => {
-            let setup = accepted_setup(alloc, resolved)?;
-            let answer = replay(alloc, setup.program, setup.rights, journals)?;
-            told(alloc, answer)
-        }
+        Accepted::Bundle(program) => match set_of(&program, command) {
+            Some(set) => run_of(alloc, text, start, command, program, set, journals),
+            None => unknown(alloc, text),
+        },
         Accepted::Misnamed(fault) => refused(alloc, fault),
-        Accepted::Mislabelled { resolved, refusal } => mislabelled(alloc, &resolved, refusal),
+        Accepted::Mislabelled { resolved, refusal } => match set_of(&resolved, command) {
+            Some(_) => mislabelled(alloc, &resolved, refusal),
+            None => unknown(alloc, text),
+        },
     }
 }
 
@@ -165,21 +257,6 @@ fn label<'a>(start: &'a Resolved, word: &Text) -> Option<&'a NamedLabel>
         .as_slice()
         .iter()
         .find(|x| x.name.text.as_str() == word.as_str())
-}
-
-/// The reply where a word of the command line is no label: its place is behind the text's last byte.
-fn unlabelled(alloc: Global, text: &[u8]) -> Result<(Status, Seq<u8>), NoMemory>
-    requires { length text.now ≤ 4194304 }
-    ensures { IfOk result (λ r. (r.0 ≡ Name Unknown (length text.now)) × (r.1 ≡ name_line Unknown (length text.now))) }
-{
-    let at = text.len() as u32;
-    refused(
-        alloc,
-        Fault {
-            rule: NameRule::Unknown,
-            at,
-        },
-    )
 }
 
 /// What `flows` replies to a text with this bundle.
@@ -215,9 +292,9 @@ fn flows_in(
 {
     let _start = start;
     match label(resolved, from) {
-        None => unlabelled(alloc, text),
+        None => unknown(alloc, text),
         Some(one) => match label(resolved, to) {
-            None => unlabelled(alloc, text),
+            None => unknown(alloc, text),
             Some(other) => {
                 let reply = flow_reply(alloc, resolved, &one.label, &other.label)?;
                 Ok((Status::Ok, reply))

@@ -1,13 +1,13 @@
 //! The reply to what is asked.
-ghost use Rattle.std.specs.Prelude.{◌≡◌, ◌≢◌, ◌⊎◌, ◌≤◌, List, ℕ, [], Some, None as Nothing, codes, IfOk, IfSome, IsErrOf};
+ghost use Rattle.std.specs.Prelude.{◌≡◌, ◌≢◌, ◌⊎◌, ◌≤◌, List, ℕ, [], Some, None as Nothing, codes, IfOk, IfSome, IsErrOf, OnErr};
 ghost use Rattle.std.specs.Io.KnownBytes.{Keeps, IsAtEnd};
 ghost use Rattle.fab_base.specs.Faults.{Rose};
-ghost use Rattle.fab_command.specs.declared.command.Command.TheVariants.{Replay};
 ghost use Rattle.fab_reply.specs.Headline.{Headline, IsOfFault, IsOfSchedule};
-ghost use Rattle.fab_reply.specs.Reply.{Answers, Replies, IsInput, Ends, ComesTo, JournalsAre, SpeaksOfText, RepliesInPart, line};
+ghost use Rattle.fab_reply.specs.Reply.{Answers, AreCut, ComesTo, Ends, IsCut, IsInput, IsJournalFault, JournalsAre, Replies, RepliesInPart, SpeaksOfText, line};
 ghost use Rattle.fab_reply.specs.Front.{IsFront};
 ghost use Rattle.fab_reply.specs.Reading.{TakesAtMost};
-ghost use Rattle.fab_reply.specs.declared.reading.ReadError.TheVariants.{Fault};
+ghost use Rattle.fab_reply.specs.Replays.{MakesRuns};
+ghost use Rattle.fab_reply.specs.declared.reading.ReadError.TheVariants.{Fault, Memory as Wanting};
 ghost use Rattle.fab_reply.specs.declared.status.Status.{Status as AnyStatus};
 ghost use Rattle.fab_reply.specs.declared.status.Status.TheVariants.{Ok as Done, Usage, ReadFault, WriteFault, Memory, JournalFault};
 
@@ -33,7 +33,10 @@ fn replied<M: Journals>(
     ensures journals { IfOk result (λ r. JournalsAre (Some command.now) text.now
         (record { may_fail = M.may_fail journals.old; kept = M.kept journals.old; faults = M.faults journals.old })
         (record { may_fail = M.may_fail journals.new; kept = M.kept journals.new; faults = M.faults journals.new }) r.0 r.1) }
-    ensures untouched { (command.now ≡ Replay → ⊥) → journals.new ≡ journals.old }
+    ensures cut { OnErr result (IsCut command.now text.now
+        (record { may_fail = M.may_fail journals.old; kept = M.kept journals.old; faults = M.faults journals.old })
+        (record { may_fail = M.may_fail journals.new; kept = M.kept journals.new; faults = M.faults journals.new })) }
+    ensures untouched { (MakesRuns (Some command.now) → ⊥) → journals.new ≡ journals.old }
     ensures later { M.faults journals.old ≤ M.faults journals.new }
     ensures told { M.may_fail journals.new ≡ M.may_fail journals.old }
 {
@@ -51,7 +54,9 @@ fn replied<M: Journals>(
             Command::Evaluate => evaluate(alloc, text, &start),
             Command::Flows { from, to } => flows(alloc, text, &start, from, to),
             Command::Format => format(alloc, text, &start),
-            Command::Replay => replayed(alloc, text, &start, journals),
+            Command::Replay | Command::View { .. } => {
+                replayed(alloc, text, &start, command, journals)
+            }
         },
     }
 }
@@ -67,8 +72,11 @@ fn reply<S: Source, M: Journals>(
         × JournalsAre asked text
         (record { may_fail = M.may_fail journals.old; kept = M.kept journals.old; faults = M.faults journals.old })
         (record { may_fail = M.may_fail journals.new; kept = M.kept journals.new; faults = M.faults journals.new }) r.0 r.1) }
-    ensures untouched { (asked ≡ Some Replay → ⊥) → journals.new ≡ journals.old }
+    ensures untouched { (MakesRuns asked → ⊥) → journals.new ≡ journals.old }
     ensures unmade { IsErrOf result Fault → journals.new ≡ journals.old }
+    ensures cut { IsErrOf result Wanting → AreCut asked (S.left source.old) (S.left source.new)
+        (record { may_fail = M.may_fail journals.old; kept = M.kept journals.old; faults = M.faults journals.old })
+        (record { may_fail = M.may_fail journals.new; kept = M.kept journals.new; faults = M.faults journals.new }) }
     ensures faulty { M.faults journals.old ≤ M.faults journals.new }
     ensures told { M.may_fail journals.new ≡ M.may_fail journals.old }
     ensures unread { asked ≡ Nothing → source.new ≡ source.old }
@@ -98,7 +106,7 @@ fn run<S: Source, K: Sink, M: Journals>(
     ensures means { Ends asked result (S.left source.old) (S.left source.new) (K.written sink.old) (K.written sink.new)
         (record { may_fail = M.may_fail journals.old; kept = M.kept journals.old; faults = M.faults journals.old })
         (record { may_fail = M.may_fail journals.new; kept = M.kept journals.new; faults = M.faults journals.new }) }
-    ensures untouched { (asked ≡ Some Replay → ⊥) → journals.new ≡ journals.old }
+    ensures untouched { (MakesRuns asked → ⊥) → journals.new ≡ journals.old }
     ensures faulty { M.faults journals.old ≤ M.faults journals.new }
     ensures told { M.may_fail journals.new ≡ M.may_fail journals.old }
     ensures unread { asked ≡ Nothing → source.new ≡ source.old }
@@ -130,7 +138,8 @@ fn run<S: Source, K: Sink, M: Journals>(
 /// `check` asks whether the bundle that the source has keeps the rules of labels, `eval` for its
 /// evaluation, `flows A B` whether its label A
 /// flows to its label B, with the reasons, `fmt` for its canonical text, `replay` for the report of its
-/// schedule's run. A text has at most 4,194,304 bytes. Of what the source has left, what the sink holds
+/// schedule's run, and `view NODE ..` for what was sent in that run into the set of these nodes and the
+/// hostile ones, by those outside it. A text has at most 4,194,304 bytes. Of what the source has left, what the sink holds
 /// and which journals were kept, the clauses speak where these tell it.
 pub fn answer<S: Source, K: Sink, M: Journals>(
     alloc: Global,
@@ -168,8 +177,11 @@ pub fn answer<S: Source, K: Sink, M: Journals>(
         (record { may_fail = M.may_fail journals.old; kept = M.kept journals.old; faults = M.faults journals.old })
         (record { may_fail = M.may_fail journals.new; kept = M.kept journals.new; faults = M.faults journals.new }) }
 
-    // With `Memory` nothing is written, or a front of the reply to what was read.
-    ensures memory { result ≡ Memory → Keeps (K.written sink.old) (K.written sink.new) ⊎ RepliesInPart asked (S.left source.old) (S.left source.new) (K.written sink.old) (K.written sink.new)
+    // With `Memory` nothing is written, and nothing came of the journals, or the first of those of a run, or of a start that failed, were kept;
+    // or a front of the reply to what was read is written.
+    ensures memory { result ≡ Memory → (Keeps (K.written sink.old) (K.written sink.new) × AreCut asked (S.left source.old) (S.left source.new)
+        (record { may_fail = M.may_fail journals.old; kept = M.kept journals.old; faults = M.faults journals.old })
+        (record { may_fail = M.may_fail journals.new; kept = M.kept journals.new; faults = M.faults journals.new })) ⊎ RepliesInPart asked (S.left source.old) (S.left source.new) (K.written sink.old) (K.written sink.new)
         (record { may_fail = M.may_fail journals.old; kept = M.kept journals.old; faults = M.faults journals.old })
         (record { may_fail = M.may_fail journals.new; kept = M.kept journals.new; faults = M.faults journals.new }) }
     ensures source_faults { S.faults source.old ≤ S.faults source.new }
@@ -179,19 +191,20 @@ pub fn answer<S: Source, K: Sink, M: Journals>(
     ensures source_unfailed { result ≢ ReadFault → S.faults source.new ≡ S.faults source.old }
     ensures sink_unfailed { result ≢ WriteFault → K.faults sink.new ≡ K.faults sink.old }
 
-    // With `Ok` of a replay, and where a journal failed in its run, the report of that run was written,
-    // and the headline holds of it, integrity and isolation. Where a journal failed before there was a run, nothing
-    // was written.
-    ensures headline { asked ≡ Some Replay → result ≡ Done → Headline IsOfSchedule (S.left source.old) (S.left source.new) (K.written sink.old) (K.written sink.new) }
+    // With `Ok` of a command that makes a run, and where a journal failed in its run, the text that it wants of that
+    // run was written, for `replay` the report, and the headline holds of the run, integrity and isolation. Where a
+    // journal failed before there was a run, nothing was written.
+    ensures headline { MakesRuns asked → result ≡ Done → Headline asked IsOfSchedule (S.left source.old) (S.left source.new) (K.written sink.old) (K.written sink.new) }
     ensures headline_of_a_part { (node : ℕ) → result ≡ JournalFault node
-        → Keeps (K.written sink.old) (K.written sink.new) ⊎ Headline (IsOfFault node) (S.left source.old) (S.left source.new) (K.written sink.old) (K.written sink.new) }
+        → Keeps (K.written sink.old) (K.written sink.new) ⊎ Headline asked (IsOfFault node) (S.left source.old) (S.left source.new) (K.written sink.old) (K.written sink.new) }
 
-    // `JournalFault` comes of a replay alone, and only it makes journals and has them kept. What was kept,
-    // and which faults there were, says `means`.
-    ensures journal_fault { (node : ℕ) → result ≡ JournalFault node → asked ≡ Some Replay }
+    // `JournalFault` comes of `replay` and `view` alone, and only these make journals and have them kept. What was
+    // kept, and which faults there were, says `means`. With each other status no journal's making failed.
+    ensures journal_fault { (node : ℕ) → result ≡ JournalFault node → MakesRuns asked }
+    ensures journals_unfailed { (IsJournalFault result → ⊥) → M.faults journals.new ≡ M.faults journals.old }
     // Where it is told that no journal may fail, none does.
     ensures journals_unfailing { M.may_fail journals.old ≡ Some [] → (node : ℕ) → result ≡ JournalFault node → ⊥ }
-    ensures journals_untouched { (asked ≡ Some Replay → ⊥) → journals.new ≡ journals.old }
+    ensures journals_untouched { (MakesRuns asked → ⊥) → journals.new ≡ journals.old }
     ensures journals_faults { M.faults journals.old ≤ M.faults journals.new }
     ensures journals_told { M.may_fail journals.new ≡ M.may_fail journals.old }
 {

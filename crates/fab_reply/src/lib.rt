@@ -5,10 +5,12 @@ mod accepted;
 mod answers;
 mod command;
 mod front;
+mod laws;
 mod lines;
 mod reading;
 mod status;
 mod writing;
 
 pub use command::answer;
+pub use laws::calls_are_isolated_alike;
 pub use status::Status;

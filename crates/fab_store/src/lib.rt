@@ -9,12 +9,16 @@ mod laws;
 mod plan;
 mod recovery;
 mod senders;
+mod start;
 mod steps;
 mod store;
 #[cfg(test)]
 mod tests;
 mod votes;
 
+pub use fetches::answer_to_fetch;
 pub use laws::{kept_in_a_row, recovery_gives_the_store};
 pub use plan::StorePlan;
+pub use senders::{none_heard, sender_in, set_boot, set_last};
+pub use start::table_at_start;
 pub use store::Store;

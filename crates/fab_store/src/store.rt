@@ -1,12 +1,12 @@
 //! A store's node: what it holds, and what it does at a message.
 
-ghost use Rattle.std.specs.Prelude.{◌≡◌, ◌≤◌, ◌<◌, ◌^◌, ◌==◌, if◌then◌else◌, Option, None, Some, IfOk, IfSome, OnOk, OnErr, IsTrue, length};
+ghost use Rattle.std.specs.Prelude.{◌≡◌, ◌≤◌, ◌<◌, ◌^◌, Option, None, Some, IfOk, IfSome, OnOk, OnErr, IsTrue, length};
 ghost use Rattle.std.specs.List.{AllByRecursion};
 ghost use Rattle.fab_base.specs.FlatMap.{ascends as roots_ascend};
 ghost use Rattle.fab_base.specs.JournalSpelling.{IsEntry};
 ghost use Rattle.fab_wire.specs.Reading.{read_message};
-ghost use Rattle.fab_protocol.specs.Tables.{ascends, placed};
-ghost use Rattle.fab_protocol.specs.Versions.{begun, name_of};
+ghost use Rattle.fab_protocol.specs.Tables.{ascends};
+ghost use Rattle.fab_protocol.specs.Versions.{name_of};
 ghost use Rattle.fab_protocol.specs.Stores.{hears, keeps, keeps_said, shelf_at_start, step_of};
 ghost use Rattle.fab_store.specs.Stock.{CanKeepSaid, HasRoom, HasRoomFor, OnlyGainsRoom, plan_of};
 ghost use Rattle.fab_protocol.specs.Shelves.{CanKeep, IsShelf};
@@ -14,6 +14,7 @@ ghost use Rattle.fab_protocol.specs.Shelves.{CanKeep, IsShelf};
 use crate::changes::keep_record;
 use crate::plan::StorePlan;
 use crate::senders::none_heard;
+use crate::start::table_at_start;
 use crate::steps::plan_of;
 use fab_base::{Entry, Items, NoMemory, Object, Oid, Tid};
 use fab_locks::Locks;
@@ -54,21 +55,6 @@ impl Model for Store {
     ghost invariant = { λ s. IsStore s.rights s.node (record { rows = s.table.rows; prepared = s.locks.held; senders = s.senders.items }) };
 }
 
-/// Puts a root at version 1, if it is of this store.
-fn put_root(
-    alloc: Global,
-    table: &mut Table,
-    node: u16,
-    root: &(Oid, Object),
-) -> Result<(), NoMemory>
-    ensures { OnOk result (table.new.rows ≡ (if root.now.0.store == node then placed name_of (begun root.now) table.old.rows else table.old.rows)) }
-{
-    if root.0.store == node {
-        table.put(root.0, 1, root.1.copy(alloc)?)?;
-    }
-    Ok(())
-}
-
 /// Does nothing: it is there for what its contract says of a mask.
 fn has_64_bits(_mask: u64)
     ensures { _mask < 2 ^ 64 }
@@ -88,10 +74,7 @@ impl Store {
         ensures rights { IfOk result (λ store. store.rights ≡ rights.now) }
         ensures shelf { IfOk result (λ store. store.shelf ≡ shelf_at_start roots.now node) }
     {
-        let mut table = Table::new(alloc);
-        for root in roots {
-            put_root(alloc, &mut table, node, root)?;
-        }
+        let table = table_at_start(alloc, node, roots)?;
         has_64_bits(rights.workers);
         Ok(Store {
             alloc,

@@ -3,11 +3,11 @@ ghost use Rattle.std.specs.Prelude.{◌≡◌, ◌≢◌, ◌⊎◌, ◌≤◌, 
 ghost use Rattle.std.specs.Io.KnownBytes.{Keeps, IsAtEnd};
 ghost use Rattle.fab_base.specs.Faults.{Rose};
 ghost use Rattle.fab_words.specs.Words.{asked_by};
-ghost use Rattle.fab_reply.specs.Reply.{Replies, Ends, ComesTo, SpeaksOfText, RepliesInPart, line};
+ghost use Rattle.fab_reply.specs.Reply.{AreCut, ComesTo, Ends, IsJournalFault, Replies, RepliesInPart, SpeaksOfText, line};
 ghost use Rattle.fab_reply.specs.Reading.{TakesAtMost};
+ghost use Rattle.fab_reply.specs.Replays.{MakesRuns};
 ghost use Rattle.fab_reply.specs.declared.status.Status.{Status as AnyStatus};
 ghost use Rattle.fab_reply.specs.declared.status.Status.TheVariants.{Ok as Done, Usage, ReadFault, WriteFault, Memory, JournalFault};
-ghost use Rattle.fab_command.specs.declared.command.Command.TheVariants.{Replay};
 ghost use Rattle.fab_reply.specs.Headline.{Headline, IsOfFault, IsOfSchedule};
 
 use fab_base::{Sink, Source};
@@ -20,8 +20,9 @@ use std::alloc::{AllocError, Global};
 ///
 /// `check` asks whether the bundle that the source has keeps the rules of labels, `eval` for its
 /// evaluation, `flows A B` whether its label A flows to its label B, with the reasons, `fmt` for its
-/// canonical text, `replay` for the report of its schedule's run. A text has at most 4,194,304 bytes.
-/// Of what the source has left, what the sink holds and which journals were kept, the clauses speak
+/// canonical text, `replay` for the report of its schedule's run, and `view NODE ..` for what was sent in
+/// that run into the set of these nodes and the hostile ones, by those outside it. A text has at most
+/// 4,194,304 bytes. Of what the source has left, what the sink holds and which journals were kept, the clauses speak
 /// where these tell it.
 pub fn fab<S: Source, K: Sink, M: Journals>(
     alloc: Global,
@@ -35,7 +36,7 @@ pub fn fab<S: Source, K: Sink, M: Journals>(
         (record { may_fail = M.may_fail journals.old; kept = M.kept journals.old; faults = M.faults journals.old })
         (record { may_fail = M.may_fail journals.new; kept = M.kept journals.new; faults = M.faults journals.new }) }
 
-    // Whatever reply the words and the text have is the one that comes, whole, unless the source,
+    // Whatever reply the command and the text have is the one that comes, whole, unless the source,
     // the sink or a journal fails or memory runs out; so each refusal comes exactly where it should.
     ensures exact { result ≢ ReadFault → IfSome (S.left source.old) (λ text. (status : AnyStatus) (reply : List ℕ) → Replies (asked_by words.now) text status reply → ComesTo result status (K.written sink.old) (K.written sink.new) reply) }
 
@@ -59,8 +60,11 @@ pub fn fab<S: Source, K: Sink, M: Journals>(
         (record { may_fail = M.may_fail journals.old; kept = M.kept journals.old; faults = M.faults journals.old })
         (record { may_fail = M.may_fail journals.new; kept = M.kept journals.new; faults = M.faults journals.new }) }
 
-    // With `Memory` nothing is written, or a front of the reply to what was read.
-    ensures memory { result ≡ Memory → Keeps (K.written sink.old) (K.written sink.new) ⊎ RepliesInPart (asked_by words.now) (S.left source.old) (S.left source.new) (K.written sink.old) (K.written sink.new)
+    // With `Memory` nothing is written, and nothing came of the journals, or the first of those of a run, or of a start that failed, were kept;
+    // or a front of the reply to what was read is written.
+    ensures memory { result ≡ Memory → (Keeps (K.written sink.old) (K.written sink.new) × AreCut (asked_by words.now) (S.left source.old) (S.left source.new)
+        (record { may_fail = M.may_fail journals.old; kept = M.kept journals.old; faults = M.faults journals.old })
+        (record { may_fail = M.may_fail journals.new; kept = M.kept journals.new; faults = M.faults journals.new })) ⊎ RepliesInPart (asked_by words.now) (S.left source.old) (S.left source.new) (K.written sink.old) (K.written sink.new)
         (record { may_fail = M.may_fail journals.old; kept = M.kept journals.old; faults = M.faults journals.old })
         (record { may_fail = M.may_fail journals.new; kept = M.kept journals.new; faults = M.faults journals.new }) }
     ensures source_faults { S.faults source.old ≤ S.faults source.new }
@@ -70,19 +74,20 @@ pub fn fab<S: Source, K: Sink, M: Journals>(
     ensures source_unfailed { result ≢ ReadFault → S.faults source.new ≡ S.faults source.old }
     ensures sink_unfailed { result ≢ WriteFault → K.faults sink.new ≡ K.faults sink.old }
 
-    // With `Ok` of a replay, and where a journal failed in its run, the report of that run was written,
-    // and the headline holds of it, integrity and isolation. Where a journal failed before there was a run, nothing
-    // was written.
-    ensures headline { asked_by words.now ≡ Some Replay → result ≡ Done → Headline IsOfSchedule (S.left source.old) (S.left source.new) (K.written sink.old) (K.written sink.new) }
+    // With `Ok` of a command that makes a run, and where a journal failed in its run, the text that it wants of that
+    // run was written, for `replay` the report, and the headline holds of the run, integrity and isolation. Where a
+    // journal failed before there was a run, nothing was written.
+    ensures headline { MakesRuns (asked_by words.now) → result ≡ Done → Headline (asked_by words.now) IsOfSchedule (S.left source.old) (S.left source.new) (K.written sink.old) (K.written sink.new) }
     ensures headline_of_a_part { (node : ℕ) → result ≡ JournalFault node
-        → Keeps (K.written sink.old) (K.written sink.new) ⊎ Headline (IsOfFault node) (S.left source.old) (S.left source.new) (K.written sink.old) (K.written sink.new) }
+        → Keeps (K.written sink.old) (K.written sink.new) ⊎ Headline (asked_by words.now) (IsOfFault node) (S.left source.old) (S.left source.new) (K.written sink.old) (K.written sink.new) }
 
-    // `JournalFault` comes of a replay alone, and only it makes journals and has them kept. What was kept,
-    // and which faults there were, says `means`.
-    ensures journal_fault { (node : ℕ) → result ≡ JournalFault node → asked_by words.now ≡ Some Replay }
+    // `JournalFault` comes of `replay` and `view` alone, and only these make journals and have them kept. What was
+    // kept, and which faults there were, says `means`. With each other status no journal's making failed.
+    ensures journal_fault { (node : ℕ) → result ≡ JournalFault node → MakesRuns (asked_by words.now) }
+    ensures journals_unfailed { (IsJournalFault result → ⊥) → M.faults journals.new ≡ M.faults journals.old }
     // Where it is told that no journal may fail, none does.
     ensures journals_unfailing { M.may_fail journals.old ≡ Some [] → (node : ℕ) → result ≡ JournalFault node → ⊥ }
-    ensures journals_untouched { (asked_by words.now ≡ Some Replay → ⊥) → journals.new ≡ journals.old }
+    ensures journals_untouched { (MakesRuns (asked_by words.now) → ⊥) → journals.new ≡ journals.old }
     ensures journals_faults { M.faults journals.old ≤ M.faults journals.new }
     ensures journals_told { M.may_fail journals.new ≡ M.may_fail journals.old }
 {

@@ -9,6 +9,8 @@ mod eval_tests;
 #[cfg(test)]
 mod flow_tests;
 #[cfg(test)]
+mod journal_tests;
+#[cfg(test)]
 mod limit_tests;
 #[cfg(test)]
 mod name_tests;
@@ -20,6 +22,8 @@ mod replay_tests;
 mod syntax_tests;
 #[cfg(test)]
 mod tests;
+#[cfg(test)]
+mod view_tests;
 
 pub use command::fab;
 pub use fab_reply::Status;

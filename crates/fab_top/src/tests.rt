@@ -183,12 +183,13 @@ impl Sink for Drip {
 fn expect_front(
     rt: &impl Abort,
     alloc: Global,
-    word: &str,
+    words: &str,
+    text: &str,
     fails_at: u32,
     front: &str,
 ) -> Result<(), NoMemory> {
-    let words = words_of(alloc, word)?;
-    let mut source = SureSource::new(Seq::from_slice(alloc, SMALLEST.as_bytes())?);
+    let words = words_of(alloc, words)?;
+    let mut source = SureSource::new(Seq::from_slice(alloc, text.as_bytes())?);
     let mut sink = Drip {
         bytes: Vec::new(alloc),
         calls: 0,
@@ -203,12 +204,18 @@ fn expect_front(
 }
 
 /// Where any of its writes fails, of a byte each, what was written before is a front of the reply.
-fn expect_fronts(rt: &impl Abort, alloc: Global, word: &str, reply: &str) -> Result<(), NoMemory> {
+pub(crate) fn expect_fronts(
+    rt: &impl Abort,
+    alloc: Global,
+    words: &str,
+    text: &str,
+    reply: &str,
+) -> Result<(), NoMemory> {
     let mut front = String::new(alloc);
     let mut number = 0u32;
     for letter in reply.chars() {
         number = number.saturating_add(1);
-        expect_front(rt, alloc, word, number, front.as_str())?;
+        expect_front(rt, alloc, words, text, number, front.as_str())?;
         front.push(letter)?;
     }
     Ok(())
@@ -217,8 +224,8 @@ fn expect_fronts(rt: &impl Abort, alloc: Global, word: &str, reply: &str) -> Res
 #[test]
 fn a_write_fails(rt: HostRuntime) -> Result<(), Fail> {
     let alloc = rt.alloc();
-    expect_fronts(&rt, alloc, "eval", "end\n")?;
-    expect_fronts(&rt, alloc, "replay", "fab report 1\nend 0\n")?;
+    expect_fronts(&rt, alloc, "eval", SMALLEST, "end\n")?;
+    expect_fronts(&rt, alloc, "replay", SMALLEST, "fab report 1\nend 0\n")?;
     Ok(())
 }
 

@@ -14,3 +14,4 @@ mod words;
 pub use report::print_report;
 pub use requests::Outcomes;
 pub use stores::Held;
+pub use words::{put_bytes, put_node, put_number};

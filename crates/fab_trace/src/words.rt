@@ -9,8 +9,8 @@ use fab_lines::{node_name, put_hex, put_word};
 use fab_tree::resolved::Resolved;
 use std::alloc::Global;
 
-/// A number.
-pub(crate) fn put_number(alloc: Global, out: &mut Seq<u8>, number: u64) -> Result<(), NoMemory>
+/// A number, behind a space.
+pub fn put_number(alloc: Global, out: &mut Seq<u8>, number: u64) -> Result<(), NoMemory>
     ensures { OnOk result (out.new ≡ out.old ++ 32 ∷ decimal number) }
 {
     let text = format!(in alloc; "{number}")?;
@@ -27,15 +27,15 @@ pub(crate) fn put_tid(alloc: Global, out: &mut Seq<u8>, tid: Tid) -> Result<(), 
     put_word(out, text.as_str())
 }
 
-/// The name of a worker or store.
-pub(crate) fn put_node(out: &mut Seq<u8>, start: &Resolved, number: u16) -> Result<(), NoMemory>
+/// The name of a worker or store, behind a space.
+pub fn put_node(out: &mut Seq<u8>, start: &Resolved, number: u16) -> Result<(), NoMemory>
     ensures { OnOk result (out.new ≡ out.old ++ 32 ∷ node_text start.now number) }
 {
     put_word(out, node_name(start, number))
 }
 
-/// The digits of bytes.
-pub(crate) fn put_bytes(out: &mut Seq<u8>, bytes: &[u8]) -> Result<(), NoMemory>
+/// The digits of bytes, behind a space.
+pub fn put_bytes(out: &mut Seq<u8>, bytes: &[u8]) -> Result<(), NoMemory>
     ensures { OnOk result (out.new ≡ out.old ++ 32 ∷ hex bytes.now) }
 {
     out.push(b' ')?;

@@ -9,12 +9,13 @@ use Rattle.fab_shapes.proofs.Programs.{program_fits}
 use Rattle.fab_erasure.specs.Agreement.{IsView}
 use Rattle.fab_erasure.proofs.Agrees.{erasure_agrees}
 use Rattle.fab_views.specs.Views.{IsSeenBy, BundlesAgree}
+use Rattle.fab_views.proofs.Declared.{labels_declared}
 use Rattle.fab_views.proofs.Seen.{is_view}
 
 -- no limit is asked for
 pub view_of : (s : Start) (nodes : ℕ) (sees shows : ℕ → Bool) → faults s ≡ [] → IsWellLabelled (resolved s) → IsSeenBy (resolved s) nodes sees shows
     → IsView sees shows (resolved s)
-view_of s nodes sees shows named labelled seen = is_view (resolved s) nodes sees shows seen labelled (sites_enumerated s) (program_fits s named)
+view_of s nodes sees shows named labelled seen = is_view (resolved s) nodes sees shows seen (labels_declared s named) labelled (sites_enumerated s) (program_fits s named)
 
 pub agrees : BundlesAgree
 agrees s nodes sees shows within named labelled seen known request tid fuel up shaped fits =

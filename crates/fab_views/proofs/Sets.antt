@@ -83,9 +83,9 @@ module _ (r : Resolved) (nodes : ℕ) where
       Decides-and (in_set n) (is_there n && may_read l n) (Decides-not (bit_and nodes (2 ^ n) == 0) (Decides-eqb (bit_and nodes (2 ^ n)) 0))
       (Decides-and (is_there n) (may_read l n) (Decides-ltb (principal_of r n) (length r.nodes)) (decides_all (delegations_of r) (principal_of r n) (label_at r l).conf))
 
-  -- some node of the set may read the label
+  -- the label is declared, and some node of the set may read it
   abbrev pub sees_label : ℕ → Bool
-  sees_label l = some_below (reads l) (suc nodes)
+  sees_label l = ltb l (length r.labels) && some_below (reads l) (suc nodes)
 
   below_visible : (l : ℕ) → (n : ℕ) × (n < suc nodes) × Reads l n → IsVisible r (delegations_of r) nodes (label_at r l)
   below_visible l (n, less, is) = (n, is.0, is.1.0, is.1.1)
@@ -93,10 +93,13 @@ module _ (r : Resolved) (nodes : ℕ) where
   visible_below : (l : ℕ) → IsVisible r (delegations_of r) nodes (label_at r l) → (n : ℕ) × (n < suc nodes) × Reads l n
   visible_below l (n, set, node, may) = (n, bit_below nodes n set, (set, (node, may)))
 
-  decides_sees : (l : ℕ) → Decides (sees_label l) (IsVisible r (delegations_of r) nodes (label_at r l))
-  decides_sees l =
+  decides_visible : (l : ℕ) → Decides (some_below (reads l) (suc nodes)) (IsVisible r (delegations_of r) nodes (label_at r l))
+  decides_visible l =
       Decides-like (some_below (reads l) (suc nodes)) (below_visible l) (visible_below l)
       (Decides-below_or (reads l) (Reads l) (some_below (reads l)) (decides_reads l) refl (λ n. refl) (suc nodes))
+
+  decides_sees : (l : ℕ) → Decides (sees_label l) ((l < length r.labels) × IsVisible r (delegations_of r) nodes (label_at r l))
+  decides_sees l = Decides-and (ltb l (length r.labels)) (some_below (reads l) (suc nodes)) (Decides-ltb l (length r.labels)) (decides_visible l)
 
   abbrev shown_slot : Option Class → Bool
   shown_slot None = false

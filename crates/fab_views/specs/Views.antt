@@ -1,5 +1,5 @@
 -- What a set of nodes sees of a bundle.
-use Rattle.std.specs.Prelude.{◌≡◌, ◌↔◌, ℕ, Bool, false, IsTrue, [], Some, None, slice_get}
+use Rattle.std.specs.Prelude.{◌≡◌, ◌↔◌, ℕ, ◌<◌, Bool, false, IsTrue, [], length, Some, None, slice_get}
 use Rattle.fab_base.specs.declared.object.Tid.{Tid}
 use Rattle.fab_base.specs.FlatMap.{FlatMap, ascends}
 use Rattle.fab_tree.specs.declared.start.Start.{Start}
@@ -17,9 +17,9 @@ use Rattle.fab_laws.specs.Shapes.{IsFitting, AreShaped}
 use Rattle.fab_erasure.specs.Erased.{erased}
 use Rattle.fab_erasure.specs.Agreement.{Agrees, rows_shown, given_by}
 
--- the labels that some node of the set may read, and the classes by their labels
+-- the declared labels that some node of the set may read, and the classes by their labels
 pub record IsSeenBy (r : Resolved) (nodes : ℕ) (sees shows : ℕ → Bool) : Type 0 where
-  pub labels : (l : ℕ) → IsTrue (sees l) ↔ IsVisible r (delegations_of r) nodes (label_at r l)
+  pub labels : (l : ℕ) → IsTrue (sees l) ↔ ((l < length r.labels) × IsVisible r (delegations_of r) nodes (label_at r l))
   pub classes : (n : ℕ) (class : Class) → slice_get r.classes n ≡ Some class → shows n ≡ sees class.label.number
   pub absent : (n : ℕ) → slice_get r.classes n ≡ None → shows n ≡ false
 

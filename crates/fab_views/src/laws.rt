@@ -9,7 +9,7 @@ ghost use Rattle.fab_labelling.specs.Claims.{IsWellLabelled};
 ghost use Rattle.fab_erasure.specs.Agreement.{IsView};
 ghost use Rattle.fab_views.specs.Views.{IsSeenBy, BundlesAgree};
 
-/// For every bundle and every set of nodes there are the labels that some node of the set may read, and
+/// For every bundle and every set of nodes there are the declared labels that some node of the set may read, and
 /// the classes of which it may read the objects.
 pub fn sets_of_nodes_see()
     ensures { (r : Resolved) (nodes : ℕ) → (sees : ℕ → Bool) × (shows : ℕ → Bool) × IsSeenBy r nodes sees shows }

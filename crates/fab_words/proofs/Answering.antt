@@ -1,13 +1,13 @@
 -- What words ask for, by what `clap` finds in them.
-use Rattle.std.proofs.Common.{◌≡◌, ◌∙◌, ◌||◌, ◌&&◌, ◌⊎◌, inl, inr, Bool, true, false, refl, sym, ap, subst, map, List, [], ◌∷◌, None, eqb-true, String, string_bytes, codes}
-use Rattle.std.specs.List.{list_any}
+use Rattle.std.proofs.Common.{◌≡◌, ◌∙◌, ◌||◌, ◌&&◌, ◌⊎◌, inl, inr, Bool, true, false, refl, sym, ap, subst, map, List, [], ◌∷◌, None, eqb-true, String, string_bytes, codes, length, nat_le, ◌==◌}
+use Rattle.std.specs.List.{list_all, list_any}
 use Rattle.std.specs.Str.{bytes_eq}
 use Rattle.std.specs.declared.alloc.Global.{Global}
 use Rattle.std.proofs.lemmas.Bool.{cases_Bool}
 use Rattle.clap.specs.Words.{Text, matches_of, takes}
 use Rattle.clap.proofs.WalkLemmas.{list_any-map}
 use Rattle.fab_words.specs.Names.{is_name_word}
-use Rattle.fab_words.specs.Words.{asked, asked_by, command_of, command_with}
+use Rattle.fab_words.specs.Words.{asked, asked_by, command_among, command_of, command_with, view_of}
 use Rattle.fab_words.specs.Line.{asked_in, begins_with_dash, command_line}
 use Rattle.fab_words.proofs.Taken.{found_rows, rows_for, words_taken}
 
@@ -57,12 +57,40 @@ two_or_one word from to e = elim (either (begins_with_dash word) (begins_with_da
 one_dash : (word : Text) → (begins_with_dash word || false) ≡ true → command_of word ≡ None
 one_dash word e = elim (either (begins_with_dash word) false e) [ inl w ↦ no_command word w | inr never ↦ absurd (cc) ]
 
+not_among : (word : Text) (operands : List Text) → list_any begins_with_dash (word ∷ operands) ≡ true → command_among word operands ≡ None
+not_among w [] e = one_dash w e
+not_among w (v ∷ []) e = refl
+not_among w (f ∷ t ∷ []) e = two_or_one w f t e
+not_among w (f ∷ t ∷ v ∷ vs) e = refl
+
+-- one of the words is no name
+not_all_names : (words : List Text) → list_any begins_with_dash words ≡ true → list_all is_name_word words ≡ false
+not_all_names [] e = cc
+not_all_names (w ∷ ws) e = elim (either (begins_with_dash w) (list_any begins_with_dash ws) e) [
+  | inl here ↦ no_first (is_name_word w) (list_all is_name_word ws) (no_name w here)
+  | inr later ↦ no_second (is_name_word w) (list_all is_name_word ws) (not_all_names ws later)
+]
+
+no_view : (words : List Text) → list_any begins_with_dash words ≡ true → view_of words ≡ None
+no_view words e = rw (no_second (nat_le (length words) 32) (list_all is_name_word words) (not_all_names words e)) refl
+
+-- where the command's word is `view`, the dash is behind it
+behind_view : (word : Text) (operands : List Text) → bytes_eq word (codes "view") ≡ true → list_any begins_with_dash (word ∷ operands) ≡ true → list_any begins_with_dash operands ≡ true
+behind_view [] operands v e = e
+behind_view (b ∷ bs) operands v e = elim (cases_Bool (b == 45)) [
+  | inl dash ↦ absurd (let no : bytes_eq (45 ∷ bs) (codes "view") ≡ true = subst (λ x. bytes_eq (x ∷ bs) (codes "view") ≡ true) (eqb-true b 45 dash) v in cc)
+  | inr other ↦ rw other at e
+]
+
+nothing_asked : (word : Text) (operands : List Text) → list_any begins_with_dash (word ∷ operands) ≡ true → asked (word ∷ operands) ≡ None
+nothing_asked word operands e = elim (cases_Bool (bytes_eq word (codes "view"))) [
+  | inl view ↦ rw view (no_view operands (behind_view word operands view e))
+  | inr other ↦ rw other (not_among word operands e)
+]
+
 pub dashed : (words : List (String Global)) → have_dash words ≡ true → asked_by words ≡ None
 dashed [] e = cc
-dashed (w ∷ []) e = one_dash (string_bytes w) e
-dashed (w ∷ v ∷ []) e = refl
-dashed (w ∷ f ∷ t ∷ []) e = two_or_one (string_bytes w) (string_bytes f) (string_bytes t) e
-dashed (w ∷ f ∷ t ∷ v ∷ vs) e = refl
+dashed (w ∷ ws) e = nothing_asked (string_bytes w) (map string_bytes ws) (sym (list_any-map begins_with_dash string_bytes (w ∷ ws)) ∙ e)
 
 -- ---- what `clap` finds
 

@@ -1,4 +1,5 @@
 mod Answering
+mod Examples
 mod Found
 mod NameLemmas
 mod Taken

@@ -1,9 +1,10 @@
 -- What words ask for.
-use Rattle.std.specs.Prelude.{ℕ, Bool, ◌&&◌, List, [], ◌∷◌, map, Option, Some, None, if◌then◌else◌, codes, String, string_bytes}
+use Rattle.std.specs.Prelude.{ℕ, ◌&&◌, nat_le, List, [], ◌∷◌, length, map, Option, Some, None, if◌then◌else◌, codes, String, string_bytes}
+use Rattle.std.specs.List.{list_all}
 use Rattle.std.specs.Str.{bytes_eq}
 use Rattle.std.specs.declared.alloc.Global.{Global}
 use Rattle.fab_command.specs.declared.command.Command.{Command}
-use Rattle.fab_command.specs.declared.command.Command.TheVariants.{Check, Evaluate, Flows, Format, Replay}
+use Rattle.fab_command.specs.declared.command.Command.TheVariants.{Check, Evaluate, Flows, Format, Replay, View}
 use Rattle.fab_words.specs.Names.{is_name_word}
 
 -- the command of one word
@@ -18,13 +19,21 @@ command_of word =
 abbrev pub command_with : List ℕ → List ℕ → List ℕ → Option Command
 command_with word from to = if bytes_eq word (codes "flows") && (is_name_word from && is_name_word to) then Some (Flows from to) else None
 
--- a command's word, with as many operands as it takes; any others ask for nothing
+-- the command of these operands of `view`: up to 32 names, of which some may be the same
+abbrev pub view_of : List (List ℕ) → Option Command
+view_of nodes = if nat_le (length nodes) 32 && list_all is_name_word nodes then Some (View nodes) else None
+
+-- the command of another word, with as many operands as it takes; any others ask for nothing
+abbrev pub command_among : List ℕ → List (List ℕ) → Option Command
+command_among word [] = command_of word
+command_among word (operand ∷ []) = None
+command_among word (from ∷ to ∷ []) = command_with word from to
+command_among word (from ∷ to ∷ other ∷ others) = None
+
+-- the command of words: the command's own, and its operands
 abbrev pub asked : List (List ℕ) → Option Command
 asked [] = None
-asked (word ∷ []) = command_of word
-asked (word ∷ operand ∷ []) = None
-asked (word ∷ from ∷ to ∷ []) = command_with word from to
-asked (word ∷ from ∷ to ∷ other ∷ others) = None
+asked (word ∷ operands) = if bytes_eq word (codes "view") then view_of operands else command_among word operands
 
 -- the words of a command line ask for this command, or for nothing
 abbrev pub asked_by : List (String Global) → Option Command

@@ -1,16 +1,20 @@
 //! The command that words ask for.
-ghost use Rattle.std.specs.Prelude.{◌≡◌, ◌∷◌, IfOk, map, string_bytes};
-ghost use Rattle.std.specs.List.{list_any};
+ghost use Rattle.std.specs.Prelude.{◌≡◌, ◌∷◌, IfOk, Some, None, if◌then◌else◌, map, string_bytes};
+ghost use Rattle.std.specs.List.{list_all, list_any};
 ghost use Rattle.clap.specs.Words.{app_of, found_of, rows_of};
-ghost use Rattle.fab_words.specs.Words.{asked, asked_by, command_of, command_with};
+ghost use Rattle.fab_words.specs.Names.{is_name_word};
+ghost use Rattle.fab_words.specs.Words.{asked, asked_by, command_among, command_of, command_with, view_of};
 ghost use Rattle.fab_words.specs.Line.{asked_in, begins_with_dash, command_line};
 
 use crate::names::is_name;
 use clap::error::ErrorKind;
 use clap::{Arg, ArgAction, ArgMatches};
-use fab_base::{NoMemory, Text};
+use fab_base::{NoMemory, Seq, Text};
 use fab_command::Command;
 use std::alloc::{AllocError, Global};
+
+/// How many nodes `view` may name.
+const MOST_NODES: usize = 32;
 
 /// The command of one word.
 fn named(word: &str) -> Option<Command>
@@ -41,15 +45,54 @@ fn named_with(alloc: Global, word: &str, from: &str, to: &str) -> Result<Option<
     Ok(None)
 }
 
-/// The command of a word and its operands.
+/// The command of a word other than `view` and its operands.
 fn named_among(alloc: Global, word: &str, operands: &[&str]) -> Result<Option<Command>, NoMemory>
-    ensures { IfOk result (λ c. c ≡ asked (word.now ∷ map (λ v. v.now) operands.now)) }
+    ensures { IfOk result (λ c. c ≡ command_among word.now (map (λ v. v.now) operands.now)) }
 {
     match operands {
         [] => Ok(named(word)),
         [_] => Ok(None),
         [from, to] => named_with(alloc, word, from, to),
         [_, _, _, ..] => Ok(None),
+    }
+}
+
+/// The words, if each is a name of the language.
+fn names_in(alloc: Global, words: &[&str]) -> Result<Option<Seq<Text>>, NoMemory>
+    ensures { IfOk result (λ names. names ≡ (if list_all is_name_word (map (λ v. v.now) words.now) then Some (map (λ v. v.now) words.now) else None)) }
+{
+    let mut names = Seq::new(alloc);
+    for word in words {
+        if !is_name(alloc, word)? {
+            return Ok(None);
+        }
+        let name = Text::make(alloc, word)?;
+        names.push(name)?;
+    }
+    Ok(Some(names))
+}
+
+/// The command of these operands of `view`.
+fn view_of(alloc: Global, operands: &[&str]) -> Result<Option<Command>, NoMemory>
+    ensures { IfOk result (λ c. c ≡ view_of (map (λ v. v.now) operands.now)) }
+{
+    if operands.len() > MOST_NODES {
+        return Ok(None);
+    }
+    match names_in(alloc, operands)? {
+        Some(nodes) => Ok(Some(Command::View { nodes })),
+        None => Ok(None),
+    }
+}
+
+/// The command of a word and its operands.
+fn asked_with(alloc: Global, word: &str, operands: &[&str]) -> Result<Option<Command>, NoMemory>
+    ensures { IfOk result (λ c. c ≡ asked (word.now ∷ map (λ v. v.now) operands.now)) }
+{
+    if word == "view" {
+        view_of(alloc, operands)
+    } else {
+        named_among(alloc, word, operands)
     }
 }
 
@@ -78,7 +121,7 @@ fn asked_of(alloc: Global, matches: &ArgMatches) -> Result<Option<Command>, NoMe
         None => Ok(None),
         Some(word) => {
             let operands = matches.get_strs("operands").unwrap_or(&[]);
-            named_among(alloc, word, operands)
+            asked_with(alloc, word, operands)
         }
     }
 }
@@ -101,8 +144,8 @@ fn command_line<'a>(alloc: Global) -> Result<clap::Command<'a>, NoMemory>
 /// The command that the words ask for, or none.
 ///
 /// A word that begins with `-` asks for nothing. Of other words `clap` takes the first for the
-/// command's and those behind it for its operands: two names of the language for `flows`, and none
-/// for the others.
+/// command's and those behind it for its operands: two names of the language for `flows`, up to 32
+/// for `view`, and none for the others.
 pub fn asked_command(alloc: Global, words: &[String]) -> Result<Option<Command>, NoMemory>
     ensures asked { IfOk result (λ c. c ≡ asked_by words.now) }
 {

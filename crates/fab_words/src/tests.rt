@@ -1,12 +1,12 @@
 use crate::asked_command;
-use fab_base::NoMemory;
+use fab_base::{NoMemory, Text};
 use fab_command::Command;
 use std::alloc::Global;
 
 const NOTHING: &[&str] = &[];
 
 /// Words, and the words of the command that they ask for.
-const TABLE: [(&[&str], &[&str]); 33] = [
+const TABLE: [(&[&str], &[&str]); 42] = [
     (&[], NOTHING),
     (&["check"], &["check"]),
     (&["check", "A", "B"], NOTHING),
@@ -40,7 +40,25 @@ const TABLE: [(&[&str], &[&str]); 33] = [
     (&["flows", "A", "é"], NOTHING),
     (&["flows", "A", "-B"], NOTHING),
     (&["flows", "A", "\"00\""], NOTHING),
+    (&["view"], &["view"]),
+    (&["view", "w1", "s1"], &["view", "w1", "s1"]),
+    (&["view", "w1", "w1"], &["view", "w1", "w1"]),
+    (&["view", "w1", "store"], NOTHING),
+    (&["view", "7"], NOTHING),
+    (&["view", "w1", ""], NOTHING),
+    (&["view", "w1", "-s1"], NOTHING),
+    (&["View", "w1"], NOTHING),
+    (&["replay", "w1"], NOTHING),
 ];
+
+/// Whether these are the texts, in order.
+fn are_texts(texts: &[Text], words: &[&str]) -> bool {
+    texts.len() == words.len()
+        && texts
+            .iter()
+            .zip(words)
+            .all(|(text, word)| text.as_str() == *word)
+}
 
 /// Whether this is the command of the words.
 fn is_spelled(asked: &Option<Command>, words: &[&str]) -> bool {
@@ -51,6 +69,9 @@ fn is_spelled(asked: &Option<Command>, words: &[&str]) -> bool {
         (Some(Command::Format), [word]) => *word == "fmt",
         (Some(Command::Flows { from, to }), [word, a, b]) => {
             *word == "flows" && from.as_str() == *a && to.as_str() == *b
+        }
+        (Some(Command::View { nodes }), [word, names @ ..]) => {
+            *word == "view" && are_texts(nodes.as_slice(), names)
         }
         _ => false,
     }
@@ -82,4 +103,15 @@ fn long_words_are_no_names(rt: HostRuntime) {
         let asked = asked(alloc, &["flows", "A", long.as_str()]).expect(&rt, "memory");
         assert!(rt; asked.is_some() == is_name);
     }
+}
+
+/// At most 32 nodes are named.
+#[test]
+fn few_nodes_are_named(rt: HostRuntime) {
+    let mut words = ["s1"; 34];
+    words[0] = "view";
+    let many = asked(rt.alloc(), &words[..33]).expect(&rt, "memory");
+    assert!(rt; is_spelled(&many, &words[..33]));
+    let too_many = asked(rt.alloc(), &words).expect(&rt, "memory");
+    assert!(rt; too_many.is_none());
 }

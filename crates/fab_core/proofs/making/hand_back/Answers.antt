@@ -20,4 +20,5 @@ pub returns : goal.returns
 returns g c =
     let J = g.J.Journal in
     let none : c.made.made.items ≡ [] = search rules in
-    all_back (λ j. (J.faults j, J.sure j)) c.made.journals.items c.reverse.new.self.items c.made.made.items _ c.reverse.ensures.items none c.made.invariant.taken
+    all_back (λ journal. record { content = J.content journal; synced = J.synced journal; room = J.room journal; faults = J.faults journal; sure = J.sure journal })
+    c.made.journals.items c.reverse.new.self.items c.made.made.items _ c.reverse.ensures.items none c.made.invariant.taken

@@ -1,4 +1,4 @@
-use Rattle.fab_node.proofs.Written.{on_err, on_ok, record_calls, written, written_front}
+use Rattle.fab_node.proofs.Written.{on_err, on_errs, on_ok, record_calls, written, written_front}
 use Rattle.fab_node.proofs.writing.write.Goals as goal
 
 pub returns-in-Some-clause-ok : goal.returns-in-Some-clause-ok
@@ -14,10 +14,10 @@ pub returns-in-Some-clause-err : goal.returns-in-Some-clause-err
 returns-in-Some-clause-err g c =
     let content = g.J.Journal.content in
     let synced = g.J.Journal.synced in
-    on_err c.append_fitting.result c.append_fitting.ensures.err (λ left n x act h.
+    on_errs c.append_fitting.result c.append_fitting.ensures.err c.append_fitting.ensures.unsynced (λ left same n x act h.
     written_front n x act c.args.plan.now (content c.args.journal.now) (synced c.args.journal.now) h (content c.ready.new.journal) (synced c.ready.new.journal)
     (c.in_ok-ready.ensures.ok n x h.ready) c.in-Some.record.now c.as_slice.result.now c.in-Some.ensures c.as_slice.ensures
-    (content c.append_fitting.new.journal) left.0 left.1)
+    (content c.append_fitting.new.journal) (synced c.append_fitting.new.journal) left.0 left.1 same)
 
 pub returns-in-Some-clause-called : goal.returns-in-Some-clause-called
 returns-in-Some-clause-called g c = on_err c.append_fitting.result c.append_fitting.ensures.err (λ left. record_calls c.args.plan.now c.in-Some.record.now c.in-Some.ensures)

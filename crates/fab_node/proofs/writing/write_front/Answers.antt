@@ -1,4 +1,4 @@
-use Rattle.fab_node.proofs.Written.{on_err, on_ok, written_front, written_part}
+use Rattle.fab_node.proofs.Written.{on_errs, on_ok, written_front, written_part}
 use Rattle.fab_node.proofs.writing.write_front.Goals as goal
 
 pub returns-clause-ok : goal.returns-clause-ok
@@ -14,7 +14,7 @@ pub returns-clause-err : goal.returns-clause-err
 returns-clause-err g c =
     let content = g.J.Journal.content in
     let synced = g.J.Journal.synced in
-    on_err c.write_bytes.result c.write_bytes.ensures.err (λ left n x act h.
+    on_errs c.write_bytes.result c.write_bytes.ensures.err c.write_bytes.ensures.unsynced (λ left same n x act h.
     written_front n x act c.args.plan.now (content c.args.journal.now) (synced c.args.journal.now) h (content c.ready.new.journal) (synced c.ready.new.journal)
     (c.in_ok-ready.ensures.ok n x h.ready) c.in-Some.record.now c.as_slice.result.now c.in-Some.ensures c.as_slice.ensures
-    (content c.write_bytes.new.journal) left.0 left.1)
+    (content c.write_bytes.new.journal) (synced c.write_bytes.new.journal) left.0 left.1 same)

@@ -1,6 +1,6 @@
 use Rattle.std.proofs.Common.{sym, ◌∙◌}
 use Rattle.fab_core.specs.Starts.{given_by}
-use Rattle.fab_replay.specs.Honest.{honest_up}
+use Rattle.fab_core.specs.Honest.{honest_up}
 use Rattle.fab_replay.proofs.Numbered.{up_with, up_without}
 use Rattle.fab_replay.proofs.honest.honest_nodes.Goals as goal
 use Rattle.fab_replay.proofs.honest.honest_nodes.Goals.{then-is_honest+in_ok-push, else-is_honest}

@@ -1,6 +1,6 @@
 use Rattle.std.proofs.Common.{◌≡◌}
 use Rattle.fab_core.specs.Starts.{given_by}
-use Rattle.fab_replay.specs.Honest.{honest_up}
+use Rattle.fab_core.specs.Honest.{honest_up}
 use Rattle.fab_replay.proofs.honest.honest_nodes.Given as goal
 
 -- the honest ones of the numbers so far

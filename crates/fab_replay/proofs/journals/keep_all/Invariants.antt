@@ -1,17 +1,20 @@
-use Rattle.std.proofs.Common.{◌≡◌, length, map}
+use Rattle.std.proofs.Common.{◌≡◌, ◌++◌, List, length, map}
 use Rattle.std.specs.Prelude.{reverse}
+use Rattle.fab_device.specs.Kept.{Entry}
 use Rattle.fab_replay.specs.Kept.{with_more}
 use Rattle.fab_replay.specs.Running.{entries_of, seen_by}
 use Rattle.fab_replay.proofs.journals.keep_all.Given as goal
 
--- what is kept, and then what is left, comes to the whole
+-- these were kept, and with those that are left they come to the whole
 abbrev pub invariant-nodes : goal.invariant-nodes
 invariant-nodes g l =
     let M = g.M.Journals in
     let J = g.M.Item.Journal in
     record {
-      kept : with_more (M.kept l.journals) (entries_of l.program l.rest (map (seen_by J.content J.synced J.room J.faults J.sure) (reverse l.left.items)))
-          ≡ with_more (M.kept l.fn.journals) (entries_of l.program l.fn.nodes (map (seen_by J.content J.synced J.room J.faults J.sure) l.fn.all));
+      done : List Entry;
+      kept : M.kept l.journals ≡ with_more (M.kept l.fn.journals) done;
+      parts : done ++ entries_of l.program l.rest (map (seen_by J.content J.synced J.room J.faults J.sure) (reverse l.left.items))
+          ≡ entries_of l.program l.fn.nodes (map (seen_by J.content J.synced J.room J.faults J.sure) l.fn.all);
       faults : M.faults l.journals ≡ M.faults l.fn.journals;
       told : M.may_fail l.journals ≡ M.may_fail l.fn.journals;
     }

@@ -1,4 +1,4 @@
-use Rattle.std.proofs.Common.{◌≡◌, ◌∷◌, ◌++◌, [], List, length, map, rules, arith, sym, ◌∙◌, subst}
+use Rattle.std.proofs.Common.{refl, ap, Err, ◌≡◌, ◌∷◌, ◌++◌, [], List, length, map, rules, arith, sym, ◌∙◌, subst}
 use Rattle.std.specs.Prelude.{Contains}
 use Rattle.std.proofs.lemmas.List.{nil_from_length}
 use Rattle.fab_node.specs.Standing.{JournalModel}
@@ -25,6 +25,7 @@ nodes-preserved g c =
           → AreNew told c.args.program.now c.args.nodes.now (map (seen_by J.content J.synced J.room J.faults J.sure) c.nodes.made ++ js)) parts inv.made) more new);
       among = λ n there. inv.among n (subst (λ ns. Contains ns n) (sym parts) (behind_first c.in-Some.node.now n c.in-Some.after.now there));
       later = let before = inv.later in let now = made.cause.later in omega (arith, before, now);
+      same = made.cause.success refl ∙ inv.same;
       kept = made.kept ∙ inv.kept;
       told = made.told ∙ inv.told;
     }
@@ -34,3 +35,12 @@ returns-clause-made g c =
     let J = g.M.Item.Journal in
     let none : length c.nodes.rest.now ≡ 0 = search (rules, c.in_default.ensures.cases) in
     made_all (seen_by J.content J.synced J.room J.faults J.sure) _ c.args.program.now c.nodes.rest.now c.args.nodes.now c.nodes.made (nil_from_length c.nodes.rest.now none) c.nodes.invariant.made
+
+pub returns-then-is_err-clause-wanting : goal.returns-then-is_err-clause-wanting
+returns-then-is_err-clause-wanting g c e = c.in-Ok.ensures.cause.success refl ∙ c.nodes.invariant.same
+
+pub returns-in-Err-Memory-clause-wanting : goal.returns-in-Err-Memory-clause-wanting
+returns-in-Err-Memory-clause-wanting g c e = c.in-Err-Memory.ensures.cause.memory (ap Err c.in-Err-Memory.field-0-is) ∙ c.nodes.invariant.same
+
+pub returns-clause-same : goal.returns-clause-same
+returns-clause-same g c = c.nodes.invariant.same

@@ -14,6 +14,7 @@ invariant-nodes g l =
           → AreNew (M.may_fail l.fn.journals) l.program l.fn.nodes (map (seen_by J.content J.synced J.room J.faults J.sure) l.made ++ more);
       among : (n : ℕ) → Contains l.rest n → Contains l.fn.nodes n;
       later : M.faults l.fn.journals ≤ M.faults l.journals;
+      same : M.faults l.journals ≡ M.faults l.fn.journals;
       kept : M.kept l.journals ≡ M.kept l.fn.journals;
       told : M.may_fail l.journals ≡ M.may_fail l.fn.journals;
     }

@@ -5,4 +5,4 @@ pub returns-clause-one : goal.returns-clause-one
 returns-clause-one c = one_answer
 
 pub returns-clause-barred : goal.returns-clause-barred
-returns-clause-barred c = barred_runs
+returns-clause-barred c = λ g wanted. barred_runs g

@@ -29,7 +29,7 @@ returns-in-None c =
     let to = c.args.to.now in
     let none = is_no_label c.args.start.now c.args.resolved.now from c.requires.is (sym c.label.ensures ∙ ap option_copied c.in-None.is) in
     let n = length c.args.text.now in
-    if_replied (Some (asks.Flows from to)) c.args.text.now (status.Name Unknown n) (name_line Unknown n) c.unlabelled.result c.unlabelled.ensures
+    if_replied (Some (asks.Flows from to)) c.args.text.now (status.Name Unknown n) (name_line Unknown n) c.unknown.result c.unknown.ensures
     (unlabelled_reply c.requires.front from to c.requires.right (inl none))
 
 pub returns-in-None-label : goal.returns-in-None-label
@@ -38,7 +38,7 @@ returns-in-None-label c =
     let to = c.args.to.now in
     let none = is_no_label c.args.start.now c.args.resolved.now to c.requires.is (sym c.label-in-Some.ensures ∙ ap option_copied c.in-None-label.is) in
     let n = length c.args.text.now in
-    if_replied (Some (asks.Flows from to)) c.args.text.now (status.Name Unknown n) (name_line Unknown n) c.unlabelled-in-None-label.result c.unlabelled-in-None-label.ensures
+    if_replied (Some (asks.Flows from to)) c.args.text.now (status.Name Unknown n) (name_line Unknown n) c.unknown-in-None-label.result c.unknown-in-None-label.ensures
     (unlabelled_reply c.requires.front from to c.requires.right (inr none))
 
 pub returns-in_ok-reply-in-Some-label : goal.returns-in_ok-reply-in-Some-label

@@ -1,4 +1,4 @@
-use Rattle.fab_reply.proofs.Endings.{exactly, fault_of_replay, none_fails, only_unasked, part_headline, read_whole, usage_comes, whole_headline}
+use Rattle.fab_reply.proofs.Endings.{exactly, fault_of_run, makers_unfailed, none_fails, only_unasked, part_headline, read_whole, usage_comes, whole_headline}
 use Rattle.fab_reply.proofs.command.answer.Goals as goal
 
 pub returns-clause-exact : goal.returns-clause-exact
@@ -52,7 +52,7 @@ returns-clause-headline_of_a_part g c =
 pub returns-clause-journal_fault : goal.returns-clause-journal_fault
 returns-clause-journal_fault g c =
     let J = g.M.Journals in
-    fault_of_replay c.args.asked (g.S.Source.left c.args.source.now) (g.S.Source.left c.run.new.source) (g.K.Sink.written c.args.sink.now) (g.K.Sink.written c.run.new.sink)
+    fault_of_run c.args.asked (g.S.Source.left c.args.source.now) (g.S.Source.left c.run.new.source) (g.K.Sink.written c.args.sink.now) (g.K.Sink.written c.run.new.sink)
     (record { may_fail = J.may_fail c.args.journals.now; kept = J.kept c.args.journals.now; faults = J.faults c.args.journals.now })
     (record { may_fail = J.may_fail c.run.new.journals; kept = J.kept c.run.new.journals; faults = J.faults c.run.new.journals })
     c.run.result c.run.ensures.means
@@ -61,6 +61,14 @@ pub returns-clause-journals_unfailing : goal.returns-clause-journals_unfailing
 returns-clause-journals_unfailing g c =
     let J = g.M.Journals in
     none_fails c.args.asked (g.S.Source.left c.args.source.now) (g.S.Source.left c.run.new.source) (g.K.Sink.written c.args.sink.now) (g.K.Sink.written c.run.new.sink)
+    (record { may_fail = J.may_fail c.args.journals.now; kept = J.kept c.args.journals.now; faults = J.faults c.args.journals.now })
+    (record { may_fail = J.may_fail c.run.new.journals; kept = J.kept c.run.new.journals; faults = J.faults c.run.new.journals })
+    c.run.result c.run.ensures.means
+
+pub returns-clause-journals_unfailed : goal.returns-clause-journals_unfailed
+returns-clause-journals_unfailed g c =
+    let J = g.M.Journals in
+    makers_unfailed c.args.asked (g.S.Source.left c.args.source.now) (g.S.Source.left c.run.new.source) (g.K.Sink.written c.args.sink.now) (g.K.Sink.written c.run.new.sink)
     (record { may_fail = J.may_fail c.args.journals.now; kept = J.kept c.args.journals.now; faults = J.faults c.args.journals.now })
     (record { may_fail = J.may_fail c.run.new.journals; kept = J.kept c.run.new.journals; faults = J.faults c.run.new.journals })
     c.run.result c.run.ensures.means

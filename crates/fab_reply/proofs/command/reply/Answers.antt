@@ -1,7 +1,8 @@
 use Rattle.std.proofs.Common.{[], Some, refl, subst}
 use Rattle.std.proofs.KnownBytes.{Keeps-refl}
 use Rattle.fab_reply.specs.Replays.{Makers}
-use Rattle.fab_reply.specs.Reply.{Answers, JournalsAre, one_reply, unasked, read}
+use Rattle.fab_reply.specs.Reply.{Answers, IsCut, JournalsAre, one_reply, unasked, read}
+use Rattle.fab_reply.proofs.Replaying.{cut_left}
 use Rattle.fab_reply.proofs.Replying.{usage_reply}
 use Rattle.fab_reply.proofs.command.reply.Goals as goal
 
@@ -22,3 +23,10 @@ returns-in_ok-replied-in-Some-clause-given g c =
       subst (λ t. Answers (Some c.in-Some.command) t status reply) c.deref.ensures.value c.in_ok-replied-in-Some.ensures.replies,
       subst (λ t. JournalsAre (Some c.in-Some.command) t old new status reply) c.deref.ensures.value c.in_ok-replied-in-Some.ensures.journals,
     )
+
+pub returns-in_err-replied-in-Some-clause-cut : goal.returns-in_err-replied-in-Some-clause-cut
+returns-in_err-replied-in-Some-clause-cut g c failed =
+    let J = g.M.Journals in
+    let old : Makers = record { may_fail = J.may_fail c.args.journals.now; kept = J.kept c.args.journals.now; faults = J.faults c.args.journals.now } in
+    let new : Makers = record { may_fail = J.may_fail c.replied.new.journals; kept = J.kept c.replied.new.journals; faults = J.faults c.replied.new.journals } in
+    cut_left c.in-Some.is c.in_ok-text-in-Some.ensures.text (subst (λ t. IsCut c.in-Some.command t old new) c.deref.ensures.value c.in_err-replied-in-Some.ensures.cut)

@@ -1,4 +1,5 @@
-use Rattle.std.proofs.Common.{subst}
+use Rattle.std.proofs.Common.{Err, ap, inl, subst}
+use Rattle.std.proofs.KnownBytes.{Keeps-refl}
 use Rattle.std.specs.Io.KnownBytes.{Appends}
 use Rattle.fab_reply.proofs.Answering.{ends_so, no_read_fault, no_write_fault, of_answers}
 use Rattle.fab_reply.proofs.command.run.Goals as goal
@@ -32,3 +33,6 @@ returns-in-Ok-write_all-clause-unwritten g c e = no_read_fault (of_answers c.in-
 
 pub returns-in-Ok-write_all-clause-write : goal.returns-in-Ok-write_all-clause-write
 returns-in-Ok-write_all-clause-write g c e = no_write_fault (of_answers c.in-Ok.ensures.given.2) e
+
+pub returns-in-Err-Memory-clause-means : goal.returns-in-Err-Memory-clause-means
+returns-in-Err-Memory-clause-means g c = inl (Keeps-refl (g.K.Sink.written c.args.sink.now), c.in-Err-Memory.ensures.cut (ap Err c.in-Err-Memory.field-0-is))

@@ -11,4 +11,4 @@ pub returns-in-Some : goal.returns-in-Some
 returns-in-Some c =
     let operands = ap texts_of c.unwrap_or-operands.ensures ∙ operands_are (found_of c.args.matches.now) c.get_strs.result _ refl c.get_strs.ensures in
     let is = asked_is (found_of c.args.matches.now) (Some c.in-Some.word) (texts_of c.unwrap_or-operands.result) c.in-Some.ensures operands in
-    IfOk-weaker c.named_among.result _ _ (λ found e. e ∙ sym is) c.named_among.ensures
+    IfOk-weaker c.asked_with.result _ _ (λ found e. e ∙ sym is) c.asked_with.ensures

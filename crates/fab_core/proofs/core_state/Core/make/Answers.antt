@@ -1,7 +1,8 @@
-use Rattle.std.proofs.Common.{◌≡◌, [], map, Err, refl, sym, ap, ◌∙◌, subst}
+use Rattle.std.proofs.Common.{◌≡◌, map, Err, refl, sym, ap, ◌∙◌, subst}
 use Rattle.std.proofs.lemmas.Result.{err_from_is_err_and}
 use Rattle.fab_core.specs.declared.refused.CoreRefused.TheVariants.{Journal as JournalFailed}
-use Rattle.fab_core.specs.Starts.{AreBack}
+use Rattle.fab_core.specs.Honest.{AreFor, honest_in}
+use Rattle.fab_core.specs.Starts.{AreBack, IsLeft}
 use Rattle.fab_node.specs.Standing.{IsGiven}
 use Rattle.fab_core.specs.Cores.{IsCore}
 use Rattle.fab_core.proofs.AtStart.{core_at_start, journals_keys, turned_keys}
@@ -17,6 +18,14 @@ returns-in_err-nodes-clause-back g c node back e =
     (subst (λ keys. AreBack c.in-Ok.given node keys (map (λ j. (J.faults j, J.sure j)) back))
     (turned_keys (λ j. (J.faults j, J.sure j)) _ c.reverse.new.self.items c.reverse.ensures.items ∙ ap (map (λ j. (J.faults j, J.sure j))) c.into_vec-turned.ensures)
     there)
+
+pub returns-in_err-nodes-clause-left : goal.returns-in_err-nodes-clause-left
+returns-in_err-nodes-clause-left g c node back e =
+    let J = g.J.Journal in
+    let p = err_from_is_err_and c.from_residual.result c.from_residual.ensures.1 in
+    let same : p.0 ≡ JournalFailed node back = let both = sym p.1 ∙ e in cc in
+    let there = c.in_err-nodes.ensures.left node back (ap Err (sym p.2 ∙ same)) in
+    subst (λ given. AreFor (λ n j. IsLeft node n (J.content j) (J.synced j)) (honest_in given) back) c.in-Ok.ensures.given there
 
 pub invariant_of-result : goal.invariant_of-result
 invariant_of-result g c = (

@@ -1,0 +1,13 @@
+//! The parts of an attempt, of what its request means over its answers: which stores take part, what
+//! each is asked to prepare, and what caches take of a commit.
+#![tactic(auto)]
+
+mod items;
+mod parts;
+mod puts;
+mod stores;
+
+pub use items::items_at;
+pub use parts::parts_from;
+pub use puts::{copies, puts_of};
+pub use stores::participants;

@@ -1,0 +1,11 @@
+pub mod Committing
+pub mod Fronts
+pub mod Messaging
+pub mod Outcomes
+pub mod Parting
+pub mod Sending
+pub mod Standing
+pub mod Starting
+pub mod Storing
+pub mod Tabling
+pub mod Watching

@@ -1,0 +1,27 @@
+use Rattle.std.proofs.Common.{Bool, false, if◌then◌else◌, sym, ap, subst, ◌++◌, ◌∙◌}
+use Rattle.fab_protocol.specs.Versions.{Rows}
+use Rattle.fab_release.specs.Replay.{at_store, at_worker, row_at, store_applies, store_hears, tabled, worker_hears}
+use Rattle.fab_public.specs.Settings.{public_at, sight_at}
+use Rattle.fab_public.specs.States.{IsKept}
+use Rattle.fab_public.proofs.Tabling.{alike_behind}
+use Rattle.fab_public.proofs.steps.hear.Goals as goal
+
+pub returns-clause-kept : goal.returns-clause-kept
+returns-clause-kept c = λ k is.
+    let sight = sight_at c.args.setting.now in
+    let P = public_at c.args.setting.now in
+    let n = c.args.node in
+    let d = c.args.sender in
+    let message = c.args.message in
+    subst (λ (b : Bool). IsKept sight P (record c.args.kept.now { stores = c.deliver.new.stores; table = c.put_all.new.self }) (if b then at_worker sight P k n (worker_hears sight P n d message)
+    else tabled sight P (store_applies sight P n d message (k.store n)) (at_store sight P k n (store_hears sight P n d message))))
+    (sym (sym c.is_worker.ensures.computed ∙ c.if-is_worker.false))
+    (record {
+      roots = is.roots;
+      workers = is.workers;
+      stores = c.in_ok-told.ensures.kept k.store is.roots is.stores;
+      table = λ o version.
+          c.in_ok-put_all.ensures o version
+          ∙ ap (λ (rows : Rows). row_at (rows ++ c.args.kept.now.table) o version) (c.in_ok-told.ensures.left k.store is.roots is.stores)
+          ∙ alike_behind (store_applies sight P n d message (k.store n)) c.args.kept.now.table k.table is.table o version;
+    })

@@ -1,0 +1,4 @@
+pub mod Changes
+pub mod Settings
+pub mod States
+pub mod Tables

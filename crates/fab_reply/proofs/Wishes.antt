@@ -1,0 +1,84 @@
+-- What a command wants of runs is one text.
+use Rattle.std.proofs.Common.{◌≡◌, ℕ, zero, suc, ◌+◌, ◌<◌, ◌≤◌, Bool, not, if◌then◌else◌, List, ◌∷◌, filter, Some, None, refl, sym, ap, ◌∙◌, arith}
+use Rattle.std.specs.List.{range_with_len}
+use Rattle.std.specs.Prelude.{is_some}
+use Rattle.std.proofs.lemmas.List.Sums.{count_by-le-length}
+use Rattle.fab_flows.proofs.Declared.{has_principals}
+use Rattle.fab_tree.specs.declared.start.Start.{Start}
+use Rattle.fab_tree.specs.declared.resolved.Resolved.{Resolved}
+use Rattle.fab_language.specs.Numbers.{resolved}
+use Rattle.fab_command.specs.declared.command.Command.{Command}
+use Rattle.fab_command.specs.declared.command.Command.TheVariants.{Check, Evaluate, Flows, Format, Replay, View}
+use Rattle.fab_listing.specs.Listing.{listing, node_count, nodes_where, sent_text}
+use Rattle.fab_rights.specs.Computed.{has_bit}
+use Rattle.fab_rights.specs.declared.rights.Rights.{Rights}
+use Rattle.fab_settings.specs.Settings.{IsAcceptedWith}
+use Rattle.fab_world.specs.Machine.{Move}
+use Rattle.fab_node.specs.Standing.{GivenModel}
+use Rattle.fab_replay.specs.declared.replayed.Replayed.{Replayed}
+use Rattle.fab_replay.specs.declared.replayed.Replayed.TheVariants as r
+use Rattle.fab_replay.specs.declared.replayed.Wanted.{Wanted}
+use Rattle.fab_replay.specs.declared.replayed.Wanted.TheVariants.{Report, View as Viewed}
+use Rattle.fab_replay.specs.Replays.{Tells, text_of}
+use Rattle.fab_reply.specs.Replays.{IsSetOf, MakesRuns, Wants, given_of}
+use Rattle.fab_reply.specs.Reply.{AsksLabels, AsksNames}
+
+-- ---- a listing looks at the nodes of a program alone
+
+filter_alike : (p q : ℕ → Bool) (k n : ℕ) → ((i : ℕ) → i < k + n → p i ≡ q i) → filter p (range_with_len k n) ≡ filter q (range_with_len k n)
+filter_alike p q k zero h = refl
+filter_alike p q k (suc n) h =
+    ap (λ b. if b then k ∷ filter p (range_with_len (k + 1) n) else filter p (range_with_len (k + 1) n)) (h k (omega arith))
+    ∙ ap (λ xs. if q k then k ∷ xs else xs) (filter_alike p q (k + 1) n (λ i l. h i (omega (arith, l))))
+
+pub listed_alike : (r : Resolved) (p q : ℕ → Bool) (sent : ℕ → ℕ → List (List ℕ)) → ((n : ℕ) → n < node_count r → p n ≡ q n) → listing r p sent ≡ listing r q sent
+listed_alike r p q sent h =
+    ap (λ ns. sent_text r sent ns (nodes_where r p)) (filter_alike (λ n. not (p n)) (λ n. not (q n)) 0 (node_count r) (λ n l. ap not (h n (omega (arith, l)))))
+    ∙ ap (sent_text r sent (nodes_where r (λ n. not (q n)))) (filter_alike p q 0 (node_count r) (λ n l. h n (omega (arith, l))))
+
+-- the same nodes are named by both
+few_nodes : (s : Start) (rights : Rights) → IsAcceptedWith s rights → node_count (resolved s) ≤ 64
+few_nodes s rights accepted =
+    let few = (has_principals s accepted.within accepted.named).few in
+    let count = count_by-le-length (λ x. is_some x.node) (resolved s).nodes in
+    omega (arith, few, count)
+
+pub same_text : (s : Start) (rights : Rights) (c : Command) (u w : Wanted) → IsAcceptedWith s rights → Wants s c u → Wants s c w
+    → (moves : List Move) → text_of (given_of s rights) u moves ≡ text_of (given_of s rights) w moves
+same_text s rights Replay Report Report accepted h k moves = refl
+same_text s rights (View names) (Viewed m seen part) (Viewed n other known) accepted h k moves =
+    let few = few_nodes s rights accepted in
+    listed_alike (resolved s) (has_bit m) (has_bit n) _ (λ i l. h.nodes_are i (omega (arith, l, few)) ∙ sym (k.nodes_are i (omega (arith, l, few))))
+same_text s rights Replay (Viewed m seen part) w accepted h k moves = absurd h
+same_text s rights Replay Report (Viewed n seen part) accepted h k moves = absurd k
+same_text s rights (View names) Report w accepted h k moves = absurd h
+same_text s rights (View names) (Viewed m seen part) Report accepted h k moves = absurd k
+same_text s rights Check u w accepted h k moves = absurd h
+same_text s rights Evaluate u w accepted h k moves = absurd h
+same_text s rights (Flows a b) u w accepted h k moves = absurd h
+same_text s rights Format u w accepted h k moves = absurd h
+
+-- so an answer tells of either
+pub tells_alike : (g : GivenModel) (u w : Wanted) (moves : List Move) (x : Replayed) → text_of g u moves ≡ text_of g w moves → Tells g u moves x → Tells g w moves x
+tells_alike g u w moves (r.Done bytes) e h = (h.0, h.1 ∙ e)
+tells_alike g u w moves (r.NotEnabled number) e h = h
+tells_alike g u w moves (r.JournalFault node (Some bytes)) e h = (h.0, h.1 ∙ e)
+tells_alike g u w moves (r.JournalFault node None) e h = h
+
+-- ---- what a command that makes a run asks for
+
+pub asks_names : (c : Command) → MakesRuns (Some c) → AsksNames c
+asks_names Replay h = tt
+asks_names (View names) h = tt
+asks_names Check h = tt
+asks_names Evaluate h = tt
+asks_names (Flows a b) h = tt
+asks_names Format h = absurd h
+
+pub asks_labels : (s : Start) (c : Command) (set : ℕ) → MakesRuns (Some c) → IsSetOf s c set → AsksLabels c s
+asks_labels s Replay set runs h = tt
+asks_labels s (View names) set runs h = h.names_are
+asks_labels s Check set runs h = absurd runs
+asks_labels s Evaluate set runs h = absurd runs
+asks_labels s (Flows a b) set runs h = absurd runs
+asks_labels s Format set runs h = absurd runs
