@@ -5,8 +5,6 @@
 mod caches;
 mod laws;
 mod rows;
-#[cfg(test)]
-mod tests;
 
 pub use caches::{Caches, NewCaches};
 pub use laws::{caches_stay_distinct, puts_in_a_row, renewed_caches_are_cached};

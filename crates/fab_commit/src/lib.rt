@@ -7,8 +7,6 @@ mod items;
 mod laws;
 mod participants;
 mod sends;
-#[cfg(test)]
-mod tests;
 mod verdict;
 
 pub use coordinator::{Coordinator, begin_prepare};

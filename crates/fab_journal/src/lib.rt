@@ -17,6 +17,3 @@ pub use laws::{
 };
 pub use records::read_records;
 pub use writing::{header_bytes, record_bytes};
-
-#[cfg(test)]
-mod tests;

@@ -4,8 +4,6 @@
 mod flow;
 mod laws;
 mod policies;
-#[cfg(test)]
-mod tests;
 
 pub use flow::{cover_conf, cover_integ, declass_ok, endorse_ok, flows, flows_conf, flows_integ};
 pub use laws::{confidentiality_laws, cover_laws, flow_laws};

@@ -3,7 +3,5 @@
 
 mod items;
 mod locks;
-#[cfg(test)]
-mod tests;
 
 pub use locks::Locks;

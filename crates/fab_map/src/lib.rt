@@ -3,8 +3,6 @@
 
 mod laws;
 mod map;
-#[cfg(test)]
-mod tests;
 
 pub use laws::{
     ascending_rows, changes_undone, found_after_put, names_compared, names_in_order, rows_of_map,

@@ -6,14 +6,10 @@ mod expressions;
 mod halt;
 mod heap;
 mod methods;
-#[cfg(test)]
-mod secret;
 mod setting;
 mod shown;
 mod state;
 mod statements;
-#[cfg(test)]
-mod tests;
 mod whole;
 
 pub use whole::{Meant, meaning, plain_meaning};

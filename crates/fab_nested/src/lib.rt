@@ -6,8 +6,6 @@ mod frame_error;
 mod frames;
 mod log;
 mod objects;
-#[cfg(test)]
-mod tests;
 mod touches;
 
 pub use answers::field_of;

@@ -7,8 +7,6 @@ mod masks;
 mod nodes;
 mod policies;
 mod sights;
-#[cfg(test)]
-mod tests;
 
 pub use classes::rights;
 pub use laws::{flows_narrow_readers, flows_widen_writers, outsiders_write_and_hold_nothing};

@@ -3,8 +3,6 @@
 
 mod channel;
 mod queues;
-#[cfg(test)]
-mod tests;
 
 pub use channel::Channel;
 pub use queues::Queues;

@@ -24,6 +24,3 @@ pub use line::{
     ShownOutcome, ShownValue,
 };
 pub use report::read_events;
-
-#[cfg(test)]
-mod tests;

@@ -7,8 +7,6 @@ mod laws;
 mod objects;
 mod replaying;
 mod requests;
-#[cfg(test)]
-mod tests;
 
 pub use decisions::commits;
 pub use laws::commits_are_honest;

@@ -6,7 +6,5 @@ mod answers;
 mod changes;
 mod heard;
 mod stored;
-#[cfg(test)]
-mod tests;
 
 pub use stored::Stored;

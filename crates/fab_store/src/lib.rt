@@ -12,8 +12,6 @@ mod senders;
 mod start;
 mod steps;
 mod store;
-#[cfg(test)]
-mod tests;
 mod votes;
 
 pub use fetches::answer_to_fetch;

@@ -1,29 +1,7 @@
 //! The top call: what the program does with its words, its input and its output.
 #![tactic(auto)]
 
-#[cfg(test)]
-mod check_tests;
 mod command;
-#[cfg(test)]
-mod eval_tests;
-#[cfg(test)]
-mod flow_tests;
-#[cfg(test)]
-mod journal_tests;
-#[cfg(test)]
-mod limit_tests;
-#[cfg(test)]
-mod name_tests;
-#[cfg(test)]
-mod print_tests;
-#[cfg(test)]
-mod replay_tests;
-#[cfg(test)]
-mod syntax_tests;
-#[cfg(test)]
-mod tests;
-#[cfg(test)]
-mod view_tests;
 
 pub use command::fab;
 pub use fab_reply::Status;

@@ -27,6 +27,3 @@ pub use lists::{items_of, object_of};
 pub use numbers::{byte_of, count_of, u16_of, u32_of};
 pub use stop::Stop;
 pub use writing::{put_oid, put_tid, put_u8, put_u16, put_u32, put_value};
-
-#[cfg(test)]
-mod tests;

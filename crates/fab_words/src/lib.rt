@@ -3,7 +3,5 @@
 
 mod asked;
 mod names;
-#[cfg(test)]
-mod tests;
 
 pub use asked::asked_command;

@@ -1,0 +1,68 @@
+//! An account that was answered and one that is made, with a write that is undone and one that is kept.
+
+use fab_base::{NoMemory, Object, Oid, Seq, Value};
+use fab_nested::{FrameError, Frames};
+use std::alloc::Global;
+use std::test::Fail;
+
+const ACCOUNT: Oid = Oid {
+    store: 1,
+    class: 2,
+    worker: 65535,
+    boot: 0,
+    number: 3,
+    site: 65535,
+    index: 0,
+};
+
+const NEW: Oid = Oid {
+    store: 1,
+    class: 2,
+    worker: 0,
+    boot: 1,
+    number: 1,
+    site: 7,
+    index: 0,
+};
+
+fn account(alloc: Global, value: i32) -> Result<Object, NoMemory> {
+    Ok(Object {
+        class: 2,
+        fields: Seq::from_slice(alloc, &[Value::Int(value)])?,
+    })
+}
+
+fn with_a_new_one(alloc: Global) -> Result<Frames, FrameError> {
+    let answers = vec![in alloc; (ACCOUNT, 5, account(alloc, 100)?)]?;
+    let mut frames = Frames::make(alloc, &answers)?;
+    frames.create(NEW, account(alloc, 1)?)?;
+    Ok(frames)
+}
+
+fn undone(frames: &mut Frames) -> Result<Value, FrameError> {
+    frames.enter()?;
+    frames.write(3, ACCOUNT, 0, Value::Int(95))?;
+    frames.abort();
+    frames.read(5, ACCOUNT, 0)
+}
+
+fn kept(frames: &mut Frames) -> Result<Value, FrameError> {
+    frames.enter()?;
+    frames.write(3, ACCOUNT, 0, Value::Int(95))?;
+    frames.merge()?;
+    frames.read(5, ACCOUNT, 0)
+}
+
+fn counts(frames: &Frames) -> Result<(usize, usize), FrameError> {
+    let (writes, creates) = frames.changed()?;
+    Ok((writes.len(), creates.len()))
+}
+
+#[test]
+fn a_write_is_undone_and_one_is_kept(rt: HostRuntime) -> Result<(), Fail> {
+    let mut frames = with_a_new_one(rt.alloc())?;
+    assert!(rt; undone(&mut frames)? == Value::Int(100));
+    assert!(rt; kept(&mut frames)? == Value::Int(95));
+    assert!(rt; counts(&frames)? == (1, 1));
+    Ok(())
+}
