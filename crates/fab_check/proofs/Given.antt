@@ -6,7 +6,7 @@ use Rattle.fab_check.specs.Shown.{all_given, given, owes_of}
 use Rattle.fab_check.specs.declared.labels.Names.{Names}
 use Rattle.fab_check.specs.declared.notes.Under.{Under}
 use Rattle.fab_check.proofs.Parts.{in_parts, one_more}
-use Rattle.fab_check.proofs.Walks.{front}
+use Rattle.fab_authority.proofs.Walks.{front}
 
 module _ (n : Names) (u : Under) (v m whole : Noting) (es : List Expression) (i : ℕ) (e : Expression) (within : i < length es) (is : e ≡ get_or es i e) where
   -- one too many is given to nothing

@@ -11,9 +11,9 @@ use Rattle.fab_labelling.specs.declared.rule.Side.{Side}
 use Rattle.fab_labelling.specs.Obligations.{Owed, owed}
 use Rattle.fab_labelling.specs.Claims.{Holds, IsWellLabelled}
 use Rattle.fab_labelling.specs.Refusals.{IsFirstRefusal, IsNoLater, rank, told}
-use Rattle.fab_check.specs.Decided.{decided}
+use Rattle.fab_authority.specs.Decided.{decided}
 use Rattle.fab_check.specs.Noted.{is_sooner, noted, sooner}
-use Rattle.fab_check.proofs.Deciding.{Decides-claim}
+use Rattle.fab_authority.proofs.Deciding.{Decides-claim}
 
 -- ---- lists
 

@@ -1,10 +1,7 @@
 pub mod Blocks
-pub mod Callings
-pub mod Deciding
 pub mod Forms
 pub mod Given
 pub mod Least
 pub mod Parts
 pub mod Sitings
-pub mod Walks
 pub mod Weights

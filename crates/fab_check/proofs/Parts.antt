@@ -4,7 +4,7 @@ use Rattle.fab_tree.specs.declared.resolved.Resolved.{Resolved}
 use Rattle.fab_labelling.specs.declared.rule.Refusal.{Refusal}
 use Rattle.fab_labelling.specs.Obligations.{Owed}
 use Rattle.fab_check.specs.Noted.{Noting, noted, all_noted}
-use Rattle.fab_check.proofs.Walks.{both, end, front, step, three}
+use Rattle.fab_authority.proofs.Walks.{both, end, front, step, three}
 
 noted_in_parts : (r : Resolved) (first : Option Refusal) (xs ys : List Owed) → noted r first (xs ++ ys) ≡ noted r (noted r first xs) ys
 noted_in_parts r first [] ys = refl

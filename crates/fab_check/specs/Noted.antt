@@ -4,7 +4,7 @@ use Rattle.fab_tree.specs.declared.resolved.Resolved.{Resolved}
 use Rattle.fab_labelling.specs.declared.rule.Refusal.{Refusal}
 use Rattle.fab_labelling.specs.Obligations.{Owed}
 use Rattle.fab_labelling.specs.Refusals.{rank, told}
-use Rattle.fab_check.specs.Decided.{decided}
+use Rattle.fab_authority.specs.Decided.{decided}
 
 -- the one comes before the other: by its place, and at one place by its rule
 abbrev pub is_sooner : Refusal → Refusal → Bool

@@ -1,5 +1,5 @@
 -- What contracts see of a place in a method.
-use Rattle.std.specs.Prelude.{ℕ, List, ◌++◌, map, Option, slice_get}
+use Rattle.std.specs.Prelude.{ℕ, List, ◌++◌, Option, slice_get}
 use Rattle.fab_tree.specs.declared.statement.Downgrade.{Downgrade}
 use Rattle.fab_tree.specs.declared.resolved.Use.{Use}
 use Rattle.fab_tree.specs.declared.resolved.Class.{Class}
@@ -10,13 +10,11 @@ use Rattle.fab_tree.specs.declared.resolved.Right.{Right}
 use Rattle.fab_tree.specs.declared.resolved.Statement.{Statement}
 use Rattle.fab_labelling.specs.declared.rule.LabelRule.TheVariants.{Write}
 use Rattle.fab_labelling.specs.Obligations as o
+pub use Rattle.fab_authority.specs.Authority.{numbers_of}
 use Rattle.fab_labelling.specs.Obligations.{Owed, Part, part}
 use Rattle.fab_check.specs.declared.labels.Names.{Names}
 use Rattle.fab_check.specs.declared.notes.Under.{Under}
 use Rattle.fab_check.specs.declared.scope.Scope.{Scope}
-
-abbrev pub numbers_of : List Use → List ℕ
-numbers_of xs = map (λ x. x.number) xs
 
 -- ---- expressions
 

@@ -1,7 +1,7 @@
 //! What downgrades owe.
 ghost use Rattle.std.specs.Prelude.{◌≡◌, ◌∷◌, []};
 ghost use Rattle.fab_labelling.specs.Obligations.{declassifies, endorses};
-ghost use Rattle.fab_check.specs.Decided.{decided};
+ghost use Rattle.fab_authority.specs.Decided.{decided};
 ghost use Rattle.fab_check.specs.Noted.{all_noted};
 ghost use Rattle.fab_check.specs.Shown.{downgrading, numbers_of};
 

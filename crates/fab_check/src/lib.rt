@@ -1,9 +1,7 @@
 //! The label checker: whether a bundle keeps the rules of labels, or its first refusal.
 #![tactic(auto)]
 
-mod answers;
 mod assignments;
-mod authority;
 mod calls;
 mod downgrades;
 mod error;
@@ -14,7 +12,6 @@ mod notes;
 mod placement;
 mod requests;
 mod scope;
-mod sets;
 mod sites;
 mod statements;
 mod verdicts;

@@ -2,7 +2,7 @@
 ghost use Rattle.std.specs.Prelude.{◌≡◌, ◌∷◌, [], All, OnOk, map};
 ghost use Rattle.std.specs.List.{flat_map};
 ghost use Rattle.fab_labelling.specs.Obligations.{method_owes, root_owes};
-ghost use Rattle.fab_check.specs.Authority.{IsFew};
+ghost use Rattle.fab_authority.specs.Authority.{IsFew};
 ghost use Rattle.fab_check.specs.Noted.{all_noted};
 ghost use Rattle.fab_check.specs.Shown.{returning};
 

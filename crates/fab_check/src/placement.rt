@@ -5,7 +5,7 @@ ghost use Rattle.fab_labelling.specs.Placement.{role_of};
 ghost use Rattle.fab_labelling.specs.Readers.{label_at};
 ghost use Rattle.fab_labelling.specs.Refusals.{class_label};
 ghost use Rattle.fab_labelling.specs.declared.rule.LabelRule.TheVariants.{Placement as OfPlacement};
-ghost use Rattle.fab_check.specs.Decided.{decided, holds_class, is_store_role, may_hold, reaches};
+ghost use Rattle.fab_authority.specs.Decided.{decided, holds_class, is_store_role, may_hold, reaches};
 ghost use Rattle.fab_check.specs.Noted.{all_noted};
 
 use crate::verdicts::Verdicts;
@@ -47,7 +47,7 @@ fn class_label(start: &Resolved, class: u16) -> u16
 }
 
 /// Whether the principal, which is the store of this number, may hold the class, by what labels say.
-#[tactic(auto, unfolding(crate::specs::Decided::decided))]
+#[tactic(auto, unfolding(fab_authority::specs::Decided::decided))]
 fn ask_holds(verdicts: &Verdicts<'_>, store: u16, class: u16) -> bool
     ensures { result ≡ decided verdicts.now.start (holds store class) }
 {

@@ -3,19 +3,18 @@ ghost use Rattle.std.specs.Prelude.{◌≡◌, ◌<◌, ◌≤◌, ◌∷◌, []
 ghost use Rattle.std.specs.List.{flat_map};
 ghost use Rattle.fab_labelling.specs.Obligations.{answers_for, owe, request_owes, session_owes};
 ghost use Rattle.fab_labelling.specs.declared.rule.LabelRule.TheVariants.{Authority as OfAuthority};
-ghost use Rattle.fab_check.specs.Authority.{AreUsed};
-ghost use Rattle.fab_check.specs.Decided.{decided};
+ghost use Rattle.fab_authority.specs.Authority.{AreUsed};
+ghost use Rattle.fab_authority.specs.Decided.{decided};
 ghost use Rattle.fab_check.specs.Noted.{all_noted};
 
-use crate::authority::set_at;
 use crate::placement::acts_for;
-use crate::sets::contains;
 use crate::verdicts::Verdicts;
+use fab_authority::{contains, set_at};
 use fab_labelling::{LabelRule, Side};
 use fab_tree::resolved::{Asked, Request, Session};
 
 /// Whether the worker of a request acts for the principal, if it uses that one's authority.
-#[tactic(auto, unfolding(crate::specs::Decided::decided))]
+#[tactic(auto, unfolding(fab_authority::specs::Decided::decided))]
 fn answers_for(verdicts: &Verdicts<'_>, sets: &[u64], request: &Request, p: u16) -> bool
     requires small { p < 64 }
     requires used { AreUsed verdicts.now.start sets.now }

@@ -1,9 +1,9 @@
 //! What a statement stands in.
 ghost use Rattle.std.specs.Prelude.{◌≡◌, map, option_copied, slice_get};
-ghost use Rattle.fab_check.specs.Authority.{IsFew, IsMask};
+ghost use Rattle.fab_authority.specs.Authority.{IsFew, IsMask};
 
 use crate::labels::Names;
-use crate::sets::set_of;
+use fab_authority::set_of;
 use fab_tree::resolved::{Method, Resolved, Use};
 
 /// A method of a bundle, with the set of the principals whose authority it has.

@@ -5,10 +5,10 @@ ghost use Rattle.fab_labelling.specs.Readers.{label_at, principal_of};
 ghost use Rattle.fab_labelling.specs.Obligations.{owe, flows, conf, nowhere, holds};
 ghost use Rattle.fab_labelling.specs.Refusals.{rank as rank_of};
 ghost use Rattle.fab_labelling.specs.declared.rule.LabelRule.TheVariants.{Access as OfAccess, Fail as OfFail};
-ghost use Rattle.fab_check.specs.Decided.{decided};
+ghost use Rattle.fab_authority.specs.Decided.{decided};
 ghost use Rattle.fab_check.specs.Noted.{all_noted, is_sooner, sooner, with_refusal};
 
-use crate::answers::Answers;
+use fab_authority::Answers;
 use fab_base::{Label, Seq};
 use fab_labelling::{LabelRule, Refusal, Side};
 use fab_places::principal_of;
@@ -78,7 +78,7 @@ impl<'a> Model for Verdicts<'a> {
     ghost use Rattle.fab_tree.specs.contracts.resolved.Statement as statements;
     ghost use Rattle.fab_tree.specs.contracts.resolved.Expression as expressions;
     ghost use Rattle.fab_check.specs.Noted.{Noting};
-    ghost use Rattle.fab_check.specs.Remembered.{HasAnswers};
+    ghost use Rattle.fab_authority.specs.Remembered.{HasAnswers};
 
     ghost Value = { Noting };
 
@@ -254,7 +254,7 @@ impl<'a> Verdicts<'a> {
     }
 
     /// The label is to flow to a failure label that isn't there.
-    #[tactic(auto, unfolding(crate::specs::Noted::all_noted, crate::specs::Decided::decided))]
+    #[tactic(auto, unfolding(crate::specs::Noted::all_noted, fab_authority::specs::Decided::decided))]
     pub(crate) fn note_nowhere(&mut self, at: u32, from: u16)
         ensures { self.new ≡ all_noted self.old (owe OfFail at (nowhere from) ∷ []) }
     {

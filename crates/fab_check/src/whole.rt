@@ -7,16 +7,16 @@ ghost use Rattle.fab_labelling.specs.Refusals.{IsFirstRefusal};
 ghost use Rattle.fab_labelling.specs.Sites.{pcs_of};
 ghost use Rattle.fab_labelling.specs.declared.rule.LabelRule.{LabelRule as Rule};
 ghost use Rattle.fab_labelling.specs.declared.rule.Side.{Side as OneSide};
-ghost use Rattle.fab_check.specs.Authority.{HasFew};
+ghost use Rattle.fab_authority.specs.Authority.{HasFew};
 ghost use Rattle.fab_check.specs.Noted.{noted};
 ghost use Rattle.fab_check.specs.declared.error.LabelError.TheVariants.{Refused};
 
-use crate::authority::used_sets;
 use crate::error::LabelError;
 use crate::methods::{note_methods, note_roots};
 use crate::requests::note_sessions;
 use crate::sites::pcs_of;
 use crate::verdicts::Verdicts;
+use fab_authority::used_sets;
 use fab_base::{NoMemory, Seq};
 use fab_labelling::Refusal;
 use fab_principals::Acts;

@@ -18,7 +18,7 @@ use Rattle.fab_node.specs.declared.role.Role.{Role}
 use Rattle.fab_node.specs.declared.role.Role.TheVariants as roles
 use Rattle.fab_node.specs.Standing.{GivenModel, NodeModel, RoleStands, Stands, WorkerStands}
 use Rattle.fab_node.specs.Deeds.{CanBegin, CanResume, MayBegin, MayGiveUp, MayResume}
-use Rattle.fab_core.specs.Acts.{MayPlan}
+use Rattle.fab_nodes.specs.Acts.{MayPlan}
 use Rattle.fab_core.specs.Cores.{HasDone, InnerHasDone, IsJobAt, is_honest, setting}
 use Rattle.fab_core.proofs.Steady.{AreSteady}
 

@@ -14,7 +14,7 @@ use Rattle.fab_node.specs.Standing.{GivenModel, JournalModel, NodeModel, Stands}
 use Rattle.fab_core.specs.Cores.{NodesStand, SlotStands, count_in, is_honest, setting, slot}
 use Rattle.fab_core.specs.Moved.{IsCaused, faults_in, sure_in}
 use Rattle.fab_core.specs.Places.{AreOthers, IsAt, journals_of}
-use Rattle.fab_core.specs.Transit.{is_up_at, is_up_in}
+use Rattle.fab_nodes.specs.Transit.{is_up_at, is_up_in}
 
 -- ---- lists of slots
 

@@ -24,7 +24,7 @@ use Rattle.fab_node.specs.declared.role.Role.{Role}
 use Rattle.fab_node.specs.declared.role.Role.TheVariants as roles
 use Rattle.fab_node.specs.Standing.{GivenModel, IsGiven, NodeModel, RoleStands}
 use Rattle.fab_core.specs.Cores.{NodesStand, SlotStands, is_honest, setting, slot}
-use Rattle.fab_core.specs.Seen.{decided_as, decided_by, decided_in, ended_as, held_by, held_in, only_decided, outcome_by, outcome_in, outcomes_in, stock_as, stock_of}
+use Rattle.fab_nodes.specs.Seen.{decided_as, decided_by, decided_in, ended_as, held_by, held_in, only_decided, outcome_by, outcome_in, outcomes_in, stock_as, stock_of}
 use Rattle.fab_core.specs.Telling.{node_count, all_held, all_outcomes, held_here, outcomes_at}
 use Rattle.fab_core.proofs.Reached.{IsReached}
 use Rattle.fab_core.proofs.Slots.{no_store, role_here}

@@ -8,7 +8,6 @@ pub mod Grown
 pub mod Stepped
 pub mod Allowed
 pub mod Fallen
-pub mod Sent
 pub mod Wholly
 pub mod OfPlans
 pub mod Shortened

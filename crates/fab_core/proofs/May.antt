@@ -12,7 +12,7 @@ use Rattle.fab_world.specs.Machine.{World, Move, are_enabled, at_start, is_empty
 use Rattle.fab_world.specs.Serial.{attempts}
 use Rattle.fab_worker.specs.Records.{boots_in}
 use Rattle.fab_node.specs.Standing.{GivenModel, NodeModel, Stands}
-use Rattle.fab_core.specs.Acts.{MayPlan}
+use Rattle.fab_nodes.specs.Acts.{MayPlan}
 use Rattle.fab_core.specs.Cores.{EventHasDone, InnerHasDone, NodesStand, SlotStands, setting, slot, world_by}
 use Rattle.fab_core.specs.Planning.{CanPlan, HasFront, IsUp}
 use Rattle.fab_core.specs.Telling.{inner_of}

@@ -13,7 +13,7 @@ use Rattle.fab_node.specs.declared.plan.NodePlan.{NodePlan}
 use Rattle.fab_node.specs.declared.plan.NodePlan.TheVariants as plans
 use Rattle.fab_node.specs.Standing.{GivenModel, NodeModel, Stands}
 use Rattle.fab_node.specs.Deeds.{CallsJournal, IsPlanAt, IsPlanFor, deed, entry_in, is_recovery, record_in, sends_in, step_of}
-use Rattle.fab_core.specs.Acts.{IsAbout, calls}
+use Rattle.fab_nodes.specs.Acts.{IsAbout, calls}
 
 -- the record and the messages of a plan are those of its act
 pub sends_are : (g : GivenModel) (x : Node) (act : Act) (node : NodeModel) (plan : NodePlan) → IsPlanFor g x act node plan → sends_in plan ≡ (step_of act).sends

@@ -9,8 +9,8 @@ use Rattle.std.proofs.lemmas.List.Elements.{filter-append}
 use Rattle.fab_base.specs.declared.object.Object.{Object}
 use Rattle.fab_base.specs.declared.object.Tid.{Tid}
 use Rattle.fab_core.specs.Cores.{slot}
-use Rattle.fab_core.specs.Seen.{decided_in, left_if_decided, only_decided}
-use Rattle.fab_core.specs.Under.{last_under, under}
+use Rattle.fab_nodes.specs.Seen.{decided_in, left_if_decided, only_decided}
+use Rattle.fab_nodes.specs.Under.{last_under, under}
 use Rattle.fab_node.specs.Standing.{NodeModel}
 use Rattle.fab_base.specs.declared.object.Oid.{Oid}
 use Rattle.fab_base.specs.FlatMap.{is_same}

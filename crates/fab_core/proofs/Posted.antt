@@ -12,7 +12,7 @@ use Rattle.fab_world.specs.Serial.{attempts}
 use Rattle.fab_node.specs.Standing.{GivenModel, NodeModel}
 use Rattle.fab_core.specs.Cores.{IsCore, StandsFor, move_of, posts_from, setting, unmarked, world_by}
 use Rattle.fab_core.specs.Posts.{left_in}
-use Rattle.fab_core.specs.Transit.{AreSentOut, OnlyGainsLanes, bytes_for, is_up_at, waiting_at}
+use Rattle.fab_nodes.specs.Transit.{AreSentOut, OnlyGainsLanes, bytes_for, is_up_at, waiting_at}
 use Rattle.fab_core.proofs.Filled.{up_is}
 use Rattle.fab_core.proofs.Grown.{grown}
 use Rattle.fab_core.proofs.Stepped.{waiting_same}

@@ -17,9 +17,9 @@ use Rattle.fab_node.specs.declared.role.Role.{Role}
 use Rattle.fab_node.specs.declared.role.Role.TheVariants as roles
 use Rattle.fab_node.specs.Standing.{GivenModel, IsGiven, NodeModel, RoleStands}
 use Rattle.fab_core.specs.Cores.{NodesStand, SlotStands, StandsFor, is_honest, posts_from, setting, slot}
-use Rattle.fab_core.specs.Seen.{all_settled_in, begins_as, evaluates_as, has_post, is_up_and, lacks_as, may_in, may_post_in, none_wait_in, place_of}
-use Rattle.fab_core.specs.Seen.{recovers_in, settles_in, waits_in}
-use Rattle.fab_core.specs.Transit.{is_up_in}
+use Rattle.fab_nodes.specs.Seen.{all_settled_in, begins_as, evaluates_as, has_post, is_up_and, lacks_as, may_in, may_post_in, none_wait_in, place_of}
+use Rattle.fab_nodes.specs.Seen.{recovers_in, settles_in, waits_in}
+use Rattle.fab_nodes.specs.Transit.{is_up_in}
 use Rattle.fab_core.proofs.Filled.{up_is}
 use Rattle.fab_core.proofs.Reached.{IsReached}
 use Rattle.fab_core.proofs.Slots.{are_posts, empty_slot, failed_in, full_slot, role_here, running_in, running_out}

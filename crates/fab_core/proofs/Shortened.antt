@@ -18,10 +18,10 @@ use Rattle.fab_world.specs.Workers.{Act}
 use Rattle.fab_node.specs.Standing.{GivenModel, NodeModel, Stands}
 use Rattle.fab_node.specs.Deeds.{cut_at, deed, readied, record_in, step_if}
 use Rattle.fab_node.proofs.Acts.{cuts_own, cuts_other, is_deed}
-use Rattle.fab_core.specs.Acts.{HasRecord, IsCutTo, bytes_through, notes_in}
+use Rattle.fab_nodes.specs.Acts.{HasRecord, IsCutTo, bytes_through, notes_in}
 use Rattle.fab_core.specs.Cores.{InnerHasDone, IsCore, StandsFor, marked, move_of, setting, unmarked, world_by}
 use Rattle.fab_core.specs.Places.{AreOthers, HasRecordAt, IsCutToAt, IsLostAt}
-use Rattle.fab_core.specs.Transit.{OnlyGainsLanes}
+use Rattle.fab_nodes.specs.Transit.{OnlyGainsLanes}
 use Rattle.fab_core.proofs.Fallen.{IsDropped, cut_falls, fallen}
 use Rattle.fab_core.proofs.Filled.{stands_at}
 use Rattle.fab_core.proofs.Grown.{grown}

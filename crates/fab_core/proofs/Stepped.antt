@@ -17,11 +17,11 @@ use Rattle.fab_world.specs.Workers.{Act}
 use Rattle.fab_node.specs.Standing.{GivenModel, NodeModel, Stands}
 use Rattle.fab_node.specs.Deeds.{deed, done_by, readied, step_of}
 use Rattle.fab_node.proofs.Acts.{is_deed, does_own, does_other}
-use Rattle.fab_core.specs.Acts.{IsAbout, IsDone, bytes_through, taken}
+use Rattle.fab_nodes.specs.Acts.{IsAbout, IsDone, bytes_through, taken}
 use Rattle.fab_core.specs.Cores.{NodesStand, StandsFor, posts_from, setting, unmarked}
 use Rattle.fab_core.specs.Moved.{event_of}
 use Rattle.fab_core.specs.Places.{AreOthers, IsDoneAt}
-use Rattle.fab_core.specs.Transit.{AreSentOut, OnlyGainsLanes, bytes_for, is_up_at, waiting_at}
+use Rattle.fab_nodes.specs.Transit.{AreSentOut, OnlyGainsLanes, bytes_for, is_up_at, waiting_at}
 use Rattle.fab_core.proofs.Filled.{nodes_after, stands_at, up_is}
 use Rattle.fab_core.proofs.Tables.{bytes_same, ready_posts, ready_queue, ready_sent, taken_same, with_at_same}
 use Rattle.fab_core.proofs.Waiting.{NobodyWaits, acted_keeps}

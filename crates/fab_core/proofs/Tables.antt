@@ -9,22 +9,10 @@ use Rattle.fab_rights.specs.declared.rights.Rights.{Rights}
 use Rattle.fab_rights.specs.Computed.{has_bit, is_node}
 use Rattle.fab_rights.proofs.Bits.{bit_below, has_bit_exact}
 use Rattle.fab_world.specs.Machine.{Setting, World, Does, Fails, Cuts, form_of, node_of, with_at, rest_of, front_of, ready, bytes_in, may, is_running, steps}
-use Rattle.fab_core.specs.Acts.{bytes_through, taken}
+pub use Rattle.fab_nodes.proofs.Pairs.{with_at_kept, with_at_same}
+use Rattle.fab_nodes.specs.Acts.{bytes_through, taken}
 use Rattle.fab_core.specs.Cores.{unmarked}
 use Rattle.fab_core.specs.Moved.{event_of}
-
-pub with_at_same : {A B : Type 0} (f g : ℕ → B → A) (n : ℕ) (x y : B → A) → ((a : ℕ) (b : B) → f a b ≡ g a b) → ((b : B) → x b ≡ y b)
-    → (a : ℕ) (b : B) → with_at f n x a b ≡ with_at g n y a b
-with_at_same f g n x y there here a b =
-    elim (a == n) as (λ t. (if t then x else f a) b ≡ (if t then y else g a) b) [ true ↦ here b | false ↦ there a b ]
-
--- where it is the place itself, another is there already
-pub with_at_kept : {A : Type 0} (f : ℕ → ℕ → A) (n : ℕ) (x : ℕ → A) → ((b : ℕ) → x b ≡ f n b) → (a b : ℕ) → (a ≡ n → f n b ≡ f a b) → with_at f n x a b ≡ f a b
-with_at_kept f n x here a b same =
-    elim (cases_eq a n) [
-      | inl p ↦ ap (λ t. (if t then x else f a) b) (eq-eqb a n p) ∙ here b ∙ same p
-      | inr p ↦ ap (λ t. (if t then x else f a) b) (ne_eqb a n p)
-    ]
 
 taken_deliver : (f g : ℕ → ℕ → List (List ℕ)) (c d : ℕ) → ((a b : ℕ) → f a b ≡ g a b) → (a b : ℕ) → taken f (i.Deliver c d) a b ≡ taken g (i.Deliver c d) a b
 taken_deliver f g c d h a b =

@@ -8,7 +8,7 @@ use Rattle.fab_protocol.specs.Versions.{Rows}
 use Rattle.fab_world.specs.Workers.{Act, fresh, stays}
 use Rattle.fab_core.specs.Cores.{count_in}
 use Rattle.fab_core.specs.Telling.{inner_of, length_in, those_in}
-use Rattle.fab_core.specs.Under.{last_under, under}
+use Rattle.fab_nodes.specs.Under.{last_under, under}
 
 -- ---- rows under a name
 

@@ -15,8 +15,8 @@ use Rattle.fab_attempts.specs.Sessions.{requests_of}
 use Rattle.fab_node.specs.Standing.{GivenModel, NodeModel}
 use Rattle.fab_core.specs.Cores.{InnerHasDone, IsCore, SlotStands, move_of, setting, slot, world_by}
 use Rattle.fab_core.specs.Planning.{CanPlan}
-use Rattle.fab_core.specs.Seen.{held_in, TellsJobAt, may_in, may_post_in, outcome_in, outcomes_in}
-use Rattle.fab_core.specs.Transit.{is_up_in}
+use Rattle.fab_nodes.specs.Seen.{held_in, TellsJobAt, may_in, may_post_in, outcome_in, outcomes_in}
+use Rattle.fab_nodes.specs.Transit.{is_up_in}
 use Rattle.fab_core.specs.Telling.{node_count, TellsJob, all_held, all_outcomes, held_here}
 use Rattle.fab_core.proofs.Filled.{up_is}
 use Rattle.fab_core.proofs.Lasting.{all_held_are, all_outcomes_are, held_is, outcome_is}

@@ -17,11 +17,11 @@ use Rattle.fab_worker.specs.Records.{boots_in}
 use Rattle.fab_node.specs.Standing.{GivenModel, NodeModel, Stands}
 use Rattle.fab_node.specs.Deeds.{deed, failed}
 use Rattle.fab_node.proofs.Acts.{fails_own, fails_other, is_deed}
-use Rattle.fab_core.specs.Acts.{AreAmong, IsFailed, IsWaiting, StandsStill, bytes_through, calls, taken}
+use Rattle.fab_nodes.specs.Acts.{AreAmong, IsFailed, IsWaiting, StandsStill, bytes_through, calls, taken}
 use Rattle.fab_core.specs.Cores.{InnerHasDone, IsCore, StandsFor, is_honest, marked, move_of, setting, unmarked, world_by}
 use Rattle.fab_core.specs.Moved.{event_of}
 use Rattle.fab_core.specs.Places.{AreOthers, IsAt, IsDoneAt, IsFailedAt, IsStillAt, MayPlanAt}
-use Rattle.fab_core.specs.Transit.{AreSentOut, OnlyGainsLanes, bytes_to, is_up_at}
+use Rattle.fab_nodes.specs.Transit.{AreSentOut, OnlyGainsLanes, bytes_to, is_up_at}
 use Rattle.fab_core.proofs.Allowed.{allowed, honest_does}
 use Rattle.fab_core.proofs.Bounds.{boots_few, number_few}
 use Rattle.fab_core.proofs.Fallen.{IsDropped, drop_same, fail_falls, fallen}

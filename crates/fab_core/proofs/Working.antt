@@ -13,7 +13,7 @@ use Rattle.fab_node.specs.declared.role.Role.{Role}
 use Rattle.fab_node.specs.declared.role.Role.TheVariants as roles
 use Rattle.fab_node.specs.Standing.{GivenModel, IsGiven, NodeModel, RoleStands}
 use Rattle.fab_core.specs.Cores.{IsJobAt, NodesStand, SlotStands, setting, slot}
-use Rattle.fab_core.specs.Seen.{TellsJobAt, TellsJobOf, TellsWhere}
+use Rattle.fab_nodes.specs.Seen.{TellsJobAt, TellsJobOf, TellsWhere}
 use Rattle.fab_core.specs.Telling.{TellsJob, is_at_work}
 use Rattle.fab_core.proofs.Reached.{IsReached}
 use Rattle.fab_core.proofs.Slots.{role_here, running_in, running_out}

@@ -22,6 +22,7 @@ use Rattle.fab_world.specs.Machine.{Setting, World, Node, Move, at_start, runs, 
 use Rattle.fab_world.specs.Serial.{attempts}
 use Rattle.fab_settings.specs.Settings.{setting_of, posts_of}
 use Rattle.fab_node.specs.Standing.{GivenModel, IsGiven, JournalModel, NodeModel, Stands}
+pub use Rattle.fab_nodes.specs.Slots.{slot}
 
 -- ---- what contracts see
 
@@ -62,9 +63,6 @@ abbrev pub marked : Event → Move
 marked event = record { event = failed_in event; marked = true }
 
 -- ---- nodes, queues and posts by number
-
-abbrev pub slot : {A : Type 0} → List (Option A) → ℕ → Option A
-slot slots n = slice_index_or slots n None
 
 abbrev pub is_honest : GivenModel → ℕ → Bool
 is_honest g n = is_node g.rights n && not ((setting g).hostile n)

@@ -1,12 +1,8 @@
-pub mod Acts
 pub mod Cores
 pub mod Honest
 pub mod Moved
 pub mod Places
 pub mod Planning
 pub mod Posts
-pub mod Seen
 pub mod Starts
 pub mod Telling
-pub mod Transit
-pub mod Under

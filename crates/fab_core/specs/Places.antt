@@ -8,7 +8,7 @@ use Rattle.fab_world.specs.Machine.{Node, node_of}
 use Rattle.fab_node.specs.Standing.{GivenModel, JournalModel, NodeModel, Stands}
 use Rattle.fab_node.specs.Deeds.{down, failed}
 use Rattle.fab_core.specs.Cores.{count_in, slot}
-use Rattle.fab_core.specs.Acts.{HasRecord, IsAbout, IsCutTo, IsDone, IsFailed, IsReadyFor, MayPlan, StandsStill}
+use Rattle.fab_nodes.specs.Acts.{HasRecord, IsAbout, IsCutTo, IsDone, IsFailed, IsReadyFor, MayPlan, StandsStill}
 
 -- the node of this number has a slot
 pub record IsAt (n : ℕ) (nodes : List (Option NodeModel)) (node : NodeModel) : Type 0 where

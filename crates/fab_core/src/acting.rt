@@ -8,17 +8,17 @@ ghost use Rattle.fab_queues.specs.Channels.{spare_of};
 ghost use Rattle.fab_world.specs.Machine.{Node as Standing, node_of as node_in};
 ghost use Rattle.fab_node.specs.Deeds.{HasRoomFor, IsPlanAt, entry_in, failed, is_recovery};
 ghost use Rattle.fab_node.specs.Standing.{Stands};
-ghost use Rattle.fab_core.specs.Acts.{HasRecord, IsAbout, IsReadyFor, IsCutTo, IsDone, IsFailed, MayPlan, StandsStill};
+ghost use Rattle.fab_nodes.specs.Acts.{HasRecord, IsAbout, IsReadyFor, IsCutTo, IsDone, IsFailed, MayPlan, StandsStill};
 ghost use Rattle.fab_core.specs.Places.{AreOthers, HasRecordAt, IsCutToAt, IsDoneAt, IsFailedAt, IsLostAt, IsStillAt, MayPlanAt, journals_of};
 ghost use Rattle.fab_core.specs.Moved.{IsCaused};
-ghost use Rattle.fab_core.specs.Transit.{OnlyGainsLanes, bytes_to};
+ghost use Rattle.fab_nodes.specs.Transit.{OnlyGainsLanes, bytes_to};
 
 use crate::numbering::node_of;
-use crate::sending::make_room;
 use fab_device::{Journal, JournalError};
 use fab_eval::Done;
 use fab_net::{Inner, Step};
 use fab_node::{Given, Node, NodePlan};
+use fab_nodes::make_room;
 use fab_queues::Queues;
 
 /// The node plans what the event asks of it.

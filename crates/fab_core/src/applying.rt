@@ -10,13 +10,12 @@ ghost use Rattle.fab_core.specs.Moved.{IsCaused, IsCut, IsMoved, event_of as eve
 use crate::acting::act_at;
 use crate::applied::Applied;
 use crate::core_state::Core;
-use crate::noting::{bytes_of, failed_in, let_go, note};
-use crate::numbering::{event_of, node_of};
-use crate::sending::{send, take_front};
+use crate::numbering::{node_of, whole_in};
 use fab_base::{NoMemory, Seq};
 use fab_device::{Journal, JournalError};
 use fab_eval::Done;
-use fab_net::{Event, Inner, Logged, Step};
+use fab_net::{Event, Inner, Step};
+use fab_nodes::{bytes_of, failed_in, let_go, note, send, take_front};
 use std::alloc::AllocError;
 
 impl<J: Journal> Core<J> {
@@ -75,14 +74,7 @@ impl<J: Journal> Core<J> {
                     node_of(inner),
                     sends,
                 );
-                let logged = Logged {
-                    event: event_of(inner),
-                    bytes,
-                    notes,
-                    whole: true,
-                    marked: false,
-                };
-                note(&mut self.log, logged);
+                note(&mut self.log, whole_in(inner, bytes, notes));
                 Ok(Applied::Whole)
             }
             Err(JournalError::Memory) => Err(AllocError),

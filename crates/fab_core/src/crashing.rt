@@ -10,11 +10,11 @@ ghost use Rattle.fab_core.specs.Places.{AreOthers, HasNode, IsDownAt, journals_o
 
 use crate::applied::Applied;
 use crate::core_state::Core;
-use crate::noting::note;
 use fab_base::{NoMemory, Seq};
 use fab_device::Journal;
 use fab_net::{Event, Logged};
 use fab_node::Node;
+use fab_nodes::note;
 
 /// The node of this number goes down.
 fn crash_at<J: Journal>(nodes: &mut Vec<Option<Node<J>>>, n: u16)

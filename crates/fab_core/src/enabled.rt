@@ -10,17 +10,19 @@ ghost use Rattle.fab_node.specs.Standing.{GivenModel, IsGiven, OnlyGainsRoom, St
 ghost use Rattle.fab_queues.specs.Channels.{queue_of};
 ghost use Rattle.fab_core.specs.Cores.{EventHasDone, InnerHasDone, NodesStand, setting, slot, unmarked, world};
 ghost use Rattle.fab_core.specs.Planning.{CanDeliver, CanGiveUp, CanPlan, CanResume, IsThere, IsUncut};
-ghost use Rattle.fab_core.specs.Seen.{may_in, may_post_in};
+ghost use Rattle.fab_nodes.specs.Seen.{may_in, may_post_in};
 ghost use Rattle.fab_core.specs.Telling.{MayBeDone, NodesGain, OnlyGainRoom, inner_of, length_in};
 
 use crate::core_state::Core;
-use crate::seen::{is_node, is_up, may_begin, may_recover, may_resume, node_at, waits_for};
-use crate::settled::{all_settled, has_post, waits};
 use fab_base::NoMemory;
 use fab_device::Journal;
 use fab_eval::Done;
 use fab_net::{Event, Inner};
 use fab_node::{Given, Node, NodePlan, Role};
+use fab_nodes::{
+    all_settled, has_post, is_node, is_up, may_begin, may_recover, may_resume, node_at, waits,
+    waits_for,
+};
 use fab_queues::Queues;
 
 /// How long the record of a worker's recovery is.
@@ -55,11 +57,13 @@ fn may<J: Journal>(
         Inner::Begin(worker) => may_begin(nodes, worker),
         Inner::Resume(worker) => may_resume(nodes, worker),
         Inner::Deliver(sender, receiver) => {
-            is_up(nodes, receiver) && is_node(given, sender) && waits(queues, sender, receiver)
+            is_up(nodes, receiver)
+                && is_node(given.rights(), sender)
+                && waits(queues, sender, receiver)
         }
         Inner::Idle(worker, node) => {
             waits_for(nodes, worker, node)
-                && is_node(given, node)
+                && is_node(given.rights(), node)
                 && all_settled(given, nodes, queues, places)
         }
         Inner::Recover(node) => may_recover(nodes, node),
@@ -75,7 +79,7 @@ fn may_post<J: Journal>(
 ) -> bool
     ensures { result ≡ may_post_in given.now nodes.now places.now sender }
 {
-    is_node(given, sender)
+    is_node(given.rights(), sender)
         && node_at(nodes, usize::from(sender)).is_none()
         && has_post(given, places, sender)
 }

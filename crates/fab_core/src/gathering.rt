@@ -4,7 +4,7 @@ ghost use Rattle.std.specs.Prelude.{◌≡◌, ◌==◌, ◌<◌, ◌^◌, ℕ, 
 ghost use Rattle.std.specs.List.{find, range_with_len};
 ghost use Rattle.fab_attempts.specs.Sessions.{requests_of};
 ghost use Rattle.fab_core.specs.Cores.{slot, world};
-ghost use Rattle.fab_core.specs.Seen.{held_in, outcomes_in};
+ghost use Rattle.fab_nodes.specs.Seen.{held_in, outcomes_in};
 ghost use Rattle.fab_core.specs.Telling.{all_held, all_outcomes, node_count};
 
 use crate::core_state::Core;

@@ -7,15 +7,15 @@ ghost use Rattle.fab_protocol.specs.Stores.{behind};
 ghost use Rattle.fab_protocol.specs.Tables.{placed_all, row_of};
 ghost use Rattle.fab_protocol.specs.Versions.{begun, left_by, name_of, raised};
 ghost use Rattle.fab_core.specs.Cores.{slot, world};
-ghost use Rattle.fab_core.specs.Seen.{decided_as, decided_in, held_in, left_if_decided, only_decided, stock_of};
+ghost use Rattle.fab_nodes.specs.Seen.{decided_as, decided_in, held_in, left_if_decided, only_decided, stock_of};
 ghost use Rattle.fab_core.specs.Telling.{held_here};
-ghost use Rattle.fab_core.specs.Under.{last_under, under};
+ghost use Rattle.fab_nodes.specs.Under.{last_under, under};
 
 use crate::core_state::Core;
-use crate::seen::node_at;
 use fab_base::{Items, NoMemory, Object, Oid, Seq, Tid};
 use fab_device::Journal;
 use fab_node::{Node, Role};
+use fab_nodes::node_at;
 use fab_store::Store;
 use fab_versions::{Table, next_version};
 use std::alloc::Global;

@@ -12,14 +12,10 @@ mod gathering;
 mod holding;
 mod laws;
 mod making;
-mod noting;
 mod numbering;
 mod posting;
 mod reading;
 mod refused;
-mod seen;
-mod sending;
-mod settled;
 
 pub use applied::Applied;
 pub use core_state::Core;

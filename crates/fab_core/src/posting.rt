@@ -10,12 +10,11 @@ ghost use Rattle.fab_core.specs.Posts.{left_in};
 
 use crate::applied::Applied;
 use crate::core_state::Core;
-use crate::noting::note;
-use crate::sending::{make_room_for, send_one};
 use fab_base::{NoMemory, Seq};
 use fab_device::Journal;
 use fab_net::{Event, Logged};
 use fab_node::Given;
+use fab_nodes::{make_room_for, note, send_one};
 use fab_tree::resolved::Post;
 
 /// A node's next post behind a place in the list, and the place behind it.

@@ -7,16 +7,16 @@ ghost use Rattle.fab_eval.specs.Attempts.{is_made_in};
 ghost use Rattle.fab_protocol.specs.Versions.{names_of};
 ghost use Rattle.fab_world.specs.Machine.{at_start, logs, outcome};
 ghost use Rattle.fab_core.specs.Cores.{HasPlaces, count_in, is_honest, setting, slot, world};
-ghost use Rattle.fab_core.specs.Seen.{TellsJobAt, TellsJobOf, ended_as, outcome_in};
+ghost use Rattle.fab_nodes.specs.Seen.{TellsJobAt, TellsJobOf, ended_as, outcome_in};
 ghost use Rattle.fab_core.specs.Telling.{TellsJob, those_in};
 
 use crate::core_state::Core;
-use crate::seen::node_at;
 use fab_base::{NoMemory, Seq};
 use fab_device::Journal;
 use fab_eval::Job;
 use fab_net::{Logged, ReqOutcome};
 use fab_node::{Node, Role};
+use fab_nodes::node_at;
 use fab_rights::Rights;
 use fab_tree::resolved::Resolved;
 use fab_worker::WorkerState;

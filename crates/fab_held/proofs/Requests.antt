@@ -16,8 +16,8 @@ use Rattle.fab_language.specs.Heaps.{is_among}
 use Rattle.fab_language.specs.Meaning.{Meant, meaning}
 use Rattle.fab_labelling.specs.Claims.{IsWellLabelled}
 use Rattle.fab_labelling.specs.Obligations.{holds}
-use Rattle.fab_check.specs.Decided.{decided}
-use Rattle.fab_check.proofs.Deciding.{Decides-claim}
+use Rattle.fab_authority.specs.Decided.{decided}
+use Rattle.fab_authority.proofs.Deciding.{Decides-claim}
 use Rattle.fab_laws.specs.Changes.{OnlyChanges}
 use Rattle.fab_laws.specs.Kinds.{Claim, given, counted, made, claims_of}
 use Rattle.fab_laws.specs.Origins.{Passes, MakesPassing, OnlyPassing}

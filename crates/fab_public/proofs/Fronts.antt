@@ -1,6 +1,6 @@
 -- The public replay goes through the record in order.
 use Rattle.std.proofs.Common.{◌≡◌, ℕ, ◌+◌, ◌<◌, List, [], ◌∷◌, ◌++◌, drop, length, get_or, refl, sym, ap, ◌∙◌, append_assoc}
-use Rattle.fab_check.proofs.Walks.{front}
+use Rattle.fab_authority.proofs.Walks.{front}
 use Rattle.fab_release.specs.declared.release.Released.{Released}
 use Rattle.fab_release.specs.Sights.{Sight, Public}
 use Rattle.fab_release.specs.Replay.{Rebuilt, next, sent_at, sent_behind}

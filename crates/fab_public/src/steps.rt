@@ -11,12 +11,12 @@ ghost use Rattle.fab_public.specs.Settings.{public_at, sight_at};
 ghost use Rattle.fab_public.specs.States.{IsKept, kept_at, unwatched, worker_of};
 
 use crate::leaving::leaves_at;
-use crate::messages::one;
 use crate::setting::Setting;
 use crate::states::{Kept, Watched};
 use crate::workers::Change;
 use crate::{stores, workers};
 use fab_base::{Answer, Message, NoMemory, Object, Oid, Seq, Tid};
+use fab_parts::one;
 use fab_release::{Release, Released};
 use fab_rights::Rights;
 use fab_sent::{Sends, Sent};

@@ -22,7 +22,7 @@ ghost use Rattle.fab_public.specs.States.{IsCaching, commitment_of, stage_of, wo
 ghost use Rattle.fab_public.specs.declared.workers.Change.TheVariants.{Ask, End, Wake};
 
 use crate::leaving::{is_one_tid, leaves, puts};
-use crate::messages::{one, prepares, sharers, to_all, wakes};
+use crate::messages::{sharers, wakes};
 use crate::run::{run, tid_of};
 use crate::setting::Setting;
 use crate::states::{Commitment, Stage, Watched};
@@ -32,7 +32,7 @@ use fab_base::{Message, NoMemory, Object, Oid, Seq, Tid, Value};
 use fab_cache::Caches;
 use fab_language::Ending;
 use fab_meaning::Meant;
-use fab_parts::{copies, participants, parts_from};
+use fab_parts::{copies, one, participants, parts_from, prepares, to_all};
 use fab_protocol::Parts;
 use fab_rights::{Rights, is_in};
 use fab_sent::Sends;

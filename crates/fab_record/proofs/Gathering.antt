@@ -1,7 +1,7 @@
 -- What is gathered behind a list, part by part.
 use Rattle.std.proofs.Common.{◌≡◌, ℕ, ◌+◌, ◌<◌, ◌≤◌, List, [], ◌∷◌, ◌++◌, drop, length, get_or, refl, sym, ap, ◌∙◌, append_assoc, length-drop, drop-cons, add-one, arith}
 use Rattle.std.specs.List.{flat_map}
-use Rattle.fab_check.proofs.Walks.{front}
+use Rattle.fab_authority.proofs.Walks.{front}
 
 -- two parts
 pub two : {X : Type 0} (n m k xs ys zs : List X) → zs ≡ xs ++ ys → m ≡ n ++ xs → k ≡ m ++ ys → k ≡ n ++ zs

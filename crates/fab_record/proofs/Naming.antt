@@ -11,7 +11,7 @@ use Rattle.fab_net.specs.declared.note.Note.{Note}
 use Rattle.fab_net.specs.declared.note.Note.TheVariants as note
 use Rattle.fab_release.specs.Record.{is_in_view, seen_behind}
 use Rattle.fab_release.specs.Sights.{Sight}
-use Rattle.fab_check.proofs.Walks.{front}
+use Rattle.fab_authority.proofs.Walks.{front}
 use Rattle.fab_nested.proofs.Naming as nested
 use Rattle.fab_record.proofs.Gathering.{front_at, past_end}
 use Rattle.fab_record.proofs.Listing.{insert_more, or_false}

@@ -7,7 +7,7 @@ use Rattle.fab_base.specs.declared.object.Oid.{Oid}
 use Rattle.fab_base.specs.declared.object.Value.{Value}
 use Rattle.fab_base.specs.FlatMap.{is_among, is_same}
 use Rattle.fab_base.specs.contracts.object.OidPartialEq as oids
-use Rattle.fab_check.proofs.Walks as walks
+use Rattle.fab_authority.proofs.Walks as walks
 use Rattle.fab_release.specs.declared.release.Release.{Release}
 use Rattle.fab_release.specs.declared.release.Release.TheVariants.{Down, Got}
 use Rattle.fab_release.specs.declared.release.Released.{Released}

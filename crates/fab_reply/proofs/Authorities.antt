@@ -21,7 +21,7 @@ use Rattle.fab_language.specs.MethodNumbers.{method_of, methods_of}
 use Rattle.fab_language.specs.Numbers.{resolved}
 use Rattle.fab_flows.proofs.Declared.{left_nil, right_nil, each_nil, number_below, few_principals, first_of}
 use Rattle.fab_flows.specs.Numbers.{HasPrincipals}
-use Rattle.fab_check.specs.Authority.{HasFew}
+use Rattle.fab_authority.specs.Authority.{HasFew}
 
 -- the authority of a method with numbers
 abbrev IsGiven : NumberedMethod → Type 0

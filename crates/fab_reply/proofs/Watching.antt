@@ -3,7 +3,7 @@ use Rattle.std.proofs.Common.{◌≡◌, ℕ, zero, suc, ◌<◌, ◌||◌, Bool
 use Rattle.std.specs.Int.{bit_at}
 use Rattle.std.specs.Prelude.{option_map, unwrap_or}
 use Rattle.std.proofs.lemmas.Nat.Bits.{bit_at-lt, bit_at_or}
-use Rattle.fab_check.proofs.Deciding.{bit_is_set, set_is_bit}
+use Rattle.fab_authority.proofs.Deciding.{bit_is_set, set_is_bit}
 use Rattle.fab_tree.specs.declared.start.Start.{Start}
 use Rattle.fab_tree.specs.declared.declaration.Role.{Role}
 use Rattle.fab_tree.specs.declared.declaration.Role.TheVariants as roles

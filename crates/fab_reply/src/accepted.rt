@@ -3,7 +3,7 @@ ghost use Rattle.std.specs.Prelude.{◌≡◌, None as Nothing, [], IfOk, MatchO
 ghost use Rattle.fab_tree.specs.Limits.{first_passed};
 ghost use Rattle.fab_language.specs.Faults.{faults, IsFirst};
 ghost use Rattle.fab_language.specs.Numbers.{resolved as resolved_of};
-ghost use Rattle.fab_check.specs.Authority.{HasFew};
+ghost use Rattle.fab_authority.specs.Authority.{HasFew};
 ghost use Rattle.fab_flows.specs.Numbers.{HasPrincipals};
 ghost use Rattle.fab_labelling.specs.Claims.{IsWellLabelled};
 ghost use Rattle.fab_labelling.specs.Refusals.{IsFirstRefusal};

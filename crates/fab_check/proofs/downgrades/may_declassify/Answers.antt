@@ -1,5 +1,5 @@
 use Rattle.fab_check.specs.Shown.{numbers_of}
-use Rattle.fab_check.proofs.Deciding.{declassify_decided}
+use Rattle.fab_authority.proofs.Deciding.{declassify_decided}
 use Rattle.fab_check.proofs.downgrades.may_declassify.Goals as goal
 
 pub returns : goal.returns

@@ -1,6 +1,6 @@
 use Rattle.std.proofs.lemmas.Bool.Decides.{same_from_decides}
-use Rattle.fab_check.specs.Decided.{reaches}
-use Rattle.fab_check.proofs.Deciding.{Decides-acts}
+use Rattle.fab_authority.specs.Decided.{reaches}
+use Rattle.fab_authority.proofs.Deciding.{Decides-acts}
 use Rattle.fab_check.proofs.placement.acts_for.Goals as goal
 
 pub returns : goal.returns

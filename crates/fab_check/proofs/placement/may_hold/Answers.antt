@@ -1,4 +1,4 @@
-use Rattle.fab_check.proofs.Deciding.{placement_decided}
+use Rattle.fab_authority.proofs.Deciding.{placement_decided}
 use Rattle.fab_check.proofs.placement.may_hold.Goals as goal
 
 pub returns : goal.returns

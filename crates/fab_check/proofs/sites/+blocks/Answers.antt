@@ -6,7 +6,7 @@ use Rattle.fab_labelling.specs.Obligations.{under}
 use Rattle.fab_check.specs.Shown.{labels_of}
 use Rattle.fab_check.specs.Sited.{all_sited, with_sites}
 use Rattle.fab_check.proofs.Sitings.{atomic_sites, fail_sites, if_sites, none_sited, same_sites, site_first, sited_in_parts, three_parts, two_parts, while_sites, write_sites}
-use Rattle.fab_check.proofs.Walks.{both, end, step, three}
+use Rattle.fab_authority.proofs.Walks.{both, end, step, three}
 use Rattle.fab_check.proofs.sites.+blocks.Goals as goal
 
 pub put_block-loop-statement-preserved : goal.put_block-loop-statement-preserved

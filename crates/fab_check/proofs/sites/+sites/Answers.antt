@@ -6,7 +6,7 @@ use Rattle.fab_tree.specs.declared.resolved.Operand.{Operand, out-Operand}
 use Rattle.fab_labelling.specs.Sites.{sites_in}
 use Rattle.fab_check.specs.Sited.{with_sites}
 use Rattle.fab_check.proofs.Sitings.{chain_sites, compared_sites, no_form_sites, no_sites, one_site, read_sites, sites_in_parts}
-use Rattle.fab_check.proofs.Walks.{both, end, step}
+use Rattle.fab_authority.proofs.Walks.{both, end, step}
 use Rattle.fab_check.proofs.sites.+sites.Goals as goal
 
 abbrev gathered : List ℕ → List (List ℕ) → List ℕ → List (List ℕ)

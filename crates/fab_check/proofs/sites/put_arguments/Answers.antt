@@ -3,7 +3,7 @@ use Rattle.std.specs.List.{flat_map}
 use Rattle.fab_labelling.specs.Sites.{sites_in}
 use Rattle.fab_check.specs.Sited.{with_sites}
 use Rattle.fab_check.proofs.Sitings.{no_sites, sites_in_parts}
-use Rattle.fab_check.proofs.Walks.{end, step}
+use Rattle.fab_authority.proofs.Walks.{end, step}
 use Rattle.fab_check.proofs.sites.put_arguments.Goals as goal
 
 pub loop-argument-preserved : goal.loop-argument-preserved

@@ -4,7 +4,7 @@ use Rattle.fab_tree.specs.declared.resolved.Method.{Method}
 use Rattle.fab_labelling.specs.Sites.{method_sites}
 use Rattle.fab_check.specs.Sited.{all_sited}
 use Rattle.fab_check.proofs.Sitings.{none_sited, sited_in_parts}
-use Rattle.fab_check.proofs.Walks.{end, step}
+use Rattle.fab_authority.proofs.Walks.{end, step}
 use Rattle.fab_check.proofs.sites.put_methods.Goals as goal
 
 pub loop-method-preserved : goal.loop-method-preserved

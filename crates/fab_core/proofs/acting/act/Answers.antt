@@ -5,7 +5,7 @@ use Rattle.fab_queues.specs.Channels.{spare_of}
 use Rattle.fab_world.specs.Machine.{Node}
 use Rattle.fab_node.specs.Standing.{Stands}
 use Rattle.fab_node.specs.Deeds.{deed, done_by}
-use Rattle.fab_core.specs.Transit.{bytes_to}
+use Rattle.fab_nodes.specs.Transit.{bytes_to}
 use Rattle.fab_core.proofs.OfPlans.{plan_calls, recovers_calls, sends_are}
 use Rattle.fab_core.proofs.acting.act.Goals as goal
 

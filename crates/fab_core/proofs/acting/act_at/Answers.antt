@@ -3,7 +3,7 @@ use Rattle.std.specs.Prelude.{slice_set}
 use Rattle.fab_net.specs.declared.note.Step.{Step}
 use Rattle.fab_world.specs.Machine.{Node, node_of}
 use Rattle.fab_node.specs.Standing.{Stands}
-use Rattle.fab_core.specs.Acts.{IsAbout, IsCutTo, IsDone}
+use Rattle.fab_nodes.specs.Acts.{IsAbout, IsCutTo, IsDone}
 use Rattle.fab_core.specs.Places.{IsCutToAt, IsDoneAt}
 use Rattle.fab_core.proofs.Filled.{caused_by, closed_at, if_ok, opened, others_at}
 use Rattle.fab_core.proofs.acting.act_at.Goals as goal

@@ -3,7 +3,7 @@ use Rattle.std.specs.Prelude.{slice_set}
 use Rattle.fab_net.specs.declared.note.Step.{Step}
 use Rattle.fab_world.specs.Machine.{Node, node_of}
 use Rattle.fab_node.specs.Standing.{NodeModel, Stands}
-use Rattle.fab_core.specs.Acts.{HasRecord, IsAbout, IsCutTo, MayPlan}
+use Rattle.fab_nodes.specs.Acts.{HasRecord, IsAbout, IsCutTo, MayPlan}
 use Rattle.fab_core.specs.Places.{IsCutToAt}
 use Rattle.fab_core.proofs.Filled.{caused_by, closed_at, if_ok, opened, others_at, same_node}
 use Rattle.fab_core.proofs.acting.act_cut_at.Goals as goal

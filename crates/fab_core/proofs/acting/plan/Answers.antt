@@ -3,7 +3,7 @@ use Rattle.fab_net.specs.declared.event.Inner.{Inner}
 use Rattle.fab_world.specs.Machine.{Node, node_of}
 use Rattle.fab_node.specs.Standing.{Stands}
 use Rattle.fab_node.specs.Deeds.{IsPlanAt}
-use Rattle.fab_core.specs.Acts.{IsAbout}
+use Rattle.fab_nodes.specs.Acts.{IsAbout}
 use Rattle.fab_core.proofs.OfPlans.{begin_at, deliver_at, idle_at, resume_at}
 use Rattle.fab_core.proofs.acting.plan.Goals as goal
 

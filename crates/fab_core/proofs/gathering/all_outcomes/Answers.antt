@@ -3,7 +3,7 @@ use Rattle.std.specs.List.{range_with_len}
 use Rattle.fab_net.specs.declared.outcome.ReqOutcome.{ReqOutcome}
 use Rattle.fab_attempts.specs.Sessions.{requests_of}
 use Rattle.fab_core.specs.Cores.{slot}
-use Rattle.fab_core.specs.Seen.{outcomes_in}
+use Rattle.fab_nodes.specs.Seen.{outcomes_in}
 use Rattle.fab_core.proofs.Ranges.{map_more}
 use Rattle.fab_core.proofs.gathering.all_outcomes.Goals as goal
 

@@ -1,6 +1,6 @@
 use Rattle.std.proofs.Common.{[], ◌∷◌, ◌++◌, map, ap, sym, ◌∙◌}
 use Rattle.std.specs.List.{range_with_len}
-use Rattle.fab_core.specs.Seen.{held_in}
+use Rattle.fab_nodes.specs.Seen.{held_in}
 use Rattle.fab_core.proofs.Ranges.{map_more}
 use Rattle.fab_core.proofs.gathering.all_rows.Goals as goal
 

@@ -1,6 +1,6 @@
 use Rattle.std.proofs.Common.{◌+◌, [], ◌∷◌, ◌++◌, ap, sym, ◌∙◌}
 use Rattle.fab_core.specs.Cores.{slot}
-use Rattle.fab_core.specs.Seen.{outcome_in, outcomes_in}
+use Rattle.fab_nodes.specs.Seen.{outcome_in, outcomes_in}
 use Rattle.fab_core.proofs.Ranges.{map_more}
 use Rattle.fab_core.proofs.gathering.outcomes_in.Goals as goal
 

@@ -1,7 +1,7 @@
 use Rattle.std.proofs.Common.{◌≡◌, length, flat_map}
 use Rattle.fab_protocol.specs.Versions.{left_by}
-use Rattle.fab_core.specs.Seen.{only_decided}
-use Rattle.fab_core.specs.Under.{last_under}
+use Rattle.fab_nodes.specs.Seen.{only_decided}
+use Rattle.fab_nodes.specs.Under.{last_under}
 use Rattle.fab_core.proofs.holding.decided_under.Given as goal
 
 -- behind the transactions that are left none changes it

@@ -1,6 +1,6 @@
 use Rattle.std.proofs.Common.{◌≡◌, length}
 use Rattle.fab_protocol.specs.Stores.{behind}
-use Rattle.fab_core.specs.Seen.{only_decided}
+use Rattle.fab_nodes.specs.Seen.{only_decided}
 use Rattle.fab_core.proofs.holding.put_decided.Given as goal
 
 -- what is left is put behind what was put

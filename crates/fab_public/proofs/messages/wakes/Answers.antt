@@ -2,7 +2,7 @@ use Rattle.std.proofs.Common.{◌++◌, ◌∙◌}
 use Rattle.fab_base.specs.declared.message.Message.TheVariants.{Boot}
 use Rattle.fab_sent.specs.Messages.{all_spelled}
 use Rattle.fab_world.specs.Workers.{to_all}
-use Rattle.fab_public.proofs.Messaging.{two_lists}
+use Rattle.fab_parts.proofs.Spelled.{two_lists}
 use Rattle.fab_public.proofs.messages.wakes.Goals as goal
 
 pub returns : goal.returns

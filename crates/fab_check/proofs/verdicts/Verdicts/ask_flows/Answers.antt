@@ -1,4 +1,4 @@
-use Rattle.fab_check.proofs.Deciding.{flows_decided, flows_to_itself}
+use Rattle.fab_authority.proofs.Deciding.{flows_decided, flows_to_itself}
 use Rattle.fab_check.proofs.verdicts.Verdicts.ask_flows.Goals as goal
 
 pub returns-then-from-to : goal.returns-then-from-to

@@ -1,4 +1,4 @@
-use Rattle.fab_check.proofs.Deciding.{conf_decided, conf_to_itself}
+use Rattle.fab_authority.proofs.Deciding.{conf_decided, conf_to_itself}
 use Rattle.fab_check.proofs.verdicts.Verdicts.ask_flows_conf.Goals as goal
 
 pub returns-then-from-to : goal.returns-then-from-to

@@ -9,7 +9,7 @@ use Rattle.std.proofs.lemmas.Result.{err_from_is_err_and}
 use Rattle.std.specs.declared.alloc.AllocError.{AllocError}
 use Rattle.fab_core.specs.declared.applied.Applied.{Applied}
 use Rattle.fab_core.specs.declared.applied.Applied.TheVariants.{Cut, Whole}
-use Rattle.fab_core.specs.Acts.{notes_in}
+use Rattle.fab_nodes.specs.Acts.{notes_in}
 use Rattle.fab_core.specs.Cores.{IsCore, marked, move_of, setting, unmarked, world_by}
 use Rattle.fab_core.specs.Moved.{IsMoved}
 use Rattle.fab_core.specs.Places.{IsCutToAt, journals_of}

@@ -15,7 +15,7 @@ use Rattle.fab_core.specs.declared.applied.Applied.TheVariants.{Cut, Whole}
 use Rattle.fab_core.specs.Cores.{IsCore, marked, move_of, setting, unmarked, world_by}
 use Rattle.fab_core.specs.Moved.{IsMoved, IsCaused, event_of}
 use Rattle.fab_core.specs.Places.{IsDoneAt, IsFailedAt, journals_of}
-use Rattle.fab_core.specs.Transit.{AreSentOut, bytes_to, is_up_at}
+use Rattle.fab_nodes.specs.Transit.{AreSentOut, bytes_to, is_up_at}
 use Rattle.fab_core.proofs.Fallen.{IsDropped}
 use Rattle.fab_core.proofs.Filled.{none_caused}
 use Rattle.fab_core.proofs.Grown.{moves_more}
@@ -84,7 +84,7 @@ pub invariant_of-self-in-Ok : goal.invariant_of-self-in-Ok
 invariant_of-self-in-Ok g c = (
   subst (λ (l : List Logged). IsCore c.self.inside.given c.act_at.new.nodes.items c.send.new.queues c.self.inside.places.items l)
       (sym (c.note.ensures ∙
-      (λ j. c.reserve.ensures.items j ++ record { event = c.event_of.ensures j; bytes = c.in_ok-bytes.bytes; notes = c.in-Ok.step.notes; whole = true; marked = false } ∷ [])))
+      (λ j. c.reserve.ensures.items j ++ c.whole_in.ensures j ∷ [])))
       (whole c.self.inside.given c.self.inside.nodes.items c.self.inside.queues c.self.inside.places.items c.self.inside.log.items c.self.invariant.0 c.args.inner
       (may_in c.args.self.now c.self.inside.given c.self.inside.log.items c.self.inside.nodes.items c.self.view_is c.args.inner c.requires.enabled)
       (few_in c.args.self.now c.self.inside.given c.self.inside.log.items c.self.inside.nodes.items c.self.view_is c.requires.few) c.in_ok-bytes.bytes c.in_ok-bytes.ensures
@@ -103,7 +103,7 @@ pub returns-in-Ok : goal.returns-in-Ok
 returns-in-Ok g c =
     moved_on c.args.self.now c.self.inside.given c.self.inside.log.items c.self.inside.nodes.items c.self.view_is (event_of c.args.inner) Whole c.note.new.log.items c.act_at.new.nodes.items
     (ap (map move_of) (c.note.ensures ∙
-    (λ j. c.reserve.ensures.items j ++ record { event = c.event_of.ensures j; bytes = c.in_ok-bytes.bytes; notes = c.in-Ok.step.notes; whole = true; marked = false } ∷ []))
+    (λ j. c.reserve.ensures.items j ++ c.whole_in.ensures j ∷ []))
     ∙ moves_more (setting c.self.inside.given) (world_by c.self.inside.given (map move_of c.self.inside.log.items)) c.self.inside.log.items (unmarked (event_of c.args.inner))
     (record { event = event_of c.args.inner; bytes = c.in_ok-bytes.bytes; notes = c.in-Ok.step.notes; whole = true; marked = false })
     (entry_whole c.self.inside.given c.self.inside.nodes.items c.self.inside.queues c.self.inside.places.items c.self.inside.log.items c.self.invariant.0 c.args.inner

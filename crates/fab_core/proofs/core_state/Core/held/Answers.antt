@@ -2,9 +2,9 @@ use Rattle.std.proofs.Common.{List, ap, ◌∙◌}
 use Rattle.std.specs.Prelude.{Option}
 use Rattle.fab_node.specs.Standing.{NodeModel}
 use Rattle.fab_core.specs.Cores.{CoreModel, world}
-use Rattle.fab_core.specs.Seen.{held_in}
+use Rattle.fab_nodes.specs.Seen.{held_in}
 use Rattle.fab_core.specs.Telling.{held_here}
-use Rattle.fab_core.specs.Under.{under}
+use Rattle.fab_nodes.specs.Under.{under}
 use Rattle.fab_core.proofs.Whole.{core_held}
 use Rattle.fab_core.proofs.core_state.Core.held.Goals as goal
 

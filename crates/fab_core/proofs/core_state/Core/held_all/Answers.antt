@@ -3,7 +3,7 @@ use Rattle.std.specs.Prelude.{Option}
 use Rattle.std.specs.List.{range_with_len}
 use Rattle.fab_node.specs.Standing.{NodeModel}
 use Rattle.fab_core.specs.Cores.{CoreModel, world}
-use Rattle.fab_core.specs.Seen.{held_in}
+use Rattle.fab_nodes.specs.Seen.{held_in}
 use Rattle.fab_core.specs.Telling.{all_held, node_count}
 use Rattle.fab_core.proofs.Whole.{core_held_all}
 use Rattle.fab_core.proofs.core_state.Core.held_all.Goals as goal

@@ -3,7 +3,7 @@ use Rattle.std.specs.Prelude.{Option}
 use Rattle.fab_world.specs.Machine.{is_running}
 use Rattle.fab_node.specs.Standing.{NodeModel}
 use Rattle.fab_core.specs.Cores.{CoreModel, setting, slot, world}
-use Rattle.fab_core.specs.Transit.{is_up_in}
+use Rattle.fab_nodes.specs.Transit.{is_up_in}
 use Rattle.fab_core.proofs.Whole.{core_up}
 use Rattle.fab_core.proofs.core_state.Core.is_running.Goals as goal
 

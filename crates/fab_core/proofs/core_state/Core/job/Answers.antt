@@ -3,7 +3,7 @@ use Rattle.std.specs.Prelude.{Option, IfOk}
 use Rattle.fab_eval.specs.declared.job.Job.{Job}
 use Rattle.fab_node.specs.Standing.{NodeModel}
 use Rattle.fab_core.specs.Cores.{CoreModel, slot, world}
-use Rattle.fab_core.specs.Seen.{TellsJobAt}
+use Rattle.fab_nodes.specs.Seen.{TellsJobAt}
 use Rattle.fab_core.specs.Telling.{TellsJob}
 use Rattle.fab_core.proofs.Whole.{core_tells}
 use Rattle.fab_core.proofs.Filled.{if_ok}

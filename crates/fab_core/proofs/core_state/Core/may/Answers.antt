@@ -3,7 +3,7 @@ use Rattle.std.specs.Prelude.{Option}
 use Rattle.fab_world.specs.Machine.{may}
 use Rattle.fab_node.specs.Standing.{NodeModel}
 use Rattle.fab_core.specs.Cores.{CoreModel, setting, world}
-use Rattle.fab_core.specs.Seen.{may_in}
+use Rattle.fab_nodes.specs.Seen.{may_in}
 use Rattle.fab_core.proofs.Whole.{core_may}
 use Rattle.fab_core.proofs.core_state.Core.may.Goals as goal
 

@@ -3,7 +3,7 @@ use Rattle.std.specs.Prelude.{Option}
 use Rattle.fab_world.specs.Machine.{Posts, enabled}
 use Rattle.fab_node.specs.Standing.{NodeModel}
 use Rattle.fab_core.specs.Cores.{CoreModel, setting, world}
-use Rattle.fab_core.specs.Seen.{may_post_in}
+use Rattle.fab_nodes.specs.Seen.{may_post_in}
 use Rattle.fab_core.proofs.Whole.{core_may_post}
 use Rattle.fab_core.proofs.core_state.Core.may_post.Goals as goal
 

@@ -3,7 +3,7 @@ use Rattle.std.specs.Prelude.{Option}
 use Rattle.fab_world.specs.Machine.{outcome}
 use Rattle.fab_node.specs.Standing.{NodeModel}
 use Rattle.fab_core.specs.Cores.{CoreModel, setting, slot, world}
-use Rattle.fab_core.specs.Seen.{outcome_in}
+use Rattle.fab_nodes.specs.Seen.{outcome_in}
 use Rattle.fab_core.proofs.Whole.{core_outcome}
 use Rattle.fab_core.proofs.core_state.Core.outcome.Goals as goal
 

@@ -4,7 +4,7 @@ use Rattle.std.specs.List.{range_with_len}
 use Rattle.fab_attempts.specs.Sessions.{requests_of}
 use Rattle.fab_node.specs.Standing.{NodeModel}
 use Rattle.fab_core.specs.Cores.{CoreModel, slot, world}
-use Rattle.fab_core.specs.Seen.{outcomes_in}
+use Rattle.fab_nodes.specs.Seen.{outcomes_in}
 use Rattle.fab_core.specs.Telling.{all_outcomes, node_count}
 use Rattle.fab_core.proofs.Whole.{core_outcomes, core_requests}
 use Rattle.fab_core.proofs.core_state.Core.outcomes.Goals as goal

@@ -16,7 +16,7 @@ use Rattle.fab_core.specs.Cores.{IsCore, move_of, setting, unmarked, world_by}
 use Rattle.fab_core.specs.Moved.{IsMoved}
 use Rattle.fab_core.specs.Places.{journals_of}
 use Rattle.fab_core.specs.Posts.{left_in}
-use Rattle.fab_core.specs.Transit.{AreSentOut, is_up_at}
+use Rattle.fab_nodes.specs.Transit.{AreSentOut, is_up_at}
 use Rattle.fab_core.proofs.Filled.{none_caused}
 use Rattle.fab_core.proofs.Grown.{moves_more}
 use Rattle.fab_core.proofs.Moving.{enabled_in, few_in, moved_on, refused, seen}

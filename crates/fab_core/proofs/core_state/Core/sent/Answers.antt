@@ -1,6 +1,6 @@
 use Rattle.std.proofs.Common.{ap, sym, ◌∙◌, inl, inr}
 use Rattle.fab_core.specs.Cores.{CoreModel, world}
-use Rattle.fab_core.proofs.Between.{far_sent}
+use Rattle.fab_nodes.proofs.Far.{far_sent}
 use Rattle.fab_core.proofs.core_state.Core.sent.Goals as goal
 
 pub returns-then-receiver-lt64 : goal.returns-then-receiver-lt64

@@ -1,0 +1,4 @@
+pub mod Authority
+pub mod Called
+pub mod Decided
+pub mod Remembered

@@ -1,0 +1,11 @@
+//! What the checker of labels works out once: whose authority methods use, and the answers of questions on
+//! two labels.
+#![tactic(auto)]
+
+mod answers;
+mod authority;
+mod sets;
+
+pub use answers::Answers;
+pub use authority::{set_at, used_sets};
+pub use sets::{contains, set_of};
