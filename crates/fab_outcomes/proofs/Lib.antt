@@ -1,24 +1,24 @@
 -- slots of lists, and what records make of a worker's outcomes
-mod Slots
-mod Records
+pub mod Slots
+pub mod Records
 -- what a worker's act comes to at each event
-mod Acts
+pub mod Acts
 -- the outcome of an act's record is the one that the event gives
-mod Given
+pub mod Given
 -- what a move leaves of a node
-mod Nodes
+pub mod Nodes
 -- tries in a row
-mod Tries
+pub mod Tries
 -- each outcome of a run has its cause, and stays
-mod Outcomes
-mod Having
+pub mod Outcomes
+pub mod Having
 -- no request beyond a session has an outcome
-mod Sessions
+pub mod Sessions
 -- what honest stores have and answer is well formed
-mod Stored
-mod Honest
-mod Queues
-mod Tidy
-mod WellFormed
+pub mod Stored
+pub mod Honest
+pub mod Queues
+pub mod Tidy
+pub mod WellFormed
 -- causes, computed on small runs
 mod CausesExamples

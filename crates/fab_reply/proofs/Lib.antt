@@ -10,3 +10,4 @@ pub mod Replying
 pub mod Wishes
 pub mod Watching
 pub mod Alike
+pub mod Printed

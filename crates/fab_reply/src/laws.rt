@@ -1,10 +1,17 @@
-//! Laws of calls. The function does nothing: its contract is what it is for.
+//! Laws of calls. The functions do nothing: their contracts are what they are for.
 
 ghost use Rattle.fab_reply.specs.Alike.{AreCallsAlike};
+ghost use Rattle.fab_reply.specs.Printed.{AreReadBack};
 
 /// Two calls over bundles of which everybody may know the same: with the headline of both, where the record of
 /// the one goes on from that of the other, so do the messages into the set. Where the records are equal, so are
 /// the messages, whatever the secrets are.
 pub fn calls_are_isolated_alike()
     ensures { AreCallsAlike }
+{}
+
+/// What a replay writes of its run, whole or up to the event in which a journal failed, is the report of the
+/// lines that the run shows. So it is read back as those.
+pub fn written_reports_are_read_back()
+    ensures { AreReadBack }
 {}

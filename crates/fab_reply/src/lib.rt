@@ -12,5 +12,5 @@ mod status;
 mod writing;
 
 pub use command::answer;
-pub use laws::calls_are_isolated_alike;
+pub use laws::{calls_are_isolated_alike, written_reports_are_read_back};
 pub use status::Status;

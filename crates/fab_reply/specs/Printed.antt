@@ -1,0 +1,17 @@
+-- What is written of a run can be read back.
+use Rattle.std.specs.Prelude.{ℕ, List, Option, Some}
+use Rattle.std.specs.Io.KnownBytes.{Appends}
+use Rattle.fab_language.specs.Numbers.{resolved}
+use Rattle.fab_world.specs.Machine.{Move}
+use Rattle.fab_node.specs.Standing.{GivenModel}
+use Rattle.fab_command.specs.declared.command.Command.TheVariants.{Replay}
+use Rattle.fab_reports.specs.Reports.{IsReport}
+use Rattle.fab_shown.specs.Shown.{lines_of, report_of}
+use Rattle.fab_reply.specs.Headline.{Headline}
+
+-- With the headline of a replay, what was written is the report of the lines that its run shows.
+abbrev pub AreReadBack : Type 0
+AreReadBack =
+    (P : GivenModel → List Move → Type 0) (left left' written written' : Option (List ℕ)) (h : Headline (Some Replay) P left left' written written')
+    → Appends written written' (report_of (resolved h.start) h.rights h.moves)
+    × IsReport (report_of (resolved h.start) h.rights h.moves) (lines_of (resolved h.start) h.rights h.moves)
