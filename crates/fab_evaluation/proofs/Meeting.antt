@@ -4,7 +4,7 @@ use Rattle.fab_base.specs.declared.object.Oid.{Oid}
 use Rattle.fab_base.specs.declared.object.Object.{Object}
 use Rattle.fab_base.specs.declared.object.Stop.{Stop}
 use Rattle.fab_base.specs.declared.object.Value.{Value}
-use Rattle.fab_base.specs.FlatMap.{FlatMap, get, put, put_all, map_of}
+use Rattle.fab_base.specs.FlatMap.{FlatMap, get, put_all, map_of}
 use Rattle.fab_map.proofs.Rows.{ascends-put_all}
 use Rattle.fab_tree.specs.declared.resolved.Resolved.{Resolved}
 use Rattle.fab_tree.specs.declared.resolved.Request.{Request}
@@ -57,11 +57,7 @@ unversioned : (versions : List (Oid × ℕ)) (rows : FlatMap) → objects_of (ma
 unversioned versions [] = refl
 unversioned versions (row ∷ rows) = ap (λ l. row ∷ l) (unversioned versions rows)
 
--- ---- rows that are put one after the other
-
-pub put_more : (rows : FlatMap) (row : Oid × Object) (known : FlatMap) → put_all (rows ++ row ∷ []) known ≡ put row.0 row.1 (put_all rows known)
-put_more [] row known = refl
-put_more (first ∷ rows) row known = put_more rows row (put first.0 first.1 known)
+-- ---- one answer more
 
 pub objects_more : (answers : Answers) (a : Oid × ℕ × Object) → objects_of (answers ++ a ∷ []) ≡ objects_of answers ++ (a.0, a.2) ∷ []
 objects_more [] a = refl

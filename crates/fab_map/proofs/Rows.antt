@@ -1,5 +1,5 @@
 -- `get`, `put` and `ascends` by their cases, and what they do together.
-use Rattle.std.proofs.Common.{◌≡◌, Bool, true, false, [], ◌∷◌, Some, None, if◌then◌else◌, refl, sym, ◌∙◌, ap, inl, inr}
+use Rattle.std.proofs.Common.{◌≡◌, Bool, true, false, [], ◌∷◌, ◌++◌, Some, None, if◌then◌else◌, refl, sym, ◌∙◌, ap, inl, inr}
 use Rattle.std.proofs.lemmas.Bool.{and_parts, and_from}
 use Rattle.fab_base.specs.declared.object.Oid.{Oid}
 use Rattle.fab_base.specs.declared.object.Object.{Object}
@@ -73,6 +73,11 @@ ascends-put o x (row ∷ rows) h = elim (cases_name o row.0) [
 pub ascends-put_all : (rows m : FlatMap) → ascends m ≡ true → ascends (put_all rows m) ≡ true
 ascends-put_all [] m h = h
 ascends-put_all (row ∷ rows) m h = ascends-put_all rows (put row.0 row.1 m) (ascends-put row.0 row.1 m h)
+
+-- ---- rows that are put one after the other
+pub put_more : (rows : FlatMap) (row : Oid × Object) (known : FlatMap) → put_all (rows ++ row ∷ []) known ≡ put row.0 row.1 (put_all rows known)
+put_more [] row known = refl
+put_more (first ∷ rows) row known = put_more rows row (put first.0 first.1 known)
 
 -- ---- `get` after `put`
 pub get-put_same : (o : Oid) (x : Object) (rows : FlatMap) → get (put o x rows) o ≡ Some x

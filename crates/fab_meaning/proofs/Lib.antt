@@ -1,3 +1,4 @@
+pub mod Over
 pub mod Arguments
 pub mod AtStart
 pub mod Chains

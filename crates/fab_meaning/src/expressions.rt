@@ -18,7 +18,7 @@ use fab_values::{compares, holds, int_of, operate, truth};
 pub(crate) fn value(
     setting: &Setting<'_>,
     method: &Method,
-    state: &mut State,
+    state: &mut State<'_>,
     expression: &Expression,
 ) -> Result<Value, Halt>
     ensures gives { Gives result state.new (value setting.now method.now expression.now state.old) }
@@ -68,7 +68,7 @@ pub(crate) fn value(
 fn chained(
     setting: &Setting<'_>,
     method: &Method,
-    state: &mut State,
+    state: &mut State<'_>,
     others: &[Operand],
     first: Value,
 ) -> Result<Value, Halt>
@@ -97,7 +97,7 @@ fn operated(operator: Operator, left: Value, right: Value) -> Result<Value, Halt
 pub(crate) fn values(
     setting: &Setting<'_>,
     method: &Method,
-    state: &mut State,
+    state: &mut State<'_>,
     arguments: &[Expression],
 ) -> Result<Seq<Value>, Halt>
     ensures gives { Gives result state.new (values setting.now method.now arguments.now state.old) }

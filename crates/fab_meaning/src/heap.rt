@@ -1,7 +1,7 @@
 //! The objects of a run by name, with the names that were written and made.
-ghost use Rattle.std.specs.Prelude.{◌≡◌, IfOk};
-ghost use Rattle.fab_base.specs.FlatMap.{get};
-ghost use Rattle.fab_language.specs.Heaps.{created, index_at, is_among, is_changed, is_spent, replaced};
+ghost use Rattle.std.specs.Prelude.{◌≡◌, IfOk, OnOk, option_copied};
+ghost use Rattle.fab_base.specs.FlatMap.{get, put_all};
+ghost use Rattle.fab_language.specs.Heaps.{created, index_at, is_among, is_changed, is_spent, replaced, with_row};
 ghost use Rattle.fab_language.specs.Meaning.{unchanged};
 ghost use Rattle.fab_meaning.specs.Points.{Settles};
 
@@ -12,54 +12,71 @@ use std::marker::Model;
 
 const MAX_CHANGED: usize = 256;
 
-/// Objects by name, and the names that were written and made, both in order. Contracts see it as the
-/// meaning's heap. No more objects are changed than may be.
+/// The objects that were there before, those that were written or made since, and the names of these, both
+/// in order. Contracts see it as the meaning's heap. No more objects are changed than may be. A copy of it has
+/// the changed objects alone.
 #[derive(Drop)]
-pub(crate) struct Heap {
-    rows: ObjectMap,
+pub(crate) struct Heap<'a> {
+    known: &'a ObjectMap,
+    changed: ObjectMap,
     written: Seq<Oid>,
     made: Seq<Oid>,
 }
 
-impl Model for Heap {
-    ghost use Rattle.std.specs.Prelude.{◌+◌, ◌≤◌, length};
+impl<'a> Model for Heap<'a> {
+    ghost use Rattle.std.specs.Prelude.{◌≡◌, ◌+◌, ◌≤◌, length, true};
+    ghost use Rattle.fab_base.specs.FlatMap.{ascends, put_all};
     ghost use Rattle.fab_language.specs.Heaps.{Heap};
 
     ghost Value = { Heap };
 
-    ghost view = { λ h. record { rows = h.rows; written = h.written; made = h.made } };
+    ghost view = { λ h. record { rows = put_all h.changed h.known.now; written = h.written; made = h.made } };
 
-    ghost invariant = { λ h. length h.written + length h.made ≤ 256 };
+    ghost invariant = { λ h. (length h.written + length h.made ≤ 256) × (ascends h.changed ≡ true) × (ascends h.known.now ≡ true) };
 }
 
-impl Heap {
-    /// A copy of a map, of which nothing was changed yet.
-    pub(crate) fn unchanged(alloc: Global, known: &ObjectMap) -> Result<Heap, NoMemory>
-        ensures { IfOk result (λ h. h ≡ unchanged known.now) }
+impl<'a> Heap<'a> {
+    /// The objects of a map, of which nothing was changed yet.
+    pub(crate) fn unchanged(alloc: Global, known: &'a ObjectMap) -> Heap<'a>
+        ensures { result ≡ unchanged known.now }
     {
-        Ok(Heap {
-            rows: map_copy(alloc, known)?,
+        // (a map's rows are in the order of names)
+        let _ = known.rows();
+        Heap {
+            known,
+            changed: ObjectMap::new(alloc),
             written: Seq::new(alloc),
             made: Seq::new(alloc),
-        })
+        }
     }
 
     /// A copy of the whole heap.
-    pub(crate) fn copy(&self, alloc: Global) -> Result<Heap, NoMemory>
+    pub(crate) fn copy(&self, alloc: Global) -> Result<Heap<'a>, NoMemory>
         ensures { IfOk result (λ h. h ≡ self.now) }
     {
         Ok(Heap {
-            rows: map_copy(alloc, &self.rows)?,
+            known: self.known,
+            changed: map_copy(alloc, &self.changed)?,
             written: Seq::from_slice(alloc, self.written.as_slice())?,
             made: Seq::from_slice(alloc, self.made.as_slice())?,
         })
+    }
+
+    /// The object of this name.
+    fn found(&self, oid: Oid) -> Option<&Object>
+        ensures { option_copied result ≡ get self.now.rows oid }
+    {
+        match self.changed.get(oid) {
+            Some(object) => Some(object),
+            None => self.known.get(oid),
+        }
     }
 
     /// A copy of the object of this name.
     pub(crate) fn get(&self, alloc: Global, oid: Oid) -> Result<Option<Object>, NoMemory>
         ensures { IfOk result (λ r. r ≡ get self.now.rows oid) }
     {
-        match self.rows.get(oid) {
+        match self.found(oid) {
             Some(object) => Ok(Some(object.copy(alloc)?)),
             None => Ok(None),
         }
@@ -94,6 +111,14 @@ impl Heap {
         made.count() as u16
     }
 
+    /// Puts an object in the place of the one of its name, or beside the others.
+    fn put(&mut self, oid: Oid, object: Object) -> Result<(), NoMemory>
+        ensures { OnOk result (self.new ≡ with_row oid object self.old) }
+    {
+        self.changed.put(oid, object)?;
+        Ok(())
+    }
+
     /// Puts an object in the place of the one of its name, unless it would be one change too many.
     pub(crate) fn replace(&mut self, oid: Oid, object: Object) -> Result<bool, NoMemory>
         ensures { IfOk result (λ fits. Settles fits self.old self.new (replaced oid object self.old)) }
@@ -104,7 +129,7 @@ impl Heap {
             }
             self.written.push(oid)?;
         }
-        self.rows.put(oid, object)?;
+        self.put(oid, object)?;
         Ok(true)
     }
 
@@ -116,23 +141,33 @@ impl Heap {
             return Ok(false);
         }
         self.made.push(oid)?;
-        self.rows.put(oid, object)?;
+        self.put(oid, object)?;
         Ok(true)
     }
 
-    /// The objects, and the names that were written and made.
-    pub(crate) fn into_parts(self) -> (ObjectMap, Seq<Oid>, Seq<Oid>)
-        ensures rows { result.0 ≡ self.rows }
-        ensures written { result.1 ≡ self.written }
-        ensures made { result.2 ≡ self.made }
+    /// All objects as they are now, and the names that were written and made.
+    pub(crate) fn parts(&self, alloc: Global) -> Result<(ObjectMap, Seq<Oid>, Seq<Oid>), NoMemory>
+        ensures rows { IfOk result (λ r. r.0 ≡ self.now.rows) }
+        ensures written { IfOk result (λ r. r.1 ≡ self.now.written) }
+        ensures made { IfOk result (λ r. r.2 ≡ self.now.made) }
     {
-        let Heap {
-            rows,
-            written,
-            made,
-        } = self;
-        (rows, written, made)
+        let mut rows = map_copy(alloc, self.known)?;
+        put_rows(alloc, &mut rows, self.changed.rows())?;
+        let written = Seq::from_slice(alloc, self.written.as_slice())?;
+        let made = Seq::from_slice(alloc, self.made.as_slice())?;
+        Ok((rows, written, made))
     }
+}
+
+/// Puts copies of rows into a map.
+#[tactic(auto, using(crate::proofs::Over::put_taken))]
+fn put_rows(alloc: Global, map: &mut ObjectMap, rows: &[(Oid, Object)]) -> Result<(), NoMemory>
+    ensures { OnOk result (map.new ≡ put_all rows.now map.old) }
+{
+    for row in rows {
+        map.put(row.0, row.1.copy(alloc)?)?;
+    }
+    Ok(())
 }
 
 /// A copy of a map with its objects.

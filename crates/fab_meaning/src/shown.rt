@@ -95,7 +95,7 @@ fn are_seen(setting: &Setting<'_>, method: &Method, others: &[Operand]) -> bool
 /// A field of the object behind a value; one of a class that isn't shown isn't looked up.
 pub(crate) fn read_shown(
     sight: Sight,
-    state: &mut State,
+    state: &mut State<'_>,
     site: u16,
     field: u16,
     at: Value,
@@ -118,7 +118,7 @@ pub(crate) fn read_shown(
 /// Writes a field of the object behind a value; one of a class that isn't shown isn't looked up.
 pub(crate) fn write_shown(
     sight: Sight,
-    state: &mut State,
+    state: &mut State<'_>,
     site: u16,
     field: u16,
     value: Value,

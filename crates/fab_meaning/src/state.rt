@@ -22,18 +22,18 @@ use std::mem;
 /// them were taken. Contracts see it as the state that the meaning has, with the given values that are
 /// left.
 #[derive(Drop)]
-pub(crate) struct State {
+pub(crate) struct State<'a> {
     alloc: Global,
     fuel: u32,
     locals: Vec<Value>,
-    heap: Heap,
+    heap: Heap<'a>,
     touches: Touches,
     downs: Vec<(u16, Value)>,
     given: Seq<Value>,
     taken: usize,
 }
 
-impl Model for State {
+impl<'a> Model for State<'a> {
     ghost use Rattle.std.specs.Prelude.{drop};
     ghost use Rattle.fab_language.specs.Meaning.{State};
 
@@ -44,26 +44,26 @@ impl Model for State {
 
 /// What a failure puts back.
 #[derive(Drop)]
-pub(crate) struct Saved {
+pub(crate) struct Saved<'a> {
     locals: Vec<Value>,
-    heap: Heap,
+    heap: Heap<'a>,
 }
 
-impl State {
+impl<'a> State<'a> {
     /// The state in which a request begins, over a map and with these given values.
     pub(crate) fn begin(
         alloc: Global,
-        known: &ObjectMap,
+        known: &'a ObjectMap,
         fuel: u32,
         given: &[Value],
-    ) -> Result<State, NoMemory>
+    ) -> Result<State<'a>, NoMemory>
         ensures { IfOk result (λ s. s ≡ state_given known.now fuel given.now) }
     {
         Ok(State {
             alloc,
             fuel,
             locals: Vec::new(alloc),
-            heap: Heap::unchanged(alloc, known)?,
+            heap: Heap::unchanged(alloc, known),
             touches: Touches::new(alloc),
             downs: Vec::new(alloc),
             given: Seq::from_slice(alloc, given)?,
@@ -222,8 +222,8 @@ impl State {
         }
     }
 
-    /// Copies of the locals and of the whole heap.
-    pub(crate) fn saved(&self) -> Result<Saved, NoMemory>
+    /// Copies of the locals and of the heap.
+    pub(crate) fn saved(&self) -> Result<Saved<'a>, NoMemory>
         ensures locals { IfOk result (λ s. s.locals.items ≡ self.now.locals) }
         ensures heap { IfOk result (λ s. s.heap ≡ self.now.heap) }
     {
@@ -234,8 +234,8 @@ impl State {
     }
 
     /// Puts locals and a heap back.
-    pub(crate) fn put_back(&mut self, saved: Saved)
-        ensures { self.new ≡ put_back saved.locals.items saved.heap self.old }
+    pub(crate) fn put_back(&mut self, saved: Saved<'a>)
+        ensures { self.new ≡ put_back saved.entry.locals.items saved.entry.heap self.old }
     {
         let Saved { locals, heap } = saved;
         self.locals = locals;
@@ -243,19 +243,17 @@ impl State {
     }
 
     /// What stands at the end of a request that ends so.
-    pub(crate) fn meant(self, ending: Ending) -> Result<Meant, NoMemory>
-        ensures { IfOk result (λ m. IsMeant m (meant_at ending self)) }
+    pub(crate) fn meant(&self, ending: Ending) -> Result<Meant, NoMemory>
+        ensures { IfOk result (λ m. IsMeant m (meant_at ending self.now)) }
     {
-        let touches = Seq::from_slice(self.alloc, self.touches.pairs())?;
-        let State { heap, downs, .. } = self;
-        let (map, written, made) = heap.into_parts();
+        let (map, written, made) = self.heap.parts(self.alloc)?;
         Ok(Meant {
             ending,
             map,
             written,
             made,
-            touches,
-            downs: Seq::from_vec(downs),
+            touches: Seq::from_slice(self.alloc, self.touches.pairs())?,
+            downs: Seq::from_slice(self.alloc, self.downs.as_slice())?,
         })
     }
 }

@@ -21,7 +21,7 @@ use fab_values::holds;
 pub(crate) fn in_order(
     setting: &Setting<'_>,
     method: &Method,
-    state: &mut State,
+    state: &mut State<'_>,
     statements: &Seq<Statement>,
 ) -> Result<(), Halt>
     ensures gives { Gives result state.new (block setting.now method.now statements.now state.old) }
@@ -38,7 +38,7 @@ pub(crate) fn in_order(
 fn statement(
     setting: &Setting<'_>,
     method: &Method,
-    state: &mut State,
+    state: &mut State<'_>,
     s: &Statement,
 ) -> Result<(), Halt>
     ensures gives { Gives result state.new (statement setting.now method.now s.now state.old) }
@@ -92,7 +92,7 @@ fn statement(
 fn assignment(
     setting: &Setting<'_>,
     method: &Method,
-    state: &mut State,
+    state: &mut State<'_>,
     local: u16,
     r: &Right,
 ) -> Result<(), Halt>
@@ -120,7 +120,7 @@ fn blank_of(method: &Method, local: u16) -> Value
 fn right(
     setting: &Setting<'_>,
     method: &Method,
-    state: &mut State,
+    state: &mut State<'_>,
     blank: Value,
     r: &Right,
 ) -> Result<Value, Halt>
@@ -172,7 +172,7 @@ fn right(
 fn making(
     setting: &Setting<'_>,
     method: &Method,
-    state: &mut State,
+    state: &mut State<'_>,
     store: u16,
     class: u16,
     site: u16,
@@ -190,7 +190,7 @@ fn making(
 /// the second is, the next given value.
 fn downgraded(
     sight: Sight,
-    state: &mut State,
+    state: &mut State<'_>,
     blank: Value,
     from: u16,
     to: u16,
@@ -214,7 +214,7 @@ fn downgraded(
 fn choice(
     setting: &Setting<'_>,
     method: &Method,
-    state: &mut State,
+    state: &mut State<'_>,
     condition: &Expression,
     body: &Seq<Statement>,
     otherwise: &Seq<Statement>,
@@ -239,7 +239,7 @@ fn choice(
 fn repeat(
     setting: &Setting<'_>,
     method: &Method,
-    state: &mut State,
+    state: &mut State<'_>,
     condition: &Expression,
     body: &Seq<Statement>,
 ) -> Result<(), Halt>
@@ -260,7 +260,7 @@ fn repeat(
 fn turns(
     setting: &Setting<'_>,
     method: &Method,
-    state: &mut State,
+    state: &mut State<'_>,
     condition: &Expression,
     body: &Seq<Statement>,
 ) -> Result<(), Halt>
@@ -283,7 +283,7 @@ fn turns(
 fn atomic(
     setting: &Setting<'_>,
     method: &Method,
-    state: &mut State,
+    state: &mut State<'_>,
     label: u16,
     body: &Seq<Statement>,
     otherwise: &Seq<Statement>,
@@ -322,7 +322,7 @@ fn went_on(outcome: Result<(), Halt>) -> Result<bool, Halt>
 #[cycle(run)]
 pub(crate) fn called(
     setting: &Setting<'_>,
-    state: &mut State,
+    state: &mut State<'_>,
     number: u16,
     args: Seq<Value>,
 ) -> Result<Option<Value>, Halt>
@@ -351,7 +351,7 @@ pub(crate) fn called(
 #[cycle(run)]
 fn entered_below(
     setting: &Setting<'_>,
-    state: &mut State,
+    state: &mut State<'_>,
     method: &Method,
     args: Seq<Value>,
 ) -> Result<Option<Value>, Halt>
@@ -374,7 +374,7 @@ fn entered_below(
 #[cycle(run)]
 fn entered(
     setting: &Setting<'_>,
-    state: &mut State,
+    state: &mut State<'_>,
     method: &Method,
     args: Seq<Value>,
 ) -> Result<Option<Value>, Halt>
@@ -390,7 +390,11 @@ fn entered(
 
 /// Runs the statements of a method, and gives its result as far as it is seen.
 #[cycle(run)]
-fn body_of(setting: &Setting<'_>, state: &mut State, method: &Method) -> Result<Option<Value>, Halt>
+fn body_of(
+    setting: &Setting<'_>,
+    state: &mut State<'_>,
+    method: &Method,
+) -> Result<Option<Value>, Halt>
     ensures gives { Gives result state.new (body_of setting.now method.now state.old) }
     ensures fuel { state.new.fuel ≤ state.old.fuel }
 {

@@ -1,6 +1,6 @@
 use Rattle.std.proofs.Common.{sym, ap, ◌∙◌}
 use Rattle.fab_base.specs.FlatMap.{put}
-use Rattle.fab_evaluation.proofs.Meeting.{put_more}
+use Rattle.fab_map.proofs.Rows.{put_more}
 use Rattle.fab_evaluation.proofs.sequence.put_creates.Goals as goal
 
 pub creates-preserved : goal.creates-preserved

@@ -1,7 +1,8 @@
 use Rattle.std.proofs.Common.{sym, ap, ◌∙◌}
 use Rattle.fab_base.specs.FlatMap.{FlatMap, put, put_all}
 use Rattle.fab_nested.specs.Nested.{objects_of}
-use Rattle.fab_evaluation.proofs.Meeting.{objects_more, put_more}
+use Rattle.fab_map.proofs.Rows.{put_more}
+use Rattle.fab_evaluation.proofs.Meeting.{objects_more}
 use Rattle.fab_evaluation.proofs.sequence.put_writes.Goals as goal
 
 pub writes-preserved : goal.writes-preserved

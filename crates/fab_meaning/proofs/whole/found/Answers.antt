@@ -1,7 +1,20 @@
+use Rattle.std.proofs.Common.{◌∙◌, List, Option, subst}
+use Rattle.fab_base.specs.declared.object.Value.{Value}
+use Rattle.fab_language.specs.Meaning.{Run, State}
+use Rattle.fab_erasure.specs.Erased as e
+use Rattle.fab_meaning.specs.Gives.{Gives}
+use Rattle.fab_meaning.specs.Points.{state_given}
+use Rattle.fab_meaning.specs.Sights.{sees, shows}
 use Rattle.fab_meaning.proofs.Ending.{found_meant}
 use Rattle.fab_meaning.proofs.whole.found.Goals as goal
 
 pub returns : goal.returns
 returns c =
-    let g = rw (c.in_ok-args.ensures, c.as_slice.ensures, c.in_ok-state.ensures) at c.called-ended.ensures.gives in
-    found_meant c.called-ended.result c.called-ended.new.state _ c.in_ok-ending.ending c.meant.result g c.in_ok-ending.ensures c.meant.ensures
+    let call : List Value → State → Run (Option Value) =
+    λ args state. e.called (sees c.args.sight) (shows c.args.sight) c.args.program.now c.args.tid 64 c.args.request.now.method args state in
+    let start : State = state_given c.args.known.now c.args.fuel c.args.given.now in
+    let given : Gives c.called-ended.result c.called-ended.new.state (call c.in_ok-args.args c.in_ok-state.state) = c.called-ended.ensures.gives in
+    let from : Gives c.called-ended.result c.called-ended.new.state (call c.args.request.now.args start) =
+    subst (λ s. Gives c.called-ended.result c.called-ended.new.state (call c.args.request.now.args s)) c.in_ok-state.ensures
+    (subst (λ args. Gives c.called-ended.result c.called-ended.new.state (call args c.in_ok-state.state)) (c.in_ok-args.ensures ∙ c.as_slice.ensures) given) in
+    found_meant c.called-ended.result c.called-ended.new.state (call c.args.request.now.args start) c.in_ok-ending.ending c.meant.result from c.in_ok-ending.ensures c.meant.ensures
