@@ -1,11 +1,11 @@
-//! Answers of questions on two labels, which are remembered.
+//! Answers of questions on two numbers, of labels or of a store and a class, which are remembered.
 ghost use Rattle.std.specs.Prelude.{◌≡◌, ◌<◌, ◌⊎◌, ℕ, Bool, true, IfSome, slice_index};
 ghost use Rattle.fab_principals.specs.Sets.{in_set};
 ghost use Rattle.fab_authority.specs.Remembered.{AreRight};
 
 use crate::sets::{contains, only, union};
 
-/// Which pairs of the first 64 labels were answered by yes, and which by no: bit b of row a stands for
+/// Which pairs of the first 64 numbers were answered by yes, and which by no: bit b of row a stands for
 /// the pair of a and b.
 #[derive(Drop)]
 pub struct Answers {
@@ -42,7 +42,7 @@ impl Answers {
         }
     }
 
-    /// The answer for two labels, if it is known.
+    /// The answer for two numbers, if it is known.
     pub fn known(&self, a: u16, b: u16) -> Option<bool>
         ensures { (says : ℕ → ℕ → Bool) → AreRight says self.now → IfSome result (λ x. x ≡ says a b) }
     {
@@ -57,7 +57,7 @@ impl Answers {
         }
     }
 
-    /// The answer for two labels is known from now on.
+    /// The answer for two numbers may be known from now on.
     pub fn remember(&mut self, a: u16, b: u16, answer: bool)
         ensures { (says : ℕ → ℕ → Bool) → AreRight says self.old → answer ≡ says a b → AreRight says self.new }
     {

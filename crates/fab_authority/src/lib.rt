@@ -1,5 +1,5 @@
 //! What the checker of labels works out once: whose authority methods use, and the answers of questions on
-//! two labels.
+//! two numbers, of labels or of a store and a class.
 #![tactic(auto)]
 
 mod answers;

@@ -50,7 +50,7 @@ impl<'a> Heap<'a> {
         }
     }
 
-    /// A copy of the whole heap.
+    /// The same heap again.
     pub(crate) fn copy(&self, alloc: Global) -> Result<Heap<'a>, NoMemory>
         ensures { IfOk result (λ h. h ≡ self.now) }
     {

@@ -1,5 +1,5 @@
 //! What a request does over a flat map, by the words of its meaning, as far as who sees some labels
-//! can compute it: with whatever fuel, and with a copy of the whole heap for each block that may fail.
+//! can compute it: with whatever fuel, and with a copy of what was changed for each block that may fail.
 #![tactic(auto)]
 
 mod expressions;

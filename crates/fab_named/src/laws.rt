@@ -1,5 +1,5 @@
-//! Laws of bundles that a text stands for, and of those without faults. Each function does nothing: its contract
-//! is the law.
+//! Laws of bundles that a text stands for, of those without faults, and of numbers in all. Each function does
+//! nothing: its contract is the law.
 ghost use Rattle.std.specs.Prelude.{◌≡◌, ℕ, ◌<◌, List, [], count_by, is_some};
 ghost use Rattle.std.specs.List.{AllByRecursion};
 ghost use Rattle.fab_base.specs.declared.token.Token.{Token};
@@ -31,7 +31,7 @@ pub fn events_and_posts_have_nodes()
     ensures events { (s : Start) → faults s ≡ [] → AllByRecursion (IsEventOf (resolved s)) (resolved s).schedule }
 {}
 
-/// Workers and stores have numbers in order from 0: each number below their count is one's, and no other is.
+/// Each number below the count of workers and stores is one's, and no other is.
 pub fn nodes_have_numbers()
     ensures below { (s : Start) (n : ℕ) → n < count_by (λ principal. is_some principal.node) (resolved s).nodes → IsNode (resolved s) n }
     ensures only { (s : Start) (n : ℕ) → IsNode (resolved s) n → n < count_by (λ principal. is_some principal.node) (resolved s).nodes }

@@ -1,4 +1,4 @@
--- What a core reads of its nodes, queues and posts: the same as is said of the machine, by what the code has.
+-- What is read of nodes, queues and posts: the same as is said of the machine, by what the code has.
 use Rattle.std.specs.Prelude.{◌≡◌, ℕ, ◌+◌, Bool, true, false, not, ◌&&◌, ◌||◌, ◌==◌, nat_lt, if◌then◌else◌, List, [], ◌∷◌, map, drop, length, Option, Some, None}
 use Rattle.std.specs.Prelude.{is_some, IsFalse, slice_index_or}
 use Rattle.std.specs.List.{filter, list_any, list_all, range_with_len}

@@ -17,7 +17,7 @@ pub fn node_at<J: Journal>(nodes: &[Option<Node<J>>], number: usize) -> Option<&
     nodes.get(number)?.as_ref()
 }
 
-/// Whether an honest node is up.
+/// Whether an honest node is up. Where there is no node in code, none is.
 pub fn is_up<J: Journal>(nodes: &[Option<Node<J>>], number: u16) -> bool
     ensures { result ≡ is_up_in (slot nodes.now number) }
 {

@@ -1,4 +1,4 @@
-//! What stores are asked and told, in bytes.
+//! Stores by their numbers, and what they are asked and told, in bytes.
 ghost use Rattle.std.specs.Prelude.{◌≡◌, [], ◌∷◌, ◌++◌, IfOk, OnOk, map};
 ghost use Rattle.std.specs.List.{filter, range_with_len};
 ghost use Rattle.fab_base.specs.declared.message.Message.TheVariants.{Prepare};
@@ -49,7 +49,7 @@ pub fn to_all(alloc: Global, stores: &[u16], message: &Message) -> Result<Sends,
     Ok(sends)
 }
 
-/// Keeps those that are in the set.
+/// Keeps those whose bit the mask has.
 pub fn keep_in_set(nodes: u64, stores: &mut Vec<u16>)
     ensures { stores.new.items ≡ filter (has_bit nodes) stores.old.items }
 {

@@ -11,7 +11,7 @@ pub fn calls_are_isolated_alike()
 {}
 
 /// What a replay writes of its run, whole or up to the event in which a journal failed, is the report of the
-/// lines that the run shows. So it is read back as those.
+/// lines that the run shows.
 pub fn written_reports_are_read_back()
     ensures { AreReadBack }
 {}

@@ -52,7 +52,7 @@ pub fn runs_can_be_shown()
         (all_outcomes (resolved s) rights (world_behind (resolved s) rights moves)) }
 {}
 
-/// And what is printed of such a run is the report of the lines that it shows, so it is read back as those.
+/// And what is printed of such a run is the report of the lines that it shows.
 pub fn reports_are_read_back()
     ensures { (text : List ℕ) (ts : List Token) (s : Start) (rights : Rights) (moves : List Move) → Lexes 0 text ts → IsText ts s → IsAcceptedWith s rights
         → IsRun (setting_of (resolved s) rights) moves

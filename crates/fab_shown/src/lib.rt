@@ -1,5 +1,5 @@
-//! What the report of a run shows has a spelling, so it is read back: in every run of an accepted bundle whose names are
-//! words and whose posts are bytes.
+//! What the report of a run shows has a spelling, so it is read back: in every run of an accepted bundle that a text
+//! stands for.
 #![tactic(auto)]
 
 mod laws;
