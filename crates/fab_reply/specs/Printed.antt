@@ -7,11 +7,16 @@ use Rattle.fab_node.specs.Standing.{GivenModel}
 use Rattle.fab_command.specs.declared.command.Command.TheVariants.{Replay}
 use Rattle.fab_reports.specs.Reports.{IsReport}
 use Rattle.fab_shown.specs.Shown.{lines_of, report_of}
-use Rattle.fab_reply.specs.Headline.{Headline}
+use Rattle.fab_reply.specs.Headline.{Headline, IsOfFault, IsOfSchedule}
 
--- With the headline of a replay, what was written is the report of the lines that its run shows.
-abbrev pub AreReadBack : Type 0
-AreReadBack =
-    (P : GivenModel → List Move → Type 0) (left left' written written' : Option (List ℕ)) (h : Headline (Some Replay) P left left' written written')
+-- with the headline of a replay, what was written is the report of the lines that its run shows
+abbrev pub AreReadBackOf : (GivenModel → List Move → Type 0) → Type 0
+AreReadBackOf P =
+    (left left' written written' : Option (List ℕ)) (h : Headline (Some Replay) P left left' written written')
     → Appends written written' (report_of (resolved h.start) h.rights h.moves)
     × IsReport (report_of (resolved h.start) h.rights h.moves) (lines_of (resolved h.start) h.rights h.moves)
+
+-- of a whole schedule, and up to an event in which a node's journal failed
+pub record AreReadBack : Type 0 where
+  pub whole : AreReadBackOf IsOfSchedule
+  pub in_part : (node : ℕ) → AreReadBackOf (IsOfFault node)
