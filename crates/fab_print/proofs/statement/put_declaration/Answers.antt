@@ -5,4 +5,13 @@ use Rattle.fab_print.proofs.Added.{both, word}
 use Rattle.fab_print.proofs.statement.put_declaration.Goals as goal
 
 pub returns : goal.returns
-returns c = both (c.in_ok-put_indent.ensures) (both (c.in_ok-put_sort.ensures) (both (word _ (space) c.in_ok-push.ensures.ok (λ _. refl)) (both (c.in_ok-put_name.ensures) (both (word _ (space >> mark m.Colon >> space) c.in_ok-extend.ensures.ok (λ _. refl)) (both (c.in_ok-put_name-2.ensures) (both (word _ (space >> mark m.Equal >> space) c.in_ok-extend-2.ensures.ok (λ _. refl)) (both (c.in_ok-put_expression.ensures) (word _ (mark m.Semicolon >> line_end) c.in_ok-extend-3.ensures.ok (λ _. refl)))))))))
+returns c =
+    both (c.in_ok-put_indent.ensures)
+    (both (c.in_ok-put_sort.ensures)
+    (both (word _ (space) c.in_ok-push.ensures.ok (λ _. refl))
+    (both (c.in_ok-put_name.ensures)
+    (both (word _ (space >> mark m.Colon >> space) c.in_ok-extend.ensures.ok (λ _. refl))
+    (both (c.in_ok-put_name-2.ensures)
+    (both (word _ (space >> mark m.Equal >> space) c.in_ok-extend-2.ensures.ok (λ _. refl))
+    (both (c.in_ok-put_expression.ensures)
+    (word _ (mark m.Semicolon >> line_end) c.in_ok-extend-3.ensures.ok (λ _. refl)))))))))

@@ -9,4 +9,12 @@ pub returns-in_ok-put_arguments-in-Call : goal.returns-in_ok-put_arguments-in-Ca
 returns-in_ok-put_arguments-in-Call c = known (ap p.right c.in-Call.is) (both (c.in_ok-put_name-in-Call.ensures) (rw c.as_slice.ensures at c.in_ok-put_arguments-in-Call.ensures))
 
 pub returns-in_ok-put_arguments-in-New : goal.returns-in_ok-put_arguments-in-New
-returns-in_ok-put_arguments-in-New c = known (ap p.right c.in-New.is) (both (word _ (mark m.New >> space) c.in_ok-extend-in-New.ensures.ok (λ _. refl)) (both (c.in_ok-put_name-in-New.ensures) (both (word _ (space >> mark m.At >> space) c.in_ok-extend-in-New-2.ensures.ok (λ _. refl)) (both (c.in_ok-put_name-in-New-2.ensures) (both (word _ (space) c.in_ok-push-in-New.ensures.ok (λ _. refl)) (rw c.as_slice-in-New.ensures at c.in_ok-put_arguments-in-New.ensures))))))
+returns-in_ok-put_arguments-in-New c =
+    known (ap p.right c.in-New.is)
+    (both (word _ (mark m.New >> space) c.in_ok-extend-in-New.ensures.ok (λ _. refl))
+    (both (c.in_ok-put_name-in-New.ensures)
+    (both (word _ (space >> mark m.At >> space) c.in_ok-extend-in-New-2.ensures.ok (λ _. refl))
+    (both (c.in_ok-put_name-in-New-2.ensures)
+    (both
+    (word _ (space) c.in_ok-push-in-New.ensures.ok (λ _. refl))
+    (rw c.as_slice-in-New.ensures at c.in_ok-put_arguments-in-New.ensures))))))

@@ -5,4 +5,10 @@ use Rattle.fab_print.proofs.Added.{both, word, margin}
 use Rattle.fab_print.proofs.declaration.LabelTextPrint.print.Goals as goal
 
 pub returns : goal.returns
-returns c = margin (both (word _ (mark m.Label >> space) c.in_ok-extend.ensures.ok (λ _. refl)) (both (c.in_ok-put_name.ensures) (both (word _ (space >> mark m.Equal >> space >> mark m.LeftBrace) c.in_ok-extend-2.ensures.ok (λ _. refl)) (both (rw c.as_slice.ensures at (c.in_ok-print_separated.ensures m.Semicolon refl)) (word _ (mark m.RightBrace >> mark m.Semicolon >> line_end) c.in_ok-extend-3.ensures.ok (λ _. refl))))))
+returns c =
+    margin
+    (both (word _ (mark m.Label >> space) c.in_ok-extend.ensures.ok (λ _. refl))
+    (both (c.in_ok-put_name.ensures)
+    (both (word _ (space >> mark m.Equal >> space >> mark m.LeftBrace) c.in_ok-extend-2.ensures.ok (λ _. refl))
+    (both (rw c.as_slice.ensures at (c.in_ok-print_separated.ensures m.Semicolon refl))
+    (word _ (mark m.RightBrace >> mark m.Semicolon >> line_end) c.in_ok-extend-3.ensures.ok (λ _. refl))))))

@@ -5,4 +5,11 @@ use Rattle.fab_print.proofs.Added.{both, word}
 use Rattle.fab_print.proofs.run.PostLinePrint.print.Goals as goal
 
 pub returns : goal.returns
-returns c = both (word _ (indent 1 >> mark m.Post >> space) c.in_ok-extend.ensures.ok (λ _. refl)) (both (c.in_ok-put_name.ensures) (both (word _ (space >> mark m.Arrow >> space) c.in_ok-extend-2.ensures.ok (λ _. refl)) (both (c.in_ok-put_name-2.ensures) (both (word _ (space) c.in_ok-push.ensures.ok (λ _. refl)) (both (rw c.as_slice.ensures at c.in_ok-put_bytes.ensures) (word _ (mark m.Semicolon >> line_end) c.in_ok-extend-3.ensures.ok (λ _. refl)))))))
+returns c =
+    both (word _ (indent 1 >> mark m.Post >> space) c.in_ok-extend.ensures.ok (λ _. refl))
+    (both (c.in_ok-put_name.ensures)
+    (both (word _ (space >> mark m.Arrow >> space) c.in_ok-extend-2.ensures.ok (λ _. refl))
+    (both (c.in_ok-put_name-2.ensures)
+    (both (word _ (space) c.in_ok-push.ensures.ok (λ _. refl))
+    (both (rw c.as_slice.ensures at c.in_ok-put_bytes.ensures)
+    (word _ (mark m.Semicolon >> line_end) c.in_ok-extend-3.ensures.ok (λ _. refl)))))))
