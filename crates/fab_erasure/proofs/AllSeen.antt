@@ -24,7 +24,8 @@ use Rattle.fab_tree.specs.declared.resolved.Method.{Method}
 use Rattle.fab_tree.specs.declared.resolved.Request.{Request}
 use Rattle.fab_tree.specs.declared.resolved.Resolved.{Resolved}
 use Rattle.fab_labelling.specs.Obligations.{class_of_local, label_of_local, label_of_class}
-use Rattle.fab_language.specs.Meaning.{State, failed, stopped, missing, Run, goes, ends, M, and_then, gives, ◌>>=◌, ◌>>◌, charge, local, assign, read, write, create, noted_down, holds, operate, chained, form_step, value, values, in_order, turns, loop, or_else, atomically, right, statement_step, statement, block, returned, back_with, entered, called, meant_by, meaning, state_at_start, locals_at_start, default}
+use Rattle.fab_language.specs.Meaning.{State, failed, stopped, missing, Run, goes, ends, M, and_then, gives, ◌>>=◌, ◌>>◌, charge, local, assign, read, write, create, noted_down}
+use Rattle.fab_language.specs.Meaning.{holds, operate, chained, form_step, value, values, in_order, turns, loop, or_else, atomically, right, statement_step, statement, block, returned, back_with, entered, called, meant_by, meaning, state_at_start, locals_at_start, default}
 use Rattle.fab_erasure.specs.Erased as erase
 use Rattle.fab_erasure.specs.Erased.{Part, part_of, shown_if}
 

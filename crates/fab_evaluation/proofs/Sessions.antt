@@ -337,7 +337,10 @@ module _ (s : Start) where
   known_sessions h =
       let all = parts_empty (unknown.unknown s) (doubled.doubled s ∷ roles.misplaced s ∷ arity.miscounted s ∷ types.mistyped s ∷ []) h in
       let p = s.program in
-      let parts = parts_empty (flat_map (unknown.in_delegation s) p.delegations) (flat_map (unknown.in_label_text s) p.labels ∷ flat_map (unknown.in_class s) p.classes ∷ flat_map (unknown.in_method s) p.methods ∷ flat_map (unknown.in_root s) s.roots ∷ flat_map (unknown.in_session s) s.sessions ∷ flat_map (unknown.in_post s) s.posts ∷ flat_map (unknown.in_crash s) s.crashes ∷ flat_map (unknown.in_event s) s.schedule ∷ []) all.0 in
+      let parts =
+      parts_empty (flat_map (unknown.in_delegation s) p.delegations)
+      (flat_map (unknown.in_label_text s) p.labels ∷ flat_map (unknown.in_class s) p.classes ∷ flat_map (unknown.in_method s) p.methods
+      ∷ flat_map (unknown.in_root s) s.roots ∷ flat_map (unknown.in_session s) s.sessions ∷ flat_map (unknown.in_post s) s.posts ∷ flat_map (unknown.in_crash s) s.crashes ∷ flat_map (unknown.in_event s) s.schedule ∷ []) all.0 in
       each_empty (unknown.in_session s) s.sessions parts.1.1.1.1.1.0
 
   placed_sessions : faults s ≡ [] → AllByRecursion (λ x. roles.in_session s x ≡ []) s.sessions

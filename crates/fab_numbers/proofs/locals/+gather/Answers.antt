@@ -23,4 +23,5 @@ pub gather-returns-in_ok-gather_block-in-Atomic : goal.gather-returns-in_ok-gath
 gather-returns-in_ok-gather_block-in-Atomic t c =
     on_ok c.gather_block-in-Atomic-2.result (c.gather_block-in-Atomic-2.new.locals.items ≡ c.gather_block-in-Atomic.new.locals.items ++ flat_map declared_in c.as_slice-in-Atomic-2.result.now) (c.gather_block-in-Atomic-2.new.locals.items ≡ c.args.locals.now.items ++ declared_in c.args.statement.now)
     c.gather_block-in-Atomic-2.ensures
-    (λ h. gathered_atomic c.args.locals.now.items c.gather_block-in-Atomic.new.locals.items c.gather_block-in-Atomic-2.new.locals.items c.args.statement.now c.in-Atomic.label c.in-Atomic.at c.in-Atomic.block c.as_slice-in-Atomic.result.now c.in-Atomic.otherwise c.as_slice-in-Atomic-2.result.now c.in-Atomic.is c.in_ok-gather_block-in-Atomic.ensures c.as_slice-in-Atomic.ensures h c.as_slice-in-Atomic-2.ensures)
+    (λ h. gathered_atomic c.args.locals.now.items c.gather_block-in-Atomic.new.locals.items c.gather_block-in-Atomic-2.new.locals.items c.args.statement.now
+    c.in-Atomic.label c.in-Atomic.at c.in-Atomic.block c.as_slice-in-Atomic.result.now c.in-Atomic.otherwise c.as_slice-in-Atomic-2.result.now c.in-Atomic.is c.in_ok-gather_block-in-Atomic.ensures c.as_slice-in-Atomic.ensures h c.as_slice-in-Atomic-2.ensures)
