@@ -118,15 +118,15 @@ of_asked s w n (x ∷ xs) = (refl, of_asked s w (suc n) xs)
 -- ---- the requests of one node
 
 -- the sessions are of workers of different numbers
-abbrev Alone : (Session → ℕ) → List Session → Type 0
+abbrev pub Alone : (Session → ℕ) → List Session → Type 0
 Alone number [] = Unit {0}
 Alone number (x ∷ xs) = AllByRecursion (λ y. number x ≢ number y) xs × Alone number xs
 
 module _ (s : Start) where
-  abbrev number : Session → ℕ
+  abbrev pub number : Session → ℕ
   number x = node_number s x.worker
 
-  abbrev at_node : ℕ → List Session → List Request
+  abbrev pub at_node : ℕ → List Session → List Request
   at_node node xs = flat_map (asked_at node) (map (session_of s) xs)
 
   is_number : (n m : ℕ) → (n == m) ≡ true → n ≡ m
@@ -136,7 +136,7 @@ module _ (s : Start) where
   not_number n m h = grind (arith, nat_tests)
 
   -- a session of another worker has nothing for this node
-  none_at : (node : ℕ) (xs : List Session) → AllByRecursion (λ y. node ≢ number y) xs → at_node node xs ≡ []
+  pub none_at : (node : ℕ) (xs : List Session) → AllByRecursion (λ y. node ≢ number y) xs → at_node node xs ≡ []
   none_at node [] h = refl
   none_at node (x ∷ xs) h =
       flat_map-cons (asked_at node) (session_of s x) (map (session_of s) xs)
@@ -165,7 +165,7 @@ module _ (s : Start) where
 
   -- ---- the requests of all nodes
 
-  abbrev Different : List ℕ → Type 0
+  abbrev pub Different : List ℕ → Type 0
   Different [] = Unit {0}
   Different (n ∷ ns) = AllByRecursion (λ m. n ≢ m) ns × Different ns
 
@@ -182,7 +182,7 @@ module _ (s : Start) where
       (apart_both n (at_node n s.sessions) (of_nodes ns) (of_node n s.sessions) (apart_at n s.sessions alone)
       (all_flat (λ (y : Request). n ≢ y.worker) (λ node. at_node node s.sessions) (λ m. n ≢ m) (not_of_node n) ns d.0) (apart_nodes alone ns d.1))
 
-  abbrev numbers_from : ℕ → List Node → List ℕ
+  abbrev pub numbers_from : ℕ → List Node → List ℕ
   numbers_from n xs = filter_map (λ x. x.node) (principals_from n xs)
 
   from_on : (n k : ℕ) (xs : List Node) → k < n → AllByRecursion (λ m. k ≢ m) (numbers_from n xs)
@@ -193,7 +193,7 @@ module _ (s : Start) where
         | false ↦ from_on n k xs l
       ]
 
-  different_from : (n : ℕ) (xs : List Node) → Different (numbers_from n xs)
+  pub different_from : (n : ℕ) (xs : List Node) → Different (numbers_from n xs)
   different_from n [] = tt
   different_from n (x ∷ xs) =
       elim (is_node x.role) as (λ b. Different (cons_option (if b then Some n else None) (numbers_from (if b then suc n else n) xs))) [
@@ -356,7 +356,7 @@ module _ (s : Start) where
       let parts = parts_empty (repeats node_name p.nodes) (repeats label_name p.labels ∷ repeats class_name p.classes ∷ flat_map doubled.in_class p.classes ∷ repeats method_name p.methods ∷ flat_map doubled.in_method p.methods ∷ repeats root_name s.roots ∷ repeats session_name (filter (is_workers s) s.sessions) ∷ []) all.1.0 in
       parts.1.1.1.1.1.1.1.0
 
-  alone : faults s ≡ [] → Alone number s.sessions
+  pub alone : faults s ≡ [] → Alone number s.sessions
   alone h =
       let ats = all_at s.sessions (known_sessions h) (placed_sessions h) in
       alone_from s.sessions ats (all_unlike [] s.sessions (subst (λ l. repeats session_name l ≡ []) (kept s.sessions ats) (single_sessions h)))

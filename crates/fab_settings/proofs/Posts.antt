@@ -38,7 +38,7 @@ before_cons k z zs = sum_by-cons (λ (w : Node). cond (is_node w.role) 1 0) z (t
     by false = omega arith
 
 -- what is no fault is allowed
-allowed : {A : Type 0} (b : Bool) (fault : A) → cond b [] (fault ∷ []) ≡ [] → b ≡ true
+pub allowed : {A : Type 0} (b : Bool) (fault : A) → cond b [] (fault ∷ []) ≡ [] → b ≡ true
 allowed true fault e = refl
 allowed false fault e = absurd (omega (arith, ap length e))
 
@@ -69,7 +69,7 @@ role_step n x xs = by (is_numbered n x.node)
     by false = ap at (place_further 0 n xs)
 
 -- where a name stands for a worker or store, the node of its number is what was declared of it
-role_at : (k : ℕ) (nodes : List Node) (x : Name) (y : Node) → named node_name nodes x ≡ Some y → is_node y.role ≡ true
+pub role_at : (k : ℕ) (nodes : List Node) (x : Name) (y : Node) → named node_name nodes x ≡ Some y → is_node y.role ≡ true
     → role_in (k + nodes_before (number_of node_name nodes x) nodes) (principals_from k nodes) ≡ Some y.role
 role_at k [] x y e of = absurd (cc)
 role_at k (z ∷ zs) x y e of = by (is_same_name z.name x) e (λ j h. role_at j zs x y h of)
