@@ -298,8 +298,8 @@ impl<J: Journal> Core<J> {
         }
     }
 
-    /// Whether an event that isn't cut may come.
-    fn may_whole(&self, event: Event) -> bool
+    /// Whether an event that isn't cut may come. It takes no memory.
+    pub fn may_whole(&self, event: Event) -> bool
         requires { IsUncut event }
         ensures { result ≡ enabled (setting self.now.given) (world self.now) (form_of (unmarked event)) }
     {

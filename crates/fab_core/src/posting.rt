@@ -1,8 +1,9 @@
 //! A hostile node sends its next bytes.
 
-ghost use Rattle.std.specs.Prelude.{◌≡◌, ◌<◌, ◌≢◌, ◌∷◌, [], length, slice_index};
+ghost use Rattle.std.specs.Prelude.{◌≡◌, ◌==◌, ◌&&◌, ◌<◌, ◌≢◌, ◌∷◌, [], length, slice_index};
 ghost use Rattle.fab_net.specs.declared.event.Event.TheVariants.{Post as Posted};
-ghost use Rattle.fab_world.specs.Machine.{Enabled};
+ghost use Rattle.fab_world.specs.Crashing.{target_in};
+ghost use Rattle.fab_world.specs.Machine.{Enabled, Posts, enabled};
 ghost use Rattle.fab_world.specs.Serial.{attempts};
 ghost use Rattle.fab_core.specs.Cores.{setting, unmarked, world};
 ghost use Rattle.fab_core.specs.Moved.{IsMoved};
@@ -45,6 +46,17 @@ fn next_of<'a>(given: &'a Given, places: &[usize], sender: u16) -> (&'a Post, us
 }
 
 impl<J: Journal> Core<J> {
+    /// Whether a hostile node may post, and posts to this node next.
+    pub fn may_post_to(&self, sender: u16, receiver: u16) -> bool
+        ensures { result ≡ enabled (setting self.now.given) (world self.now) (Posts sender) && (target_in ((world self.now).posts sender) == receiver) }
+    {
+        if !self.may_whole(Event::Post(sender)) {
+            return false;
+        }
+        let (post, _) = next_of(&self.given, self.places.as_slice(), sender);
+        post.receiver == receiver
+    }
+
     /// A hostile node sends what it posts next.
     pub(crate) fn posts(&mut self, h: u16) -> Result<Applied, NoMemory>
         requires enabled { Enabled (setting self.old.given) (world self.old) (unmarked (Posted h)) }

@@ -1,0 +1,127 @@
+-- The form that the lines give an event that comes, by the line and by the record; and of which node it is.
+use Rattle.std.proofs.Common.{◌≡◌, ℕ, List, true, Option, Some, None, length, min}
+use Rattle.std.proofs.Common.{refl, sym, ap, ◌∙◌, subst}
+use Rattle.std.specs.Prelude.{is_some, option_map, if◌then◌else◌}
+use Rattle.fab_base.specs.declared.entry.Entry.{Entry}
+use Rattle.fab_base.specs.JournalSpelling.{record_bytes}
+use Rattle.fab_eval.specs.declared.done.Done.{Done}
+use Rattle.fab_journal.proofs.Journals.{version_stays}
+use Rattle.fab_net.specs.declared.event.Event.{Event}
+use Rattle.fab_net.specs.declared.event.Event.TheVariants as e
+use Rattle.fab_net.specs.declared.event.Inner.{Inner}
+use Rattle.fab_net.specs.declared.event.Inner.TheVariants as i
+use Rattle.fab_world.specs.Machine.{World, Move, Form, Does, Cuts, act, form_of, node_of, record_behind}
+use Rattle.fab_world.specs.Crashing.{CrashLine, goes_on, keeps_by, line_now, may_follow}
+use Rattle.fab_settings.specs.Settings.{lines_of}
+use Rattle.fab_node.specs.Standing.{GivenModel}
+use Rattle.fab_core.specs.Cores.{CoreModel, EventHasDone, InnerHasDone, setting, unmarked, world, world_by}
+use Rattle.fab_core.specs.Moved.{event_of}
+use Rattle.fab_core.specs.Telling.{length_in}
+use Rattle.fab_core.proofs.Tables.{form_is}
+use Rattle.fab_exchange.specs.Comings.{IsAsBefore, IsFormed, MayFollow, MayGoOn}
+use Rattle.fab_exchange.specs.Dues.{form_at, form_by, line_of}
+use Rattle.fab_exchange.specs.Turns.{IsOf, node_with}
+use Rattle.fab_exchange.proofs.Following.{form_follows}
+
+module _ (g : GivenModel) (moves : List Move) (x : Inner) where
+  abbrev w : World
+  w = world_by g moves
+
+  abbrev formed : Option Entry → Option CrashLine → Form
+  formed entry line =
+      form_by x (if is_some entry then keeps_by (setting g) (lines_of g.program) line else None) (length (record_behind (w.node (node_of x)).entries entry))
+
+  abbrev line : Option CrashLine
+  line = line_now (setting g) (lines_of g.program) w moves (node_of x)
+
+  entry_whole : (entry : Option Entry) (used : Option CrashLine) → keeps_by (setting g) (lines_of g.program) used ≡ None → formed entry used ≡ Does x
+  entry_whole None used none = refl
+  entry_whole (Some entry) used none = ap (λ kept. form_by x kept (length (record_behind (w.node (node_of x)).entries (Some entry)))) none
+
+  -- no line is used, or none that cuts
+  pub form_whole : line_of g moves (node_of x) ≡ None → form_at g moves x ≡ Does x
+  unfolding form_at line_of
+  form_whole none = entry_whole (act (setting g) w x).entry line (ap (keeps_by (setting g) (lines_of g.program)) none)
+
+  pub form_uncut : (used : CrashLine) → line_of g moves (node_of x) ≡ Some used → used.keep ≡ None → form_at g moves x ≡ Does x
+  unfolding form_at line_of
+  form_uncut used is none = entry_whole (act (setting g) w x).entry line (ap (keeps_by (setting g) (lines_of g.program)) is ∙ none)
+
+  entry_none : (entry : Option Entry) → option_map (λ y. length (record_bytes 1 y)) entry ≡ None → formed entry line ≡ Does x
+  entry_none None h = refl
+  entry_none (Some entry) h = absurd (cc)
+
+  -- it writes no record
+  pub form_unwritten : length_in (act (setting g) w x) ≡ None → form_at g moves x ≡ Does x
+  unfolding form_at
+  form_unwritten h = entry_none (act (setting g) w x).entry h
+
+  entry_cut : (entry : Option Entry) (used : Option CrashLine) (bytes most : ℕ) → keeps_by (setting g) (lines_of g.program) used ≡ Some bytes
+      → option_map (λ y. length (record_bytes 1 y)) entry ≡ Some most → formed entry used ≡ Cuts (min bytes most) x
+  entry_cut None used bytes most kept h = absurd (cc)
+  entry_cut (Some entry) used bytes most kept h =
+      ap (λ k. form_by x k (length (record_behind (w.node (node_of x)).entries (Some entry)))) kept
+      ∙ ap (λ v. Cuts (min bytes (length (record_bytes v entry))) x) (version_stays 1 (w.node (node_of x)).entries)
+      ∙ ap (λ k. Cuts (min bytes k) x) (some_length h)
+    where
+      some_length : Some (length (record_bytes 1 entry)) ≡ Some most → length (record_bytes 1 entry) ≡ most
+      some_length h = cc
+
+  -- a line cuts it
+  pub form_cut : (used : CrashLine) (bytes most : ℕ) → line_of g moves (node_of x) ≡ Some used → used.keep ≡ Some bytes
+      → length_in (act (setting g) w x) ≡ Some most → form_at g moves x ≡ Cuts (min bytes most) x
+  unfolding form_at line_of
+  form_cut used bytes most is kept h =
+      entry_cut (act (setting g) w x).entry line bytes most (ap (keeps_by (setting g) (lines_of g.program)) is ∙ kept) h
+
+  -- it is of the node of the event
+  pub form_node : node_with w (form_at g moves x) ≡ node_of x
+  unfolding form_at
+  form_node = by (if is_some (act (setting g) w x).entry then keeps_by (setting g) (lines_of g.program) line else None)
+    where
+      by : (kept : Option ℕ) → node_with w (form_by x kept (length (record_behind (w.node (node_of x)).entries (act (setting g) w x).entry))) ≡ node_of x
+      by None = refl
+      by (Some bytes) = refl
+
+-- ---- an event that is done whole
+
+pub whole_of : (x : Inner) → IsOf x (event_of x)
+whole_of (i.Begin n) = refl
+whole_of (i.Resume n) = refl
+whole_of (i.Deliver a b) = refl
+whole_of (i.Idle n s) = refl
+whole_of (i.Recover n) = refl
+
+pub whole_has_done : (g : GivenModel) (w : World) (x : Inner) (over : Option Done) → InnerHasDone g w x over → EventHasDone g w (event_of x) over
+whole_has_done g w (i.Begin n) over h = tt
+whole_has_done g w (i.Resume n) over h = h
+whole_has_done g w (i.Deliver a b) over h = tt
+whole_has_done g w (i.Idle n s) over h = tt
+whole_has_done g w (i.Recover n) over h = tt
+
+-- ---- what is formed
+
+module _ (m : CoreModel) (x : Inner) (over : Option Done) (has : InnerHasDone m.given (world m) x over) where
+  pub formed_whole : form_at m.given m.moves x ≡ Does x → IsFormed m x over (event_of x)
+  formed_whole is = record { is = whole_of x; form = form_is x ∙ sym is; done = whole_has_done m.given (world m) x over has }
+
+  pub formed_cut : (bytes most : ℕ) → form_at m.given m.moves x ≡ Cuts (min bytes most) x → IsFormed m x over (e.CrashIn (min bytes most) x)
+  formed_cut bytes most is = record { is = refl; form = sym is; done = has }
+
+-- it follows, where what it is formed of goes on
+formed_by : (g : GivenModel) (moves : List Move) (x : Inner) (event : Event) → goes_on (setting g) (lines_of g.program) (world_by g moves) moves x ≡ true
+    → form_of (unmarked event) ≡ form_at g moves x → may_follow (setting g) (lines_of g.program) (world_by g moves) moves (form_of (unmarked event)) ≡ true
+unfolding form_at
+formed_by g moves x event goes form =
+    subst (λ y. may_follow (setting g) (lines_of g.program) (world_by g moves) moves y ≡ true) (sym form)
+    (form_follows (setting g) (lines_of g.program) (world_by g moves) moves x goes)
+
+pub formed_follows : (old new : CoreModel) (x : Inner) (over : Option Done) (event : Event) → MayGoOn old x over → IsFormed old x over event → IsAsBefore old new
+    → MayFollow new event over
+formed_follows old new x over event may formed kept =
+    let Can : GivenModel → List Move → Type 0 =
+    λ g ms. may_follow (setting g) (lines_of g.program) (world_by g ms) ms (form_of (unmarked event)) ≡ true in
+    let Has : GivenModel → List Move → Type 0 = λ g ms. EventHasDone g (world_by g ms) event over in record {
+      follows = subst (λ g. Can g new.moves) (sym kept.given) (subst (Can old.given) (sym kept.moves) (formed_by old.given old.moves x event may.goes formed.form));
+      done = subst (λ g. Has g new.moves) (sym kept.given) (subst (Has old.given) (sym kept.moves) formed.done);
+    }

@@ -1,0 +1,29 @@
+use Rattle.std.proofs.Common.{refl, subst}
+use Rattle.fab_core.specs.Cores.{CoreModel, world}
+use Rattle.fab_core.specs.Telling.{TellsJob}
+use Rattle.fab_exchange.proofs.Turning.{takes}
+use Rattle.fab_exchange.proofs.Working.{current, may_resume, stale}
+use Rattle.fab_exchange.proofs.exchange.Exchange.give.Goals as goal
+
+pub returns-then-not-is_current-clause-gives : goal.returns-then-not-is_current-clause-gives
+returns-then-not-is_current-clause-gives g c =
+    let m = c.args.self.now in
+    let Told : CoreModel → Type 0 = λ k. TellsJob k.given (world k) c.args.node c.in-Ok.told in record {
+      stale = stale m.given m.moves c.args.node c.in-Ok.told c.args.done.job (subst Told c.self.view_is c.in-Ok.ensures.job) c.if-not-is_current.ensures;
+      back_is = refl;
+      moves = refl;
+    }
+
+pub does-requires : goal.does-requires
+does-requires g c =
+    let m = c.args.self.now in
+    let Told : CoreModel → Type 0 = λ k. TellsJob k.given (world k) c.args.node c.in-Ok.told in
+    let it = current m.given m.moves c.args.node c.in-Ok.told c.args.done.job (subst Told c.self.view_is c.in-Ok.ensures.job) c.if-not-is_current.ensures c.requires.program in
+    record { goes = may_resume m.given m.moves c.args.node it.at_work; done = λ up busy. it.job_is }
+
+pub returns-in-Ok-does-clause-gives : goal.returns-in-Ok-does-clause-gives
+returns-in-Ok-does-clause-gives g c =
+    let m = c.args.self.now in
+    let Told : CoreModel → Type 0 = λ k. TellsJob k.given (world k) c.args.node c.in-Ok.told in
+    let it = current m.given m.moves c.args.node c.in-Ok.told c.args.done.job (subst Told c.self.view_is c.in-Ok.ensures.job) c.if-not-is_current.ensures c.requires.program in
+    takes m.given c.args.node c.args.done m m.moves c.does.new.self.moves refl refl it (may_resume m.given m.moves c.args.node it.at_work) c.in-Ok-does.ensures.moves

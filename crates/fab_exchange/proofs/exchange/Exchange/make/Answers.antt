@@ -1,0 +1,8 @@
+use Rattle.std.proofs.Common.{ap, ◌∙◌}
+use Rattle.fab_rights.specs.Computed.{nodes_in}
+use Rattle.fab_exchange.proofs.Starts.{start_is}
+use Rattle.fab_exchange.proofs.exchange.Exchange.make.Goals as goal
+
+pub invariant_of-result : goal.invariant_of-result
+invariant_of-result g c =
+    start_is c.args.core c.in_ok-nodes.nodes.items c.in_ok-counts.counts.items c.requires.start c.requires.unfailed (c.in_ok-nodes.ensures ∙ ap nodes_in c.rights.ensures) c.in_ok-counts.ensures

@@ -1,0 +1,17 @@
+//! All nodes of a bundle, one event at a time: whose turn it is, what comes of it, and the crashes that the bundle's lines
+//! make.
+#![tactic(auto)]
+
+mod acting;
+mod counting;
+mod events;
+mod exchange;
+mod finding;
+mod found;
+mod lines;
+mod same;
+mod taking;
+mod turn;
+
+pub use exchange::Exchange;
+pub use turn::{GiveRefused, Given, Turn};

@@ -1,0 +1,81 @@
+//! Whose turn it is, and what comes of it.
+ghost use Rattle.std.specs.Prelude.{◌≡◌, IfOk, IfErr, OnErr};
+ghost use Rattle.std.specs.Bool.{MatchBool};
+ghost use Rattle.fab_exchange.specs.Jobs.{IsTold};
+ghost use Rattle.fab_exchange.specs.Turns.{AreAsSure, Gives, IsStale, IsStill, Turns};
+
+use crate::exchange::Exchange;
+use crate::found::Found;
+use crate::same::is_same_job;
+use crate::turn::{GiveRefused, Given, Turn};
+use fab_base::NoMemory;
+use fab_device::Journal;
+use fab_eval::{Done, Job};
+use fab_net::{Event, Inner};
+
+impl<J: Journal> Exchange<J> {
+    /// An event of a node comes that is due; or its evaluation is asked for, whose end is due; or it is to wait, exactly where none
+    /// of it is due and one of another node is; or all is over, exactly where none is due at all. But for an event, nothing changes.
+    pub fn next(&mut self, node: u16) -> Result<Turn, NoMemory>
+        ensures given { self.new.given ≡ self.old.given }
+        ensures turns { IfOk result (Turns self.old.given node self.old.moves self.new.moves) }
+        ensures still { IfOk result (λ turn. IsStill turn → self.new ≡ self.old) }
+        ensures memory { OnErr result (self.new.moves ≡ self.old.moves) }
+        ensures sure { AreAsSure self.old.journals self.new.journals }
+    {
+        self.core.is_a_run();
+        match self.found(node) {
+            Some(Found::Crash) => {
+                self.enact(Event::Crash(node), None)?;
+                Ok(Turn::Acted)
+            }
+            Some(Found::Evaluation) => match self.core.job(node)? {
+                Some(job) => Ok(Turn::Evaluate(job)),
+                None => unreachable!(),
+            },
+            Some(Found::Does(inner)) => {
+                self.does(inner, None)?;
+                Ok(Turn::Acted)
+            }
+            Some(Found::Post(sender)) => {
+                self.enact(Event::Post(sender), None)?;
+                Ok(Turn::Acted)
+            }
+            None if self.is_some_due() => Ok(Turn::Wait),
+            None => Ok(Turn::Over),
+        }
+    }
+
+    /// What a worker's job came to is taken, and the worker goes on. It is given back exactly where it isn't what the worker has to
+    /// evaluate, and then nothing changes.
+    pub fn give(&mut self, node: u16, done: Done) -> Result<Given, GiveRefused>
+        requires program { done.job.program.value ≡ self.old.given.program }
+        ensures given { self.new.given ≡ self.old.given }
+        ensures gives { IfOk result (Gives self.old.given node done self.old.moves self.new.moves) }
+        ensures stale { IfOk result (λ given. IsStale given → self.new ≡ self.old) }
+        ensures back { IfErr result (λ e. e.done ≡ done) }
+        ensures memory { OnErr result (self.new.moves ≡ self.old.moves) }
+        ensures sure { AreAsSure self.old.journals self.new.journals }
+    {
+        let Ok(told) = self.core.job(node) else {
+            return Err(GiveRefused { done });
+        };
+        if !is_current(told, &done.job) {
+            return Ok(Given::Stale(done));
+        }
+        match self.does(Inner::Resume(node), Some(&done)) {
+            Ok(()) => Ok(Given::Taken),
+            Err(_) => Err(GiveRefused { done }),
+        }
+    }
+}
+
+/// Whether a job is the one that was told.
+fn is_current(told: Option<Job>, job: &Job) -> bool
+    ensures { MatchBool result (IsTold told job.now) (IsTold told job.now → ⊥) }
+{
+    match told {
+        Some(current) => is_same_job(&current, job),
+        None => false,
+    }
+}
