@@ -1,0 +1,25 @@
+-- What a turn tells of the end.
+use Rattle.std.specs.Prelude.{◌≡◌, ℕ, List, Result, Ok, Err, IfOk}
+use Rattle.std.proofs.Common.{sym, subst}
+use Rattle.fab_world.specs.Machine.{Move}
+use Rattle.fab_node.specs.Standing.{GivenModel}
+use Rattle.fab_exchange.specs.Turns.{AreOver, Turns}
+use Rattle.fab_exchange.specs.declared.turn.Turn.{Turn}
+use Rattle.fab_exchange.specs.declared.turn.Turn.TheVariants as t
+use Rattle.fab_threads.specs.Counts.{OnOver}
+use Rattle.fab_threads.specs.Dones.{IsDone}
+
+-- the answer that all is over says that it is, behind the turn as before it
+over_turn : (g new_g : GivenModel) (n : ℕ) (old new : List Move) (turn : Turn) → new_g ≡ g → Turns g n old new turn → OnOver turn (IsDone new_g new)
+over_turn g new_g n old new t.Acted same h = tt
+over_turn g new_g n old new (t.Evaluate job) same h = tt
+over_turn g new_g n old new t.Wait same h = tt
+over_turn g new_g n old new t.Over same h =
+    let P : GivenModel → Type 0 = λ x. AreOver x new in
+    let Q : List Move → Type 0 = λ moves. AreOver g moves in
+    record { over = subst P (sym same) (subst Q (sym h.moves) h.over) }
+
+pub over_told : {E : Type 0} (g new_g : GivenModel) (n : ℕ) (old new : List Move) (result : Result Turn E) → new_g ≡ g → IfOk result (Turns g n old new)
+    → IfOk result (λ turn. OnOver turn (IsDone new_g new))
+over_told g new_g n old new (Ok turn) same h = over_turn g new_g n old new turn same h
+over_told g new_g n old new (Err e) same h = tt

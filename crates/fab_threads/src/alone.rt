@@ -1,0 +1,68 @@
+//! One thread alone: it takes the turns that are left.
+ghost use Rattle.std.specs.Prelude.{◌≡◌, ℕ, ◌+◌, IfOk};
+ghost use Rattle.fab_threads.specs.Counts.{OnOver, acted_turn};
+
+use crate::evaluating::evaluate_at;
+use crate::turning::Turning;
+use fab_base::NoMemory;
+use fab_exchange::{Given, Turn};
+use fab_gates::Gate;
+use std::alloc::{AllocError, Global};
+use std::sync::Wait;
+
+/// Nodes have numbers below this.
+const NUMBERS: u16 = 64;
+
+/// A turn of a node by the calling thread, with its evaluation.
+fn turn_alone<X: Turning, G: Gate>(
+    alloc: Global,
+    held: &mut X,
+    gate: &G,
+    node: u16,
+) -> Result<Turn, NoMemory>
+    ensures given { X.given held.new ≡ X.given held.old }
+    ensures sure { (n : ℕ) → X.sure held.new n ≡ X.sure held.old n }
+    ensures counted { IfOk result (λ turn. X.events held.new ≡ X.events held.old + acted_turn turn) }
+    ensures over { IfOk result (λ turn. OnOver turn (X.over held.new)) }
+{
+    match held.next(node)? {
+        Turn::Evaluate(job) => {
+            let done = evaluate_at(alloc, gate, node, job)?;
+            match held.give(node, done) {
+                Ok(Given::Taken) => Ok(Turn::Acted),
+                Ok(Given::Stale(_)) => Ok(Turn::Wait),
+                Err(_) => Err(AllocError),
+            }
+        }
+        turn => Ok(turn),
+    }
+}
+
+/// Takes turns until all is over, each time one of the least node of which something is due. How many events came.
+pub(crate) fn finish<X: Turning, R: Wait, G: Gate>(
+    rt: &R,
+    alloc: Global,
+    held: X,
+    gate: &G,
+) -> Result<(X, u64), NoMemory>
+    ensures given { IfOk result (λ r. X.given r.0 ≡ X.given held) }
+    ensures sure { IfOk result (λ r. (n : ℕ) → X.sure r.0 n ≡ X.sure held n) }
+    ensures counted { IfOk result (λ r. X.events r.0 ≡ X.events held + r.1) }
+    ensures over { IfOk result (λ r. X.over r.0) }
+{
+    let mut held = held;
+    let mut own = 0_u64;
+    let mut node = 0;
+    for _ in rt.forever() {
+        match turn_alone(alloc, &mut held, gate, node)? {
+            Turn::Acted => {
+                let _events = held.len();
+                own += 1;
+                node = 0;
+            }
+            Turn::Over => return Ok((held, own)),
+            Turn::Wait | Turn::Evaluate(_) => node = (node + 1) % NUMBERS,
+        }
+    }
+    unreachable!()
+}

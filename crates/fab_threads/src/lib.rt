@@ -1,0 +1,19 @@
+//! A run by threads: each node's thread takes turns under one lock, and evaluates outside of it. What the threads leave is done by the
+//! calling thread.
+//!
+//! What is known of the nodes each time the lock is taken is known by the type of what lies under it: that they are those of the start
+//! that the run is named by, and that each event was counted by a thread. So it is known of them when the threads have returned, too.
+//! Nothing is known of which thread does what, or when.
+#![tactic(auto)]
+
+mod alone;
+mod evaluating;
+mod name;
+mod running;
+mod shared;
+mod turning;
+
+pub use name::RunName;
+pub use running::{Finished, run_threads};
+pub use shared::Shared;
+pub use turning::Turning;

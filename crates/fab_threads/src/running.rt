@@ -1,0 +1,171 @@
+//! The threads, what each gives back, and the run when they have returned.
+ghost use Rattle.std.specs.Prelude.{◌≡◌, ◌+◌, ◌<◌, ℕ, [], sum, length, vec_len, IfOk};
+ghost use Rattle.fab_exchange.specs.Turns.{AreAsSure, AreOver};
+
+use crate::alone::finish;
+use crate::evaluating::evaluate_at;
+use crate::name::RunName;
+use crate::shared::Shared;
+use crate::turning::Turning;
+use fab_base::NoMemory;
+use fab_device::Journal;
+use fab_exchange::{Exchange, Given, Turn};
+use fab_gates::Gate;
+use std::alloc::Global;
+use std::marker::Brand;
+use std::sync::ledger::{Blank, Share};
+use std::sync::{Mutex, Wait};
+use std::thread;
+use std::thread::Threads;
+
+/// After so many answers to wait in a row a thread leaves.
+const MOST_WAITS: u32 = 100_000;
+
+/// What a thread begins with.
+#[derive(Drop)]
+struct Worker<N: RunName> {
+    node: u16,
+    share: Share<N>,
+    ghost one_part: { share.parts ≡ 1 },
+    ghost nothing: { share.amount ≡ 0 },
+}
+
+/// What a thread gives back: how many events it made.
+#[derive(Drop)]
+struct Ran<N: RunName> {
+    share: Share<N>,
+    count: u64,
+    ghost one_part: { share.parts ≡ 1 },
+    ghost counted: { share.amount ≡ count },
+}
+
+/// A run that is over, with the number of events of each thread, in the order of their nodes, and of those that the calling thread made.
+#[derive(Drop)]
+pub struct Finished<J: Journal> {
+    pub exchange: Exchange<J>,
+    pub counts: Vec<u64>,
+    pub own: u64,
+}
+
+fn worker_of<N: RunName>(node: u16, share: Share<N>) -> Worker<N>
+    requires one_part { share.parts ≡ 1 }
+    requires nothing { share.amount ≡ 0 }
+{
+    Worker { node, share }
+}
+
+fn ran_with<N: RunName>(share: Share<N>, count: u64) -> Ran<N>
+    requires one_part { share.parts ≡ 1 }
+    requires counted { share.amount ≡ count }
+{
+    Ran { share, count }
+}
+
+/// One node's thread. It takes turns of its node until all is over, it has waited too long, or memory runs out; what it leaves undone is
+/// found due again by others. Each turn is bound before it is looked at, so that the lock is free while a job is evaluated.
+fn work<X: Turning, N: RunName, R: Wait, G: Gate>(
+    rt: &R,
+    alloc: Global,
+    shared: &Mutex<Shared<X, N>>,
+    gate: &G,
+    worker: Worker<N>,
+) -> Ran<N> {
+    let Worker { node, mut share } = worker;
+    let mut count = 0_u64;
+    let mut waits = 0;
+    for _ in rt.forever() {
+        let turn = shared.lock(rt).next(node, &mut share);
+        match turn {
+            Ok(Turn::Acted) => {
+                count += 1;
+                waits = 0;
+            }
+            Ok(Turn::Evaluate(job)) => {
+                waits = 0;
+                let Ok(done) = evaluate_at(alloc, gate, node, job) else {
+                    break;
+                };
+                let given = shared.lock(rt).give(node, done, &mut share);
+                match given {
+                    Ok(Given::Taken) => count += 1,
+                    Ok(Given::Stale(_)) => {}
+                    Err(_) => break,
+                }
+            }
+            Ok(Turn::Wait) => {
+                if waits >= MOST_WAITS {
+                    break;
+                }
+                waits += 1;
+                thread::yield_now();
+            }
+            Ok(Turn::Over) | Err(_) => break,
+        }
+    }
+    ran_with(share, count)
+}
+
+/// The threads, under a name.
+fn run_named<X: Turning + Send, N: RunName + Send + Sync, R: Threads + Wait + Sync, G: Gate + Sync>(
+    rt: &R,
+    alloc: Global,
+    held: X,
+    nodes: &[u16],
+    gate: &G,
+    blank: Blank,
+) -> Result<(X, Vec<u64>), NoMemory>
+    requires given { X.given held ≡ N.given }
+    requires sure { (n : ℕ) → X.sure held n ≡ N.sure n }
+    requires empty { X.events held ≡ 0 }
+    requires name { blank.name ≡ N.name }
+    requires parts { blank.parts ≡ N.parts }
+    requires one_more { blank.parts ≡ length nodes.now + 1 }
+    ensures given { IfOk result (λ r. X.given r.0 ≡ N.given) }
+    ensures sure { IfOk result (λ r. (n : ℕ) → X.sure r.0 n ≡ N.sure n) }
+    ensures threads { IfOk result (λ r. vec_len r.1 ≡ length nodes.now) }
+    ensures counted { IfOk result (λ r. X.events r.0 ≡ sum r.1.items) }
+{
+    let (book, mut all) = blank.open::<N>();
+    let mut workers = Vec::new(alloc);
+    for place in 0..nodes.len() {
+        let share = all.split_off(1, 0);
+        workers.push(worker_of(nodes[place], share))?;
+    }
+    let shared = Mutex::new(Shared::new(held, book));
+    let rans = thread::map_vec(rt, workers, &|w| work(rt, alloc, &shared, gate, w))?;
+    let mut counts = Vec::new(alloc);
+    for Ran { share, count } in rans {
+        all.merge(share);
+        counts.push(count)?;
+    }
+    let held = shared.into_inner().close(&mut all);
+    Ok((held, counts))
+}
+
+/// Runs an exchange until it is over: a thread for each of these nodes, and what they leave by the calling thread. Each event of the run
+/// was counted once, by the thread that made it.
+pub fn run_threads<J: Journal + Drop + Send, R: Threads + Wait + Sync, G: Gate + Sync>(
+    rt: &R,
+    alloc: Global,
+    exchange: Exchange<J>,
+    nodes: &[u16],
+    gate: &G,
+) -> Result<Finished<J>, NoMemory>
+    requires { exchange.moves ≡ [] }
+    ensures given { IfOk result (λ x. x.exchange.given ≡ exchange.given) }
+    ensures sure { IfOk result (λ x. AreAsSure exchange.journals x.exchange.journals) }
+    ensures over { IfOk result (λ x. AreOver x.exchange.given x.exchange.moves) }
+    ensures threads { IfOk result (λ x. vec_len x.counts ≡ length nodes.now) }
+    ensures counted { IfOk result (λ x. length x.exchange.moves ≡ sum x.counts.items + x.own) }
+{
+    let blank = Blank::new(nodes.len() as u64 + 1);
+    let (exchange, counts) = run_named::<Exchange<J>, Brand, R, G>(
+        rt, alloc, exchange, nodes, gate, blank,
+    )?;
+    let (exchange, own) = finish(rt, alloc, exchange, gate)?;
+    Ok(Finished {
+        exchange,
+        counts,
+        own,
+    })
+}

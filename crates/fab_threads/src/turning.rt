@@ -1,0 +1,69 @@
+//! What takes turns.
+ghost use Rattle.std.specs.Prelude.{◌≡◌, ℕ, ◌+◌, Bool, length, IfOk};
+ghost use Rattle.fab_core.specs.Cores.{slot};
+ghost use Rattle.fab_core.specs.Moved.{sure_in};
+ghost use Rattle.fab_node.specs.Standing.{GivenModel};
+ghost use Rattle.fab_threads.specs.Counts.{JobIsReady, OnOver, acted, taken};
+ghost use Rattle.fab_threads.specs.Dones.{IsDone};
+
+use fab_base::NoMemory;
+use fab_device::Journal;
+use fab_eval::Done;
+use fab_exchange::{Exchange, GiveRefused, Given, Turn};
+
+/// What takes turns and counts its events, of nodes that were given something, some of whose journals never fail. It is what threads
+/// hand to each other, so nothing else of an exchange has to be said across threads.
+pub trait Turning: Drop {
+    /// What the nodes were given.
+    ghost given: { Self → GivenModel };
+
+    /// Which nodes have journals that never fail.
+    ghost sure: { Self → ℕ → Bool };
+
+    /// How many events have come.
+    ghost events: { Self → ℕ };
+
+    /// Nothing is due any more.
+    ghost over: { Self → Type 0 };
+
+    fn len(&self) -> usize
+        ensures { result ≡ events self.now };
+
+    /// A turn of a node.
+    fn next(&mut self, node: u16) -> Result<Turn, NoMemory>
+        ensures given { given self.new ≡ given self.old }
+        ensures sure { (n : ℕ) → sure self.new n ≡ sure self.old n }
+        ensures counted { events self.new ≡ events self.old + acted result }
+        ensures job { IfOk result (JobIsReady (given self.old).program) }
+        ensures over { IfOk result (λ turn. OnOver turn (over self.new)) };
+
+    /// What a node's job came to, brought back.
+    fn give(&mut self, node: u16, done: Done) -> Result<Given, GiveRefused>
+        requires { done.job.program.value ≡ (given self.old).program }
+        ensures given { given self.new ≡ given self.old }
+        ensures sure { (n : ℕ) → sure self.new n ≡ sure self.old n }
+        ensures counted { events self.new ≡ events self.old + taken result };
+}
+
+impl<J: Journal + Drop> Turning for Exchange<J> {
+    ghost given = { λ x. x.given };
+
+    ghost sure = { λ x n. sure_in (slot x.journals n) };
+
+    ghost events = { λ x. length x.moves };
+
+    ghost over = { λ x. IsDone x.given x.moves };
+
+    #[tactic(auto, using(crate::proofs::Logs::length_logs))]
+    fn len(&self) -> usize {
+        self.core().log().len()
+    }
+
+    fn next(&mut self, node: u16) -> Result<Turn, NoMemory> {
+        Exchange::next(self, node)
+    }
+
+    fn give(&mut self, node: u16, done: Done) -> Result<Given, GiveRefused> {
+        Exchange::give(self, node, done)
+    }
+}
