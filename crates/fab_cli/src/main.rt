@@ -3,6 +3,7 @@
 
 use fab_base::{StdSink, StdSource};
 use fab_device::FileJournals;
+use fab_gates::OpenGate;
 use fab_top::{Status, fab};
 use std::env;
 use std::io::ErrorKind;
@@ -16,10 +17,26 @@ fn main(rt: HostRuntime) -> ExitCode {
     // Words that aren't text are a faulty command line, as none are; want of memory is told as such.
     let status = match env::args(&rt) {
         Err(problem) if problem.kind() == ErrorKind::OutOfMemory => Status::Memory,
-        Err(_) => fab(alloc, &[], &mut source, &mut sink, &mut journals),
+        Err(_) => fab(
+            &rt,
+            alloc,
+            &[],
+            &mut source,
+            &mut sink,
+            &mut journals,
+            &OpenGate,
+        ),
         Ok(args) => match args.skip(1).collect::<Vec<String>>(alloc) {
             Err(_) => Status::Memory,
-            Ok(words) => fab(alloc, &words, &mut source, &mut sink, &mut journals),
+            Ok(words) => fab(
+                &rt,
+                alloc,
+                &words,
+                &mut source,
+                &mut sink,
+                &mut journals,
+                &OpenGate,
+            ),
         },
     };
     ExitCode::from(status.number())

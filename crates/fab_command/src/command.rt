@@ -15,7 +15,9 @@ pub enum Command {
     Format,
     /// The run of a bundle's schedule, and its report.
     Replay,
-    /// The same run, and in place of the report the messages that these nodes and the hostile ones got
+    /// A run of a bundle's nodes, each by itself, and its report.
+    Run,
+    /// The run of the schedule, and in place of the report the messages that these nodes and the hostile ones got
     /// from the others.
     View { nodes: Seq<Text> },
 }

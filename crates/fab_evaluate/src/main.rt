@@ -5,6 +5,7 @@
 use fab_base::{StdSink, StdSource};
 use fab_command::Command;
 use fab_device::FileJournals;
+use fab_replay::ByHand;
 use fab_reply::answer;
 use std::process::ExitCode;
 
@@ -15,6 +16,7 @@ fn main(rt: HostRuntime) -> ExitCode {
     let mut journals = FileJournals::new(&rt, alloc);
     let status = answer(
         alloc,
+        &ByHand,
         Some(Command::Evaluate),
         &mut source,
         &mut sink,

@@ -6,7 +6,7 @@ use std::alloc::Global;
 const NOTHING: &[&str] = &[];
 
 /// Words, and the words of the command that they ask for.
-const TABLE: [(&[&str], &[&str]); 42] = [
+const TABLE: [(&[&str], &[&str]); 46] = [
     (&[], NOTHING),
     (&["check"], &["check"]),
     (&["check", "A", "B"], NOTHING),
@@ -48,7 +48,11 @@ const TABLE: [(&[&str], &[&str]); 42] = [
     (&["view", "w1", ""], NOTHING),
     (&["view", "w1", "-s1"], NOTHING),
     (&["View", "w1"], NOTHING),
+    (&["replay"], &["replay"]),
     (&["replay", "w1"], NOTHING),
+    (&["run"], &["run"]),
+    (&["run", "w1"], NOTHING),
+    (&["Run"], NOTHING),
 ];
 
 /// Whether these are the texts, in order.
@@ -67,6 +71,8 @@ fn is_spelled(asked: &Option<Command>, words: &[&str]) -> bool {
         (Some(Command::Check), [word]) => *word == "check",
         (Some(Command::Evaluate), [word]) => *word == "eval",
         (Some(Command::Format), [word]) => *word == "fmt",
+        (Some(Command::Replay), [word]) => *word == "replay",
+        (Some(Command::Run), [word]) => *word == "run",
         (Some(Command::Flows { from, to }), [word, a, b]) => {
             *word == "flows" && from.as_str() == *a && to.as_str() == *b
         }

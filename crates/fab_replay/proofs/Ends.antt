@@ -1,8 +1,8 @@
--- What a replay leaves where it ends: its journals, and that none failed of which it is told that it can't.
-use Rattle.std.specs.Prelude.{◌≡◌, ◌<◌, ◌==◌, ℕ, Bool, true, false, List, map, take, Option, Some, None}
-use Rattle.std.proofs.Common.{refl, sym, ap, ◌∙◌, subst, true≢false, eq-eqb}
+-- What a run leaves where it ends: its journals, and that none failed of which it is told that it can't.
+use Rattle.std.specs.Prelude.{◌≡◌, ◌<◌, ◌==◌, ℕ, Bool, true, false, IsTrue, List, [], map, take, Option, Some, None, Result, Ok, IfOk, OnErr}
+use Rattle.std.proofs.Common.{refl, sym, ap, ◌∙◌, subst, true≢false}
+use Rattle.std.proofs.lemmas.Bool.{false_from_ne_true}
 use Rattle.fab_device.specs.Kept.{Entry}
-use Rattle.fab_language.specs.Words.{node_text}
 use Rattle.fab_rights.specs.Computed.{has_bit}
 use Rattle.fab_world.specs.Machine.{Move}
 use Rattle.fab_node.specs.Standing.{GivenModel, IsGiven, IsJournalOf, JournalModel}
@@ -12,134 +12,147 @@ use Rattle.fab_core.specs.Cores.{CoreModel, is_honest, setting, slot, world_by}
 use Rattle.fab_core.specs.Moved.{faults_in}
 use Rattle.fab_core.specs.Telling.{IsJournalAt, those_in}
 use Rattle.fab_core.specs.Honest.{AreFor, honest_in}
+use Rattle.fab_replay.specs.Courses.{HasRun, IsAtStart, IsCourse}
 use Rattle.fab_replay.specs.Integral.{IsExcluded, IsIntegral}
 use Rattle.fab_replay.specs.Isolated.{IsIsolated}
-use Rattle.fab_replay.specs.Kept.{IsCutShort, IsEntryAt, IsOfRun, IsPossible, OfRun, has_mark, with_more}
-use Rattle.fab_replay.specs.Replays.{Tells, StopsIn, events_of}
-use Rattle.fab_replay.specs.Running.{AreBehind, AreTaken, AreUnfailed, ComesTo, HasMore, IsBehind, IsUnfailed, entries_of, failed_by}
+use Rattle.fab_replay.specs.Kept.{IsCutShort, IsEntryAt, IsOfRun, IsPossible, IsReplayed, OfRun, has_mark, with_more}
+use Rattle.fab_replay.specs.Replays.{StopsIn, Tells, events_of}
+use Rattle.fab_replay.specs.Running.{AreBehind, AreMarked, AreSure, AreUnfailed, ComesTo, HasMore, IsBehind, IsMarked, entries_of, failed_by}
 use Rattle.fab_replay.specs.declared.replayed.Replayed.{Replayed}
 use Rattle.fab_replay.specs.declared.replayed.Replayed.TheVariants as r
 use Rattle.fab_replay.specs.declared.replayed.Wanted.{Wanted}
+use Rattle.fab_replay.specs.declared.replayed.Wanted.TheVariants.{Run}
 use Rattle.fab_replay.specs.declared.running.Ran.{Ran}
 use Rattle.fab_replay.specs.declared.running.Ran.TheVariants as ran
 use Rattle.fab_replay.proofs.Aligned.{StandsAt, entries_for}
-use Rattle.fab_replay.proofs.Numbered.{at_place, honest_within, in_order}
+use Rattle.fab_replay.proofs.Numbered.{honest_within, in_order}
 use Rattle.fab_replay.proofs.Keeping.{positive}
 use Rattle.fab_replay.proofs.Moves.{marked_moves, unmarked_moves}
+use Rattle.fab_replay.proofs.Told.{faulty_has}
+use Rattle.fab_replay.proofs.Viewing.{if_ok_weaker}
 
 -- ---- marks
 
 cut_marks : (g : GivenModel) (moves : List Move) (node : ℕ) → StopsIn g moves node → (n : ℕ) → has_mark moves n ≡ (node == n)
 cut_marks g moves node h n = ap (λ ms. has_mark ms n) h.moves_are ∙ marked_moves h.before h.event n ∙ ap (λ m. m == n) (sym h.node_is)
 
--- marks stand where the replay was cut
-pub marks_of : (g : GivenModel) (moves : List Move) (ran : Ran) → ComesTo g moves ran → (n : ℕ) → has_mark moves n ≡ failed_by ran n
+-- marks stand where the schedule's run was cut
+marks_of : (g : GivenModel) (moves : List Move) (ran : Ran) → ComesTo g moves ran → (n : ℕ) → has_mark moves n ≡ failed_by ran n
 marks_of g moves ran.Through h n = ap (λ ms. has_mark ms n) h ∙ unmarked_moves (events_of g.program) n
 marks_of g moves (ran.Barred number) h n = ap (λ ms. has_mark ms n) h.moves_are ∙ unmarked_moves h.before n
 marks_of g moves (ran.Cut node) h n = cut_marks g moves node h n
 
--- ---- at the start
+-- ---- behind a schedule's run
 
-stands_for : (g : GivenModel) (moves : List Move) (n : ℕ) (o : Option JournalModel) → IsJournalAt g ((world_by g moves).node n) n o
-    → StandsAt (is_honest g) (λ m j. IsJournalOf m ((world_by g moves).node m) j.content j.synced) n o
-stands_for g moves n None h = h
-stands_for g moves n (Some j) h = h
+module _ (told : Option (List (List ℕ))) (g : GivenModel) (moves : List Move) (ran : Ran) (old new : List (Option JournalModel))
+    (unfailed : AreUnfailed told g old) (behind : AreBehind (failed_by ran) old new) where
+  -- a journal that hadn't failed, of a node that failed or not
+  marked_by : (mark : Bool) (n : ℕ) → IsBehind mark (slot old n) (slot new n) → IsMarked mark (slot new n)
+  marked_by mark n h = record {
+    failed = λ e. positive (faults_in (slot old n)) (faults_in (slot new n)) (unfailed n).faults (h.rose e);
+    sound = λ e. h.same e ∙ (unfailed n).faults;
+    never = λ e. false_from_ne_true mark (λ t. true≢false (sym (sym h.sure ∙ e) ∙ h.never t));
+  }
 
--- what is known of the journals in their order is known at each place
-pub are_unfailed : (told : Option (List (List ℕ))) (g : GivenModel) (moves : List Move) (js : List (Option JournalModel)) → IsGiven g
-    → ((n : ℕ) → IsJournalAt g ((world_by g moves).node n) n (slot js n))
-    → AreFor (λ n j. IsUnfailed told (node_text g.program n) (Some j)) (honest_in g) (those_in js) → AreUnfailed told g js
-are_unfailed told g moves js given at h n = by (slot js n) refl
-  where
-    by : (o : Option JournalModel) → slot js n ≡ o → IsUnfailed told (node_text g.program n) (slot js n)
-    by None e = subst (IsUnfailed told (node_text g.program n)) (sym e) (record { faults = refl; sure = λ cannot. refl })
-    by (Some j) e =
-        subst (IsUnfailed told (node_text g.program n)) (sym e)
-        (at_place g 64 (honest_within g given) (λ m j. IsJournalOf m ((world_by g moves).node m) j.content j.synced) js (λ m. stands_for g moves m (slot js m) (at m))
-        (λ m j. IsUnfailed told (node_text g.program m) (Some j)) h n j e)
+  -- marks stand where journals failed
+  pub are_marked : ComesTo g moves ran → AreMarked moves new
+  are_marked came n = subst (λ t. IsMarked t (slot new n)) (sym (marks_of g moves ran came n)) (marked_by (failed_by ran n) n (behind n))
+
+  -- and what never fails never does
+  pub still_sure : AreSure told g new
+  still_sure n cannot = (behind n).sure ∙ (unfailed n).sure cannot
 
 -- ---- at the end
 
-module _ (told : Option (List (List ℕ))) (g : GivenModel) (moves : List Move) (old new : List (Option JournalModel))
-    (unfailed : AreUnfailed told g old) (behind : AreBehind (has_mark moves) old new) where
+module _ (g : GivenModel) (moves : List Move) (journals : List (Option JournalModel)) (marked : AreMarked moves journals) where
   pub record IsLeft (n : ℕ) (j : JournalModel) : Type 0 where
     pub journal : IsJournalOf n ((world_by g moves).node n) j.content j.synced
     pub sound : has_mark moves n ≡ false → j.faults ≡ 0
     pub failed : has_mark moves n ≡ true → 0 < j.faults
 
-  left_at : (n : ℕ) (x o : Option JournalModel) → IsJournalAt g ((world_by g moves).node n) n o → IsUnfailed told (node_text g.program n) x → IsBehind (has_mark moves n) x o
-      → StandsAt (is_honest g) IsLeft n o
-  left_at n x None at u b = at
-  left_at n x (Some j) at u b =
-      (at.0, record { journal = at.1; sound = λ e. b.same e ∙ u.faults; failed = λ e. positive (faults_in x) j.faults u.faults (b.rose e) })
+  left_at : (n : ℕ) (o : Option JournalModel) → IsJournalAt g ((world_by g moves).node n) n o → IsMarked (has_mark moves n) o → StandsAt (is_honest g) IsLeft n o
+  left_at n None at m = at
+  left_at n (Some j) at m = (at.0, record { journal = at.1; sound = m.sound; failed = m.failed })
 
-  pub are_kept : IsGiven g → ((n : ℕ) → IsJournalAt g ((world_by g moves).node n) n (slot new n))
-      → AreFor (IsEntryAt g moves) (honest_in g) (entries_of g.program (honest_in g) (those_in new))
+  pub are_kept : IsGiven g → ((n : ℕ) → IsJournalAt g ((world_by g moves).node n) n (slot journals n))
+      → AreFor (IsEntryAt g moves) (honest_in g) (entries_of g.program (honest_in g) (those_in journals))
   are_kept given at =
-      entries_for g.program IsLeft (IsEntryAt g moves) (λ n j h. record { name = refl; journal = h.journal; sound = h.sound; failed = h.failed }) (honest_in g) (those_in new)
-      (in_order g 64 (honest_within g given) IsLeft new (λ n. left_at n (slot old n) (slot new n) (at n) (unfailed n) (behind n)))
+      entries_for g.program IsLeft (IsEntryAt g moves) (λ n j h. record { name = refl; journal = h.journal; sound = h.sound; failed = h.failed }) (honest_in g) (those_in journals)
+      (in_order g 64 (honest_within g given) IsLeft journals (λ n. left_at n (slot journals n) (at n) (marked n)))
 
-  pub is_possible : (wanted : Wanted) (answer : Replayed) → Tells g wanted moves answer → IsPossible told g.program answer
-  is_possible wanted (r.Done bytes) h = tt
-  is_possible wanted (r.NotEnabled number) h = tt
-  is_possible wanted (r.JournalFault node None) h = absurd h
-  is_possible wanted (r.JournalFault node (Some bytes)) h = λ cannot.
-      let mark : has_mark moves node ≡ true = cut_marks g moves node h.0 node ∙ eq-eqb node node refl in
-      true≢false (sym ((unfailed node).sure cannot) ∙ (behind node).never mark)
+  pub is_possible : (told : Option (List (List ℕ))) → AreSure told g journals → (wanted : Wanted) (answer : Replayed) → Tells g wanted moves answer → IsPossible told g.program answer
+  is_possible told sure wanted (r.Done bytes) h = tt
+  is_possible told sure wanted (r.NotEnabled number) h = tt
+  is_possible told sure wanted (r.JournalFault node None) h = absurd h
+  is_possible told sure wanted (r.JournalFault node (Some bytes)) h = λ cannot. true≢false (sym (faulty_has g moves wanted node h.0) ∙ (marked node).never (sure node cannot))
 
 -- ---- the whole
 
-module _ {J : Type 0} (seen : J → JournalModel) (told : Option (List (List ℕ))) (first last : CoreModel) (program : Resolved) (nodes : List ℕ) (ran : Ran) (journals : List J)
-    (given : IsGiven first.given) (at : (n : ℕ) → IsJournalAt first.given ((world_by first.given first.moves).node n) n (slot first.journals n))
-    (taken : AreTaken told first.given first.journals) (e : last.given ≡ first.given) (came : ComesTo first.given last.moves ran)
-    (behind : AreBehind (failed_by ran) first.journals last.journals)
-    (left : (n : ℕ) → IsJournalAt last.given ((world_by last.given last.moves).node n) n (slot last.journals n))
-    (p : program ≡ first.given.program) (q : nodes ≡ honest_in first.given) (js : map seen journals ≡ those_in last.journals) where
-  unfailed_first : AreUnfailed told first.given first.journals
-  unfailed_first = are_unfailed told first.given first.moves first.journals given at taken
-
-  behind_marks : AreBehind (has_mark last.moves) first.journals last.journals
-  behind_marks n =
-      subst (λ t. IsBehind t (slot first.journals n) (slot last.journals n)) (sym (marks_of first.given last.moves ran came n)) (behind n)
-
+module _ {J : Type 0} (seen : J → JournalModel) (core : CoreModel) (program : Resolved) (nodes : List ℕ) (journals : List J)
+    (given : IsGiven core.given) (at : (n : ℕ) → IsJournalAt core.given ((world_by core.given core.moves).node n) n (slot core.journals n))
+    (marked : AreMarked core.moves core.journals)
+    (p : program ≡ core.given.program) (q : nodes ≡ honest_in core.given) (js : map seen journals ≡ those_in core.journals) where
   abbrev entries : List Entry
-  entries = entries_of first.given.program (honest_in first.given) (those_in last.journals)
+  entries = entries_of core.given.program (honest_in core.given) (those_in core.journals)
 
-  are : AreFor (IsEntryAt first.given last.moves) (honest_in first.given) entries
-  are =
-      are_kept told first.given last.moves first.journals last.journals unfailed_first behind_marks given
-      (subst (λ (x : GivenModel). (n : ℕ) → IsJournalAt x ((world_by x last.moves).node n) n (slot last.journals n)) e left)
+  are : AreFor (IsEntryAt core.given core.moves) (honest_in core.given) entries
+  are = are_kept core.given core.moves core.journals marked given at
 
   are_those : entries_of program nodes (map seen journals) ≡ entries
   are_those =
       ap (entries_of program nodes) js
-      ∙ ap (λ (r : Resolved). entries_of r nodes (those_in last.journals)) p
-      ∙ ap (λ ns. entries_of first.given.program ns (those_in last.journals)) q
+      ∙ ap (λ (r : Resolved). entries_of r nodes (those_in core.journals)) p
+      ∙ ap (λ ns. entries_of core.given.program ns (those_in core.journals)) q
 
-  module _ (wanted : Wanted) (answer : Replayed) (kept new : Option (List Entry)) (run : IsRun (setting last.given) last.moves)
-      (tells : Tells last.given wanted last.moves answer) where
-    is_run : IsRun (setting first.given) last.moves
-    is_run = subst (λ (x : GivenModel). IsRun (setting x) last.moves) e run
-
-    does_tell : Tells first.given wanted last.moves answer
-    does_tell = subst (λ (x : GivenModel). Tells x wanted last.moves answer) e tells
-
-    pub ended : ((nodes : ℕ) (ex : ℕ → Bool) → IsExcluded last.given nodes ex → IsIntegral last.given last.moves (has_bit nodes) ex) → IsIsolated last.given last.moves
-        → new ≡ with_more kept (entries_of program nodes (map seen journals)) → IsOfRun first.given wanted answer kept new × IsPossible told first.given.program answer
-    ended whole apart k = (
-      record {
-        moves = last.moves;
-        run = is_run;
-        told = does_tell;
-        integral = subst (λ (x : GivenModel). (nodes : ℕ) (ex : ℕ → Bool) → IsExcluded x nodes ex → IsIntegral x last.moves (has_bit nodes) ex) e whole;
-        isolated = subst (λ (x : GivenModel). IsIsolated x last.moves) e apart;
-        kept = record { entries = entries; each = are; kept = k ∙ ap (with_more kept) are_those };
-      },
-      is_possible told first.given last.moves first.journals last.journals unfailed_first behind_marks wanted answer does_tell,
-    )
+  module _ (wanted : Wanted) (answer : Replayed) (kept new : Option (List Entry)) (run : IsRun (setting core.given) core.moves) (tells : Tells core.given wanted core.moves answer) where
+    pub ended : ((nodes : ℕ) (ex : ℕ → Bool) → IsExcluded core.given nodes ex → IsIntegral core.given core.moves (has_bit nodes) ex) → IsIsolated core.given core.moves
+        → new ≡ with_more kept (entries_of program nodes (map seen journals)) → IsOfRun core.given wanted answer kept new
+    ended whole apart k = record {
+      moves = core.moves;
+      run = run;
+      told = tells;
+      integral = whole;
+      isolated = apart;
+      kept = record { entries = entries; each = are; kept = k ∙ ap (with_more kept) are_those };
+    }
 
     -- memory ran out in the midst of keeping them
-    pub cut_short : HasMore kept new (entries_of program nodes (map seen journals)) → IsCutShort first.given wanted kept new
+    pub cut_short : HasMore kept new (entries_of program nodes (map seen journals)) → IsCutShort core.given wanted kept new
     cut_short h =
-        OfRun last.moves answer is_run does_tell
+        OfRun core.moves answer run tells
         (record { entries = entries; many = h.many; each = are; kept = h.kept ∙ ap (λ xs. with_more kept (take h.many xs)) are_those })
+
+-- ---- behind a run that nodes made by themselves
+
+-- what never fails never does there
+pub sure_behind : (told : Option (List (List ℕ))) (first last : CoreModel) → AreUnfailed told first.given first.journals → HasRun first last → AreSure told last.given last.journals
+sure_behind told first last unfailed h =
+    subst (λ (x : GivenModel). AreSure told x last.journals) (sym h.given) (λ n cannot. h.sure n ∙ (unfailed n).sure cannot)
+
+-- the course came there
+pub ran_on : {E : Type 0} (makes : Wanted → Bool) (may : CoreModel → Type 0) (comes : CoreModel → Result CoreModel E → Type 0) (wanted : Wanted) (told : Option (List (List ℕ)))
+    (first last : CoreModel) (result : Result CoreModel E) → IsCourse makes may comes → wanted ≡ Run → IsTrue (makes wanted) → first.moves ≡ []
+    → AreUnfailed told first.given first.journals → comes first result → result ≡ Ok last → HasRun first last
+ran_on makes may comes wanted told first last result course is made none unfailed came was =
+    let start : IsAtStart first = record { moves = none; unfailed = λ n. (unfailed n).faults } in
+    let run = (course (subst (λ w. IsTrue (makes w)) is made) first start).1 result came in
+    subst (λ x. IfOk x (HasRun first)) was run
+
+-- an answer that tells of moves has a run
+is_replayed : (g : GivenModel) (wanted : Wanted) (answer : Replayed) (old new : Option (List Entry)) (before now : ℕ) → IsOfRun g wanted answer old new → now ≡ before
+    → IsReplayed g wanted answer old new before now
+is_replayed g wanted (r.Done bytes) old new before now h same = (h, same)
+is_replayed g wanted (r.NotEnabled number) old new before now h same = (h, same)
+is_replayed g wanted (r.JournalFault node None) old new before now h same = absurd h.told
+is_replayed g wanted (r.JournalFault node (Some bytes)) old new before now h same = (h, same)
+
+module _ {E : Type 0} (g h : GivenModel) (same : h ≡ g) (wanted : Wanted) (result : Result Replayed E) (old mid new : Option (List Entry)) (kept : mid ≡ old) where
+  pub ran_to : (before between now : ℕ) → between ≡ before → now ≡ between → IfOk result (λ answer. IsOfRun h wanted answer mid new)
+      → IfOk result (λ answer. IsReplayed g wanted answer old new before now)
+  ran_to before between now was is of =
+      if_ok_weaker result (λ answer k. is_replayed g wanted answer old new before now k (is ∙ was))
+      (subst (λ (x : GivenModel). IfOk result (λ answer. IsOfRun x wanted answer old new)) same (subst (λ k. IfOk result (λ answer. IsOfRun h wanted answer k new)) kept of))
+
+  pub ran_short : OnErr result (IsCutShort h wanted mid new) → OnErr result (IsCutShort g wanted old new)
+  ran_short cut =
+      subst (λ (x : GivenModel). OnErr result (IsCutShort x wanted old new)) same (subst (λ k. OnErr result (IsCutShort h wanted k new)) kept cut)

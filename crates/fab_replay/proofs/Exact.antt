@@ -7,11 +7,12 @@ use Rattle.fab_world.specs.Machine.{Move, at_start, are_enabled, enabled, form_o
 use Rattle.fab_world.specs.Serial.{IsRun}
 use Rattle.fab_node.specs.Standing.{GivenModel}
 use Rattle.fab_core.specs.Cores.{setting, unmarked, world_by}
-use Rattle.fab_replay.specs.Replays.{HasNoFault, StopsBefore, Tells, events_of, moves_of, text_of}
+use Rattle.fab_replay.specs.Replays.{HasNoFault, IsStopped, StopsBefore, Tells, events_of, is_scheduled, moves_of, text_of}
 use Rattle.fab_replay.specs.declared.replayed.Replayed.{Replayed}
 use Rattle.fab_replay.specs.declared.replayed.Replayed.TheVariants as r
 use Rattle.fab_replay.specs.declared.replayed.Wanted.{Wanted}
 use Rattle.fab_replay.proofs.Moves.{enabled_parts}
+use Rattle.fab_replay.proofs.Told.{stopped_of, whole_of}
 
 -- an event that may not come behind those before it is in no run that has it there
 never_runs : (g : GivenModel) (moves : List Move) (number : ℕ) (h : StopsBefore g moves number) (events more : List Event) → events ≡ h.before ++ h.event ∷ more
@@ -22,7 +23,7 @@ never_runs g moves number h events more e run =
     let p = enabled_parts S (at_start S) (moves_of h.before) (unmarked h.event) (moves_of more) (subst (λ ms. IsTrue (are_enabled S (at_start S) ms)) split run) in
     true≢false (sym p.1 ∙ ap (λ ms. enabled S (world_by g ms) (form_of (unmarked h.event))) (sym h.moves_are) ∙ h.barred)
 
-pub barred_runs : (g : GivenModel) (moves : List Move) (number : ℕ) → StopsBefore g moves number → IsRun (setting g) (moves_of (events_of g.program)) → ⊥
+barred_runs : (g : GivenModel) (moves : List Move) (number : ℕ) → StopsBefore g moves number → IsRun (setting g) (moves_of (events_of g.program)) → ⊥
 barred_runs g moves number h run = never_runs g moves number h (events_of g.program) h.more h.events run.enabled
 
 -- of two fronts of a list, each with what comes next, one is as long as the other, or has it in it
@@ -52,12 +53,21 @@ same_number g moves others m n h k run other =
       | Shorter rest p ↦ absurd (never_runs g others n k h.before rest p (subst (λ ms. IsTrue (are_enabled S (at_start S) ms)) h.moves_are run.enabled))
     ]
 
-pub one_answer : (g : GivenModel) (wanted : Wanted) (moves others : List Move) (x y : Replayed) → IsRun (setting g) moves → IsRun (setting g) others → Tells g wanted moves x → Tells g wanted others y
-    → HasNoFault x → HasNoFault y → x ≡ y
-one_answer g wanted moves others (r.Done a) (r.Done b) run other h k p q = ap r.Done (h.1 ∙ ap (text_of g wanted) (h.0 ∙ sym k.0) ∙ sym k.1)
-one_answer g wanted moves others (r.Done a) (r.NotEnabled n) run other h k p q = absurd (barred_runs g others n k (subst (IsRun (setting g)) h.0 run))
-one_answer g wanted moves others (r.NotEnabled m) (r.Done b) run other h k p q = absurd (barred_runs g moves m h (subst (IsRun (setting g)) k.0 other))
-one_answer g wanted moves others (r.NotEnabled m) (r.NotEnabled n) run other h k p q = ap r.NotEnabled (same_number g moves others m n h k run other)
-one_answer g wanted moves others (r.JournalFault node report) y run other h k p q = absurd p
-one_answer g wanted moves others (r.Done a) (r.JournalFault node report) run other h k p q = absurd q
-one_answer g wanted moves others (r.NotEnabled m) (r.JournalFault node report) run other h k p q = absurd q
+-- an event that may not come bars the whole schedule
+pub barred : (g : GivenModel) (wanted : Wanted) (moves : List Move) (number : ℕ) → IsStopped g wanted moves number → IsRun (setting g) (moves_of (events_of g.program)) → ⊥
+barred g wanted moves number h run = barred_runs g moves number (stopped_of g moves wanted number h) run
+
+module _ (g : GivenModel) (wanted : Wanted) (moves others : List Move) where
+  pub one_answer : (x y : Replayed) → IsTrue (is_scheduled wanted) → IsRun (setting g) moves → IsRun (setting g) others → Tells g wanted moves x → Tells g wanted others y
+      → HasNoFault x → HasNoFault y → x ≡ y
+  one_answer (r.Done a) (r.Done b) is run other h k p q =
+      ap r.Done (h.1 ∙ ap (text_of g wanted) (whole_of g moves wanted is h.0 ∙ sym (whole_of g others wanted is k.0)) ∙ sym k.1)
+  one_answer (r.Done a) (r.NotEnabled n) is run other h k p q =
+      absurd (barred g wanted others n k (subst (IsRun (setting g)) (whole_of g moves wanted is h.0) run))
+  one_answer (r.NotEnabled m) (r.Done b) is run other h k p q =
+      absurd (barred g wanted moves m h (subst (IsRun (setting g)) (whole_of g others wanted is k.0) other))
+  one_answer (r.NotEnabled m) (r.NotEnabled n) is run other h k p q =
+      ap r.NotEnabled (same_number g moves others m n (stopped_of g moves wanted m h) (stopped_of g others wanted n k) run other)
+  one_answer (r.JournalFault node report) y is run other h k p q = absurd p
+  one_answer (r.Done a) (r.JournalFault node report) is run other h k p q = absurd q
+  one_answer (r.NotEnabled m) (r.JournalFault node report) is run other h k p q = absurd q

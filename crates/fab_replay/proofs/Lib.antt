@@ -1,5 +1,7 @@
 -- Each file stands on some of those above it.
 pub mod Moves
+pub mod Marks
+pub mod Told
 pub mod Behind
 pub mod Accepted
 pub mod Resting
@@ -9,9 +11,9 @@ pub mod Keeping
 pub mod Excluded
 pub mod Steps
 pub mod Scheduled
+pub mod Viewing
 pub mod Ends
 pub mod Starting
 pub mod Exact
 mod ReplaysExamples
 pub mod Isolating
-pub mod Viewing

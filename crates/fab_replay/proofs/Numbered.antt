@@ -4,12 +4,15 @@ use Rattle.std.specs.List.{filter, range_with_len, AllByRecursion}
 use Rattle.std.proofs.Common.{refl, sym, ap, ◌∙◌, subst, arith, append-nil}
 use Rattle.std.proofs.lemmas.Bool.{and_parts}
 use Rattle.fab_rights.specs.Computed.{is_node}
+use Rattle.fab_rights.specs.declared.rights.Rights.{Rights}
+use Rattle.fab_tree.specs.declared.resolved.Resolved.{Resolved}
 use Rattle.fab_protocol.proofs.Lists.{all_append}
 use Rattle.fab_node.specs.Standing.{GivenModel, IsGiven, JournalModel}
 use Rattle.fab_core.specs.Cores.{is_honest, setting, slot}
 use Rattle.fab_core.specs.Telling.{those_in}
 use Rattle.fab_core.proofs.Tables.{node_below}
-use Rattle.fab_core.specs.Honest.{AreFor, honest_up}
+use Rattle.fab_core.specs.Honest.{AreFor, honest_in, honest_up}
+use Rattle.fab_core.specs.Starts.{given_by}
 use Rattle.fab_replay.proofs.Aligned.{StandsAt, aligned, placed}
 
 pub honest_within : (g : GivenModel) → IsGiven g → (n : ℕ) → IsTrue (is_honest g n) → n < 64
@@ -39,6 +42,16 @@ each_honest g (suc n) = all_append (λ k. IsTrue (is_honest g k)) (honest_up g n
     one : (b : Bool) → is_honest g n ≡ b → AllByRecursion (λ k. IsTrue (is_honest g k)) (cond b (n ∷ []) [])
     one true e = (e, tt)
     one false e = tt
+
+-- whatever the roots are
+up_alike : (g : GivenModel) (n : ℕ) → honest_up (given_by g.program g.rights) n ≡ honest_up g n
+unfolding honest_up
+up_alike g zero = refl
+up_alike g (suc n) = ap (λ ns. ns ++ cond (is_honest g n) (n ∷ []) []) (up_alike g n)
+
+pub honest_alike : (g : GivenModel) (program : Resolved) (rights : Rights) → program ≡ g.program → rights ≡ g.rights → honest_in (given_by program rights) ≡ honest_in g
+honest_alike g program rights p q =
+    ap (λ (r : Resolved). honest_in (given_by r rights)) p ∙ ap (λ (x : Rights). honest_in (given_by g.program x)) q ∙ up_alike g 64
 
 -- ---- members
 

@@ -1,6 +1,6 @@
 -- Examples of replays, computed.
-use Rattle.std.specs.Prelude.{◌≡◌, ◌<◌, ◌==◌, ℕ, zero, suc, true, false, List, [], ◌∷◌, map, Option, Some, None, codes, pos}
-use Rattle.std.proofs.Common.{refl, sym, ◌∙◌, subst, arith, lit<}
+use Rattle.std.specs.Prelude.{◌≡◌, ◌<◌, ◌==◌, ℕ, zero, suc, Bool, true, false, List, [], ◌∷◌, map, Option, Some, None, codes, pos}
+use Rattle.std.proofs.Common.{refl, sym, ◌∙◌, subst, arith, lit<, true≢false}
 use Rattle.std.proofs.lemmas.Bool.{eqb-true, false≢true, ne_eqb}
 use Rattle.fab_base.specs.declared.label.Policy.{Policy}
 use Rattle.fab_base.specs.declared.object.Value.TheVariants.{Int}
@@ -12,7 +12,7 @@ use Rattle.fab_places.specs.Places.{ClassExcludes}
 use Rattle.fab_protocol.specs.Stores.{shelf_of}
 use Rattle.fab_rights.specs.Computed.{has_bit}
 use Rattle.fab_rights.specs.declared.rights.Rights.{Rights}
-use Rattle.fab_settings.specs.Settings.{is_hostile_node}
+use Rattle.fab_settings.specs.Settings.{is_hostile_node, lines_of}
 use Rattle.fab_tree.specs.declared.declaration.Role.{Role}
 use Rattle.fab_tree.specs.declared.declaration.Role.TheVariants as roles
 use Rattle.fab_tree.specs.declared.name.Name.{Name}
@@ -25,16 +25,21 @@ use Rattle.fab_net.specs.declared.event.Inner.TheVariants as i
 use Rattle.fab_tree.specs.declared.resolved.Resolved.{Resolved}
 use Rattle.fab_tree.specs.declared.resolved.Step.TheVariants as s
 use Rattle.fab_tree.specs.declared.resolved.Event.TheVariants as t
-use Rattle.fab_world.specs.Machine.{Move}
-use Rattle.fab_node.specs.Standing.{GivenModel}
-use Rattle.fab_core.specs.Cores.{marked, unmarked}
+use Rattle.fab_world.specs.Machine.{Crashes, Does, Move}
+use Rattle.fab_world.specs.Workers.{kept_of}
+use Rattle.fab_integrity.proofs.Over.{none_is_due}
+use Rattle.fab_node.specs.Standing.{GivenModel, JournalModel}
+use Rattle.fab_core.specs.Cores.{marked, setting, unmarked, world_by}
 use Rattle.fab_core.specs.Starts.{given_by}
 use Rattle.fab_core.specs.Honest.{AreFor, honest_in, honest_up}
 use Rattle.fab_replay.specs.Integral.{IsExcluded, IsIntegral}
-use Rattle.fab_replay.specs.Kept.{IsEntryAt, IsEntryBehind, IsPossible, has_mark, with_more}
-use Rattle.fab_replay.specs.Replays.{StopsBefore, Tells, event_of, moves_of}
+use Rattle.fab_replay.specs.Kept.{IsEntryAt, IsEntryBehind, IsPossible, Unmade, has_mark, with_more}
+use Rattle.fab_replay.specs.Making.{HasNoJournal}
+use Rattle.fab_replay.specs.Replays.{IsRunOver, StopsBefore, Tells, event_of, first_mark, moves_of, report_of}
+use Rattle.fab_replay.specs.Running.{IsMarked}
 use Rattle.fab_replay.specs.declared.replayed.Replayed.TheVariants as r
 use Rattle.fab_replay.specs.declared.replayed.Wanted.{Wanted}
+use Rattle.fab_replay.specs.declared.replayed.Wanted.TheVariants.{Report, Run}
 
 -- ---- events
 
@@ -59,6 +64,39 @@ not_at_the_sender = refl
 
 nothing_is_kept : marked (e.CrashIn 24 (i.Deliver 0 1)) ≡ record { event = e.CrashIn 0 (i.Deliver 0 1); marked = true }
 nothing_is_kept = refl
+
+-- of more than one the first counts, whichever node it is of
+first_of_two : first_mark (unmarked (e.Begin 0) ∷ marked (e.Deliver 0 1) ∷ marked (e.Resume 0) ∷ []) ≡ Some 1
+first_of_two = refl
+
+not_the_last : first_mark (marked (e.Deliver 0 1) ∷ marked (e.Resume 0) ∷ []) ≡ Some 0 → ⊥
+not_the_last h = cc
+
+no_first : first_mark (moves_of (e.Begin 0 ∷ e.CrashIn 0 (i.Resume 0) ∷ [])) ≡ None
+no_first = refl
+
+-- ---- journals behind a run
+
+abbrev journal : ℕ → Bool → JournalModel
+journal faults sure = record { content = []; synced = 0; room = 0; faults = faults; sure = sure }
+
+failed_with_mark : IsMarked true (Some (journal 1 false))
+failed_with_mark = record { failed = λ e. omega arith; sound = λ e. absurd (false≢true (sym e)); never = λ e. absurd (false≢true e) }
+
+whole_without : IsMarked false (Some (journal 0 true))
+whole_without = record { failed = λ e. absurd (false≢true e); sound = λ e. refl; never = λ e. refl }
+
+no_mark_without_failure : IsMarked true (Some (journal 0 false)) → ⊥
+no_mark_without_failure h = let some : 0 < 0 = h.failed refl in omega (arith, some)
+
+no_failure_without_mark : IsMarked false (Some (journal 1 false)) → ⊥
+no_failure_without_mark h = let none : 1 ≡ 0 = h.sound refl in omega (arith, none)
+
+no_mark_of_a_sure_one : IsMarked true (Some (journal 1 true)) → ⊥
+no_mark_of_a_sure_one h = false≢true (sym (h.never refl))
+
+no_mark_without_journal : IsMarked true None → ⊥
+no_mark_without_journal h = false≢true (sym (h.never refl))
 
 -- ---- entries
 
@@ -103,6 +141,10 @@ no_fault_of_sure_ones program node report h = h (λ c. omega (arith, c.1))
 -- events are numbered from 1
 none_of_number_zero : (g : GivenModel) (moves : List Move) → StopsBefore g moves 0 → ⊥
 none_of_number_zero g moves h = let n = h.number_is in omega (arith, n)
+
+-- a run that nodes make by themselves stands in no schedule
+no_event_is_barred : (g : GivenModel) (moves : List Move) (number : ℕ) → Tells g Run moves (r.NotEnabled number) → ⊥
+no_event_is_barred g moves number h = h
 
 -- behind a run there is a report
 report_of_a_fault : (g : GivenModel) (wanted : Wanted) (moves : List Move) (node : ℕ) → Tells g wanted moves (r.JournalFault node None) → ⊥
@@ -219,3 +261,74 @@ as_at_the_start = record { held = refl; ends = tt; once = tt; left_out = refl }
 not_without_its_store : IsIntegral g [] (has_bit 6) (λ c. c == 0) → ⊥
 unfolding shelf_of
 not_without_its_store h = let e = h.held in cc
+
+-- ---- starts
+
+no_start_without_its_journal : HasNoJournal g None None None 0 1 1
+no_start_without_its_journal = record { honest = refl; unmade = Unmade refl (omega arith); possible = λ cannot. cannot }
+
+-- a hostile node has no journal that could fail
+not_of_h : HasNoJournal g None None None 0 1 2 → ⊥
+not_of_h h = false≢true h.honest
+
+-- one that can't fail doesn't
+not_of_a_sure_one : HasNoJournal g (Some []) None None 0 1 1 → ⊥
+not_of_a_sure_one h = h.possible (λ c. omega (arith, c.1))
+
+-- ---- runs that nodes make by themselves: with no request, no post and no crash line nothing is due
+
+nothing_to_do : IsRunOver g []
+unfolding kept_of shelf_of
+nothing_to_do = record { lined = refl; over = none_is_due (setting g) (lines_of program) (world_by g []) [] (lit< tt) (lit< tt) refl }
+
+its_report : Tells g Run [] (r.Done (report_of g []))
+its_report = ((nothing_to_do, refl), refl)
+
+-- no crash comes that no line makes
+no_crash_by_itself : IsRunOver g (moves_of (e.Crash 1 ∷ e.Recover 1 ∷ [])) → ⊥
+unfolding kept_of shelf_of
+no_crash_by_itself h = false≢true h.lined
+
+-- t crashes at once by a line
+abbrev crashing : GivenModel
+crashing = given_by (record program { crashes = record { node = 1; after = 0; keep = None } ∷ [] }) rights
+
+crash_is_left : IsRunOver crashing [] → ⊥
+unfolding kept_of shelf_of
+crash_is_left h = true≢false (h.over (Crashes 1))
+
+recovery_is_left : IsRunOver crashing (moves_of (e.Crash 1 ∷ [])) → ⊥
+unfolding kept_of shelf_of
+recovery_is_left h = true≢false (h.over (Does (i.Recover 1)))
+
+over_behind_both : IsRunOver crashing (moves_of (e.Crash 1 ∷ e.Recover 1 ∷ []))
+unfolding kept_of shelf_of
+over_behind_both = record {
+  lined = refl;
+  over = none_is_due (setting crashing) (lines_of crashing.program) (world_by crashing (moves_of (e.Crash 1 ∷ e.Recover 1 ∷ []))) (moves_of (e.Crash 1 ∷ e.Recover 1 ∷ []))
+      (lit< tt) (lit< tt) refl;
+}
+
+-- its journal fails when it recovers, and so it stays down
+abbrev failing : List Move
+failing = unmarked (e.Crash 1) ∷ marked (e.Recover 1) ∷ []
+
+over_behind_failure : IsRunOver crashing failing
+unfolding kept_of shelf_of
+over_behind_failure = record {
+  lined = refl;
+  over = none_is_due (setting crashing) (lines_of crashing.program) (world_by crashing failing) failing (lit< tt) (lit< tt) refl;
+}
+
+t_has_failed : Tells crashing Run failing (r.JournalFault 1 (Some (report_of crashing failing)))
+t_has_failed = ((over_behind_failure, refl), refl)
+
+not_w : (bytes : List ℕ) → Tells crashing Run failing (r.JournalFault 0 (Some bytes)) → ⊥
+not_w bytes h = let other : ◌≡◌ {A = Option ℕ} (Some 1) (Some 0) = h.0.1 in cc
+
+not_done : (bytes : List ℕ) → Tells crashing Run failing (r.Done bytes) → ⊥
+not_done bytes h = let none : ◌≡◌ {A = Option ℕ} (Some 1) None = h.0.1 in cc
+
+-- of the schedule, which is empty, that is no run
+not_of_the_schedule : (bytes : List ℕ) → Tells crashing Report failing (r.Done bytes) → ⊥
+not_of_the_schedule bytes h = let none : failing ≡ [] = h.0 in cc

@@ -1,6 +1,7 @@
 -- A listing of the public replay is a listing of what was sent.
 use Rattle.std.specs.Prelude.{◌≡◌, ◌↔◌, ℕ, zero, suc, ◌+◌, ◌<◌, ◌≤◌, Bool, true, false, not, if◌then◌else◌, IsTrue, IsBitSet, IsSomeAnd, List, [], ◌∷◌, ◌++◌, length, flat_map, fold, sum_by, is_some, codes}
-use Rattle.std.specs.Prelude.{Option, Some, None, slice_get, Result, Ok, Err, IfOk, OnErr}
+use Rattle.std.specs.Prelude.{Option, Some, None, slice_get, Result, Ok, Err, IfOk, IfErr, OnErr}
+use Rattle.std.specs.Result.{IsErrAnd}
 use Rattle.std.specs.List.{AllByRecursion, filter, range_with_len}
 use Rattle.std.proofs.Common.{refl, sym, ap, ◌∙◌, arith, subst}
 use Rattle.std.proofs.lemmas.List.Sums.{count_by-le-length}
@@ -186,3 +187,7 @@ if_ok_weaker (Err e) h p = p
 pub any_err : {A E P : Type 0} (r : Result A E) → P → OnErr r P
 any_err (Ok a) p = tt
 any_err (Err e) p = p
+
+pub err_as : {A E : Type 0} (P : E → Type 0) (x : E) (r : Result A E) → IsErrAnd r (λ e. e ≡ x) → P x → IfErr r P
+err_as P x (Ok a) h p = absurd h
+err_as P x (Err e) h p = subst P (sym h) p

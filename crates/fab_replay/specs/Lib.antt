@@ -1,3 +1,4 @@
+pub mod Courses
 pub mod Integral
 pub mod Isolated
 pub mod Kept

@@ -1,5 +1,5 @@
--- The replay of a bundle's schedule: its events, the moves that it comes to, and what an answer tells of them.
-use Rattle.std.specs.Prelude.{◌≡◌, ℕ, suc, List, [], ◌∷◌, ◌++◌, map, length, IsFalse, Some, None}
+-- Runs of a bundle: the events of its schedule and the moves that they come to, runs that nodes make by themselves, and what an answer tells of a run.
+use Rattle.std.specs.Prelude.{◌≡◌, ℕ, suc, Bool, true, false, List, [], ◌∷◌, ◌++◌, map, length, find, IsFalse, Option, Some, None, option_map}
 use Rattle.fab_tree.specs.declared.resolved.Resolved.{Resolved}
 use Rattle.fab_tree.specs.declared.resolved.Step.{Step}
 use Rattle.fab_tree.specs.declared.resolved.Step.TheVariants as s
@@ -12,6 +12,8 @@ use Rattle.fab_net.specs.declared.event.Inner.TheVariants as i
 use Rattle.fab_trace.specs.Report.{report}
 use Rattle.fab_rights.specs.Computed.{has_bit}
 use Rattle.fab_world.specs.Machine.{Move, Enabled, at_start, enabled, form_of, logs}
+use Rattle.fab_world.specs.Crashing.{IsOver, KeepsLines}
+use Rattle.fab_settings.specs.Settings.{lines_of}
 use Rattle.fab_node.specs.Standing.{GivenModel}
 use Rattle.fab_core.specs.Cores.{marked, setting, unmarked, world_by}
 use Rattle.fab_core.specs.Moved.{event_of as whole, node_at}
@@ -22,7 +24,7 @@ use Rattle.fab_release.specs.Bundles.{public_part}
 use Rattle.fab_replay.specs.Isolated.{IsSeeing}
 use Rattle.fab_replay.specs.declared.replayed.Replayed.{Replayed}
 use Rattle.fab_replay.specs.declared.replayed.Wanted.{Wanted}
-use Rattle.fab_replay.specs.declared.replayed.Wanted.TheVariants.{Report, View}
+use Rattle.fab_replay.specs.declared.replayed.Wanted.TheVariants.{Report, Run, View}
 use Rattle.fab_replay.specs.declared.replayed.Replayed.TheVariants as r
 
 -- ---- the events of a schedule
@@ -59,6 +61,7 @@ view_of g nodes moves = listing g.program (has_bit nodes) (world_by g moves).sen
 
 abbrev pub text_of : GivenModel → Wanted → List Move → List ℕ
 text_of g Report moves = report_of g moves
+text_of g Run moves = report_of g moves
 text_of g (View nodes seen part) moves = view_of g nodes moves
 
 -- the hostile nodes are in the set, this is what it sees, and this is what everybody may know
@@ -68,6 +71,7 @@ pub record IsReadyToView (g : GivenModel) (nodes : ℕ) (seen : Seen) (part : Re
 
 abbrev pub IsReady : GivenModel → Wanted → Type 0
 IsReady g Report = Unit {0}
+IsReady g Run = Unit {0}
 IsReady g (View nodes seen part) = IsReadyToView g nodes seen part
 
 -- ---- how far a replay comes
@@ -92,12 +96,51 @@ pub record StopsIn (g : GivenModel) (moves : List Move) (node : ℕ) : Type 0 wh
   pub node_is : node ≡ node_at event
   pub may : Enabled (setting g) (world_by g (moves_of before)) (unmarked event)
 
+-- ---- runs that nodes make by themselves
+
+-- the run keeps the crash lines of the bundle, and nothing is due behind it
+pub record IsRunOver (g : GivenModel) (moves : List Move) : Type 0 where
+  pub lined : KeepsLines (setting g) (lines_of g.program) moves
+  pub over : IsOver (setting g) (lines_of g.program) moves
+
+-- the node of the first event in which a journal failed, if there is one
+abbrev pub first_mark : List Move → Option ℕ
+first_mark moves = option_map (λ move. node_at move.event) (find (λ move. move.marked) moves)
+
+-- what is wanted is of the schedule's run, and not of such a one
+abbrev pub is_scheduled : Wanted → Bool
+is_scheduled Report = true
+is_scheduled Run = false
+is_scheduled (View nodes seen part) = true
+
+-- ---- answers
+
+-- These are the moves of a whole run, in which no journal failed: of the schedule's events, or of one that nodes made by themselves.
+abbrev pub IsWhole : GivenModel → Wanted → List Move → Type 0
+IsWhole g Run moves = IsRunOver g moves × (first_mark moves ≡ None)
+IsWhole g _ moves = moves ≡ moves_of (events_of g.program)
+
+-- This node's journal failed in them: the schedule's run ends there, and where nodes make the run by themselves it is the first of which that
+-- holds, and the others go on.
+abbrev pub IsFaulty : GivenModel → Wanted → List Move → ℕ → Type 0
+IsFaulty g Run moves node = IsRunOver g moves × (first_mark moves ≡ Some node)
+IsFaulty g _ moves node = StopsIn g moves node
+
+-- the event of this number in the schedule may not come behind them
+abbrev pub IsStopped : GivenModel → Wanted → List Move → ℕ → Type 0
+IsStopped g Run moves number = ⊥
+IsStopped g _ moves number = StopsBefore g moves number
+
 -- what an answer tells of the moves, with the text that is wanted of a run
 abbrev pub Tells : GivenModel → Wanted → List Move → Replayed → Type 0
-Tells g wanted moves (r.Done bytes) = (moves ≡ moves_of (events_of g.program)) × (bytes ≡ text_of g wanted moves)
-Tells g wanted moves (r.NotEnabled number) = StopsBefore g moves number
-Tells g wanted moves (r.JournalFault node (Some bytes)) = StopsIn g moves node × (bytes ≡ text_of g wanted moves)
+Tells g wanted moves (r.Done bytes) = IsWhole g wanted moves × (bytes ≡ text_of g wanted moves)
+Tells g wanted moves (r.NotEnabled number) = IsStopped g wanted moves number
+Tells g wanted moves (r.JournalFault node (Some bytes)) = IsFaulty g wanted moves node × (bytes ≡ text_of g wanted moves)
 Tells g wanted moves (r.JournalFault node None) = ⊥
+
+-- it does tell of them
+pub record IsTold (g : GivenModel) (wanted : Wanted) (moves : List Move) (answer : Replayed) : Type 0 where
+  pub told : Tells g wanted moves answer
 
 -- it tells of no journal's fault
 abbrev pub HasNoFault : Replayed → Type 0

@@ -1,5 +1,5 @@
 -- Steps of a replay: how far it came, and what became of the journals on the way.
-use Rattle.std.specs.Prelude.{◌≡◌, ◌==◌, ℕ, Bool, true, false, IsTrue, List, [], ◌∷◌, ◌++◌, take, Option, Some}
+use Rattle.std.specs.Prelude.{◌≡◌, ◌<◌, ◌==◌, ℕ, Bool, true, false, IsTrue, List, [], ◌∷◌, ◌++◌, take, Option}
 use Rattle.fab_base.specs.Faults.{Rose}
 use Rattle.fab_device.specs.Kept.{CannotFail, Entry}
 use Rattle.fab_language.specs.Words.{node_text}
@@ -10,9 +10,8 @@ use Rattle.fab_world.specs.Machine.{Move, Enabled, enabled, form_of}
 use Rattle.fab_node.specs.Standing.{GivenModel, JournalModel}
 use Rattle.fab_core.specs.Cores.{EventHasDone, marked, setting, slot, unmarked, world_by}
 use Rattle.fab_core.specs.Moved.{faults_in, node_at, sure_in}
-use Rattle.fab_core.specs.Telling.{those_in}
-use Rattle.fab_core.specs.Honest.{AreFor, honest_in}
-use Rattle.fab_replay.specs.Kept.{with_more}
+use Rattle.fab_core.specs.Honest.{AreFor}
+use Rattle.fab_replay.specs.Kept.{has_mark, with_more}
 use Rattle.fab_replay.specs.Replays.{StopsBefore, StopsIn, events_of, moves_of}
 use Rattle.fab_replay.specs.declared.running.Came.{Came}
 use Rattle.fab_replay.specs.declared.running.Came.TheVariants as c
@@ -35,6 +34,19 @@ pub record IsBehind (failed : Bool) (old new : Option JournalModel) : Type 0 whe
 -- those of all nodes, of which these failed
 abbrev pub AreBehind : (ℕ → Bool) → List (Option JournalModel) → List (Option JournalModel) → Type 0
 AreBehind failed old new = (n : ℕ) → IsBehind (failed n) (slot old n) (slot new n)
+
+-- a journal has failed exactly where a mark stands at its node, which is at none whose journal never fails
+pub record IsMarked (marked : Bool) (journal : Option JournalModel) : Type 0 where
+  pub failed : marked ≡ true → 0 < faults_in journal
+  pub sound : marked ≡ false → faults_in journal ≡ 0
+  pub never : sure_in journal ≡ true → marked ≡ false
+
+abbrev pub AreMarked : List Move → List (Option JournalModel) → Type 0
+AreMarked moves journals = (n : ℕ) → IsMarked (has_mark moves n) (slot journals n)
+
+-- none of these ever fails of which it is told that it can't
+abbrev pub AreSure : Option (List (List ℕ)) → GivenModel → List (Option JournalModel) → Type 0
+AreSure told g journals = (n : ℕ) → CannotFail told (node_text g.program n) → IsTrue (sure_in (slot journals n))
 
 -- ---- one event
 
@@ -113,7 +125,3 @@ pub record IsUnfailed (told : Option (List (List ℕ))) (name : List ℕ) (journ
 
 abbrev pub AreUnfailed : Option (List (List ℕ)) → GivenModel → List (Option JournalModel) → Type 0
 AreUnfailed told g journals = (n : ℕ) → IsUnfailed told (node_text g.program n) (slot journals n)
-
--- the same in the order of the honest nodes
-abbrev pub AreTaken : Option (List (List ℕ)) → GivenModel → List (Option JournalModel) → Type 0
-AreTaken told g journals = AreFor (λ n j. IsUnfailed told (node_text g.program n) (Some j)) (honest_in g) (those_in journals)

@@ -4,19 +4,28 @@ ghost use Rattle.std.specs.Prelude.{◌≡◌, ◌≤◌, Err, IfOk, IfErr, OnOk
 ghost use Rattle.fab_replay.specs.Kept.{with_more};
 ghost use Rattle.fab_replay.specs.Making.{HasFailed};
 ghost use Rattle.fab_replay.specs.Running.{AreNew, HasMore, entries_of, seen_by};
-ghost use Rattle.fab_replay.specs.declared.journals.Unmade.TheVariants.{Memory as Wanting};
+ghost use Rattle.fab_replay.specs.declared.journals.Unstarted.TheVariants.{Memory as Wanting};
 
 use fab_base::{NoMemory, Seq};
 use fab_device::{JournalError, Journals};
 use fab_lines::node_name;
 use fab_tree::resolved::Resolved;
-use std::alloc::Global;
+use std::alloc::{AllocError, Global};
 
-/// Why nodes have no journals: that of this one couldn't be made, or memory ran out.
-#[derive(Drop)]
-pub(crate) enum Unmade {
+/// Why there is no run: the journal of this node couldn't be made, or its header couldn't be written; or memory
+/// ran out.
+#[derive(Clone, Copy, Debug)]
+pub enum Unstarted {
     Failed { node: u16 },
     Memory,
+}
+
+impl From<AllocError> for Unstarted {
+    ghost from_gives = { λ _ e. e ≡ Wanting };
+
+    fn from(_: AllocError) -> Self {
+        Unstarted::Memory
+    }
 }
 
 /// A journal for each of these nodes, in their order.
@@ -25,7 +34,7 @@ pub(crate) fn make_journals<M: Journals>(
     program: &Resolved,
     nodes: &[u16],
     journals: &mut M,
-) -> Result<Seq<M::Item>, Unmade>
+) -> Result<Seq<M::Item>, Unstarted>
     ensures made { IfOk result (λ made. AreNew (M.may_fail journals.old) program.now nodes.now (map (seen_by M.Item.content M.Item.synced M.Item.room M.Item.faults M.Item.sure) made)) }
     ensures failed { IfErr result (HasFailed (M.may_fail journals.old) program.now nodes.now (M.faults journals.old) (M.faults journals.new)) }
     ensures later { M.faults journals.old ≤ M.faults journals.new }
@@ -40,11 +49,11 @@ pub(crate) fn make_journals<M: Journals>(
         match journals.make(node_name(program, *node)) {
             Ok(journal) => {
                 if made.push(journal).is_err() {
-                    return Err(Unmade::Memory);
+                    return Err(Unstarted::Memory);
                 }
             }
-            Err(JournalError::Memory) => return Err(Unmade::Memory),
-            Err(JournalError::Failed) => return Err(Unmade::Failed { node: *node }),
+            Err(JournalError::Memory) => return Err(Unstarted::Memory),
+            Err(JournalError::Failed) => return Err(Unstarted::Failed { node: *node }),
         }
         rest = after;
     }

@@ -1,7 +1,11 @@
-//! The replay of a bundle's schedule over journals: its events come one after the other, on this thread,
-//! and the report tells of the run.
+//! Runs of bundles over journals, with a report that tells of the run. The schedule's comes here, its events one
+//! after the other, on this thread. How else a run may be made stands above: between its start and its end.
 #![tactic(auto)]
 
+mod answers;
+mod beginning;
+mod course;
+mod ending;
 mod events;
 mod honest;
 mod integral;
@@ -13,9 +17,14 @@ mod running;
 mod view;
 mod whole;
 
+pub use answers::answer_of_run;
+pub use beginning::started;
+pub use course::{ByCall, ByHand, Course, make_run};
+pub use ending::finished;
 pub use integral::is_integral;
 pub use isolated::is_isolated;
-pub use laws::{replays_are_exact, views_are_public};
+pub use journals::Unstarted;
+pub use laws::{replays_are_exact, runs_have_one_answer, views_are_public};
 pub use replayed::{Replayed, Wanted};
 pub use view::view_into;
 pub use whole::replay;

@@ -4,11 +4,13 @@ use fab_base::Seq;
 use fab_places::Seen;
 use fab_tree::resolved::Resolved;
 
-/// What is wanted of the run: its report; or what was sent into a set of nodes, as a mask, by those outside
-/// it, for which what the set sees is kept and what everybody may know of the bundle.
+/// What is wanted: the report of the schedule's run; the report of a run that the nodes make by themselves;
+/// or what was sent in the schedule's run into a set of nodes, as a mask, by those outside it, for which what
+/// the set sees is kept and what everybody may know of the bundle.
 #[derive(Debug, Drop)]
 pub enum Wanted {
     Report,
+    Run,
     View {
         nodes: u64,
         seen: Seen,
@@ -16,8 +18,9 @@ pub enum Wanted {
     },
 }
 
-/// What a replay comes to: the text of the whole schedule's run; the number, from 1, of the first event that
-/// may not come; or the node whose journal failed, with the text up to there, if there is a run.
+/// What a run comes to: its text; the number, from 1, of the first event of the schedule that may not come; or
+/// the node whose journal failed first, with the text of the run, if there is one: a schedule's ends there, and
+/// in one that nodes make by themselves the others go on.
 #[derive(Debug, Drop)]
 pub enum Replayed {
     Done(Seq<u8>),

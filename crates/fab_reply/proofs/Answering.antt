@@ -18,7 +18,7 @@ use Rattle.fab_reply.specs.declared.front.Outcome.TheVariants as outcome
 use Rattle.fab_reply.specs.declared.status.Status.{Status}
 use Rattle.fab_reply.specs.declared.status.Status.TheVariants as status
 use Rattle.fab_reply.specs.Front.{Front, whole}
-use Rattle.fab_reply.specs.Reply.{Replies, usage, syntax, limit, formatted, misnamed, mislabelled, checked, evaluated, unlabelled, flow, unnamed, replayed, barred, Answers, one_reply, interrupted, in_run, before, IsReply, RepliesWith, Ends, label_of}
+use Rattle.fab_reply.specs.Reply.{Replies, usage, syntax, limit, formatted, misnamed, mislabelled, checked, evaluated, unlabelled, flow, unnamed, replayed, barred, Answers, one_reply, interrupted, ran, in_run, before, sound, faulty, IsReply, RepliesWith, Ends, label_of}
 use Rattle.fab_reply.specs.Replays.{Makers}
 
 -- a bundle is within the limits, and its text isn't too long
@@ -76,6 +76,8 @@ pub of_answers : {command : Option Command} {text reply : List ℕ} {s : Status}
 of_answers (one_reply r) = of_replies r.is
 of_answers (interrupted (in_run w g h k)) = IsFault
 of_answers (interrupted (before u w g h k)) = IsFault
+of_answers (ran (sound g h k)) = IsOk
+of_answers (ran (faulty g h k)) = IsFault
 
 -- a reply that was written whole says what its status says
 pub ends_so : {command : Option Command} {s : Status} (l l' w w' : Option (List ℕ)) (old new : Makers) → IsOfReply s → RepliesWith s command l l' w w' old new → Ends command s l l' w w' old new

@@ -1,21 +1,21 @@
 -- What each status says.
-use Rattle.std.proofs.Common.{◌≡◌, ◌≢◌, ◌⊎◌, inl, inr, ℕ, List, [], ◌++◌, length, Option, Some, None, IfSome, refl, sym, ap, ◌∙◌, subst, arith, append-nil, length-append, codes}
+use Rattle.std.proofs.Common.{◌≡◌, ◌≢◌, ◌≤◌, ◌⊎◌, inl, inr, ℕ, List, [], ◌++◌, length, Option, Some, None, IfSome, refl, sym, ap, ◌∙◌, subst, arith, append-nil, length-append, codes}
 use Rattle.std.specs.Io.KnownBytes.{Appends, Keeps, IsAtEnd, Consumes}
 use Rattle.fab_base.specs.declared.limit.What.TheVariants.{Bytes}
 use Rattle.fab_command.specs.declared.command.Command.{Command}
-use Rattle.fab_command.specs.declared.command.Command.TheVariants.{Check, Evaluate, Flows, Format, Replay, View}
+use Rattle.fab_command.specs.declared.command.Command.TheVariants.{Check, Evaluate, Flows, Format, Replay, Run, View}
 use Rattle.fab_reply.specs.declared.status.Status.{Status}
 use Rattle.fab_reply.specs.declared.status.Status.TheVariants.{Ok, Usage, ReadFault, WriteFault, Memory, Syntax, Limit, Name, Label as Labelled, NotEnabled, JournalFault}
-use Rattle.fab_reply.specs.Front.{IsTooLong}
-use Rattle.fab_reply.specs.Reply.{Answers, one_reply, interrupted, in_run, before, Interrupted, IsJournalFault, Replies, usage, syntax, limit, formatted, misnamed, mislabelled, checked, evaluated, unlabelled, flow, unnamed, replayed, barred, AreCut, cut_short, untouched, AreLeft, JournalsAre, RepliesInPart, IsReply, IsInput, unasked, read, RepliesWith, Ends, ComesTo, SpeaksOfText, line, what_word}
-use Rattle.fab_tree.specs.declared.start.Start.{Start}
-use Rattle.fab_replay.specs.declared.replayed.Wanted.{Wanted}
-use Rattle.fab_reply.specs.Replays.{Makers, MakesRuns, Wants}
+use Rattle.fab_reply.specs.declared.front.Outcome.TheVariants as outcome
+use Rattle.fab_reply.specs.Front.{IsFront, IsTooLong}
+use Rattle.fab_reply.specs.Reply.{Answers, one_reply, interrupted, ran, in_run, before, sound, faulty, IsNoRefusal, Interrupted, IsComplete, IsJournalFault, Ran, Replies, usage, syntax, limit, formatted, misnamed, mislabelled, checked, evaluated, unlabelled, flow, unnamed, replayed, barred, AreCut, cut_short, untouched, AreLeft, JournalsAre, RepliesInPart, IsReply, IsInput, unasked, read, RepliesWith, Ends, ComesTo, SpeaksOfText, line, what_word}
+use Rattle.fab_reply.specs.Replays.{Makers, MakesRuns}
 use Rattle.fab_reply.proofs.Answering.{short}
 use Rattle.fab_reply.proofs.Fronts.{one_of_long}
-use Rattle.fab_reply.specs.Headline.{Headline, IsOfFault, IsOfSchedule}
+use Rattle.fab_reply.specs.Headline.{Headline, IsPartFor, IsWholeFor}
 use Rattle.fab_reply.proofs.Replaying.{done_headline, fault_headline, no_fault, replay_unfailed}
-use Rattle.fab_reply.proofs.Replying.{usage_reply, limit_reply}
+use Rattle.fab_reply.proofs.Replying.{limit_reply, no_reply, usage_reply}
+use Rattle.fab_reply.proofs.Wishes.{runs_by}
 
 all_some : {A : Type 0} {P : A → Type 0} (o : Option A) → ((x : A) → P x) → IfSome o P
 all_some None f = tt
@@ -60,6 +60,46 @@ is_fault : {command : Option Command} {text reply : List ℕ} {status : Status} 
 is_fault (in_run w g h k) = tt
 is_fault (before u w g h k) = tt
 
+fault_refuses_not : {command : Option Command} {text reply : List ℕ} {status : Status} → Interrupted command text status reply → IsNoRefusal status
+fault_refuses_not (in_run w g h k) = tt
+fault_refuses_not (before u w g h k) = tt
+
+-- ---- runs that nodes make by themselves
+
+run_refuses_not : {command : Option Command} {text reply : List ℕ} {status : Status} → Ran command text status reply → IsNoRefusal status
+run_refuses_not (sound g h k) = tt
+run_refuses_not (faulty g h k) = tt
+
+short_run : {command : Option Command} {text reply : List ℕ} {status : Status} → Ran command text status reply → length text ≤ 4194304
+short_run (sound g h k) = short g.is
+short_run (faulty g h k) = short g.is
+
+-- its text has no reply, and so has the text that there was
+none_of_run : {command : Option Command} {text reply : List ℕ} {status : Status} → Ran command text status reply → (s : Status) (r : List ℕ) → Replies command text s r → ⊥
+none_of_run (sound g h k) = no_reply g h
+none_of_run (faulty g h k) = no_reply g h
+
+read_run : {command : Command} (l l' : Option (List ℕ)) {text reply : List ℕ} {status : Status} → Consumes l l' text → IsAtEnd l' ⊎ (length text ≡ 4194305)
+    → Ran (Some command) text status reply → IfSome l (λ xs. (s : Status) (r : List ℕ) → Replies (Some command) xs s r → ⊥)
+read_run None l' c w by = tt
+read_run (Some xs) None c w by = absurd c
+read_run {command = command} (Some xs) (Some ys) {text = text} c (inl e) by =
+    subst (λ t. (s : Status) (r : List ℕ) → Replies (Some command) t s r → ⊥) (sym (c ∙ ap (λ z. text ++ z) e ∙ append-nil text)) (none_of_run by)
+read_run (Some xs) (Some ys) c (inr e) by = absurd (let few = short_run by in omega (arith, e, few))
+
+no_other : {command : Option Command} (l l' : Option (List ℕ)) {text reply : List ℕ} {status : Status} → IsInput command l l' text → Ran command text status reply
+    → IfSome l (λ xs. (s : Status) (r : List ℕ) → Replies command xs s r → ⊥)
+no_other l l' {text = text} {reply = reply} (unasked k) by = elim by [ ]
+no_other l l' (read t) by = read_run l l' t.taken t.whole by
+
+-- where the bundle of a text is accepted, its run has no reply
+refused_run : (command : Option Command) (xs reply : List ℕ) (status : Status) → IsReply command xs status reply → IsComplete command status xs
+refused_run command xs reply status k s rights is g accepted =
+    let r : IsReply (Some Run) xs status reply = subst (λ c. IsReply c xs status reply) is k in
+    let front = r.front in
+    let f : IsFront xs (outcome.Bundle s) = subst (IsFront xs) (sym (front.1.only (outcome.Bundle s) g)) front.1 in
+    no_reply f accepted status reply r.is
+
 -- ---- the clauses
 
 module _ (command : Option Command) (l l' w w' : Option (List ℕ)) (old new : Makers) where
@@ -68,6 +108,7 @@ module _ (command : Option Command) (l l' w w' : Option (List ℕ)) (old new : M
       elim e.replies [
         | one_reply replies ↦ some_more l (λ text t s r p. let same = t.only s r p in inl (sym same.0, subst (Appends w w') (sym same.1) e.all)) (told l l' e.input replies)
         | interrupted by ↦ all_some l (λ text s r p. inr (inr (inr (is_fault by))))
+        | ran by ↦ some_more l (λ text none s r p. absurd (none s r p)) (no_other l l' e.input by)
       ]
 
   -- whatever reply there is comes
@@ -83,6 +124,28 @@ module _ (command : Option Command) (l l' w w' : Option (List ℕ)) (old new : M
   exactly (Labelled x at from to) e f = with_reply e
   exactly (NotEnabled event) e f = with_reply e
   exactly (JournalFault node) e f = with_reply e
+
+  -- a run of an accepted bundle isn't refused
+  through : {status : Status} → RepliesWith status command l l' w w' old new → IfSome l (IsComplete command status)
+  through {status = status} e =
+      elim e.replies [
+        | one_reply replies ↦ some_more l (λ xs k. refused_run command xs e.reply status k) (told l l' e.input replies)
+        | interrupted by ↦ all_some l (λ xs s rights is g k. fault_refuses_not by)
+        | ran by ↦ all_some l (λ xs s rights is g k. run_refuses_not by)
+      ]
+
+  pub completely : (status : Status) → Ends command status l l' w w' old new → status ≢ ReadFault → IfSome l (IsComplete command status)
+  completely Ok e f = through e
+  completely Usage e f = through e
+  completely ReadFault e f = absurd (f refl)
+  completely WriteFault e f = all_some l (λ xs s rights is g k. tt)
+  completely Memory e f = all_some l (λ xs s rights is g k. tt)
+  completely (Syntax at) e f = through e
+  completely (Limit what) e f = through e
+  completely (Name x at) e f = through e
+  completely (Labelled x at from to) e f = through e
+  completely (NotEnabled event) e f = through e
+  completely (JournalFault node) e f = through e
 
   speaks_not : {status : Status} → SpeaksOfText status → Limit Bytes ≡ status → ⊥
   speaks_not s e = let h = subst SpeaksOfText (sym e) s in h
@@ -100,6 +163,7 @@ module _ (command : Option Command) (l l' w w' : Option (List ℕ)) (old new : M
       go : {command : Option Command} {text reply : List ℕ} → IsInput command l l' text → Answers command text status reply → IsAtEnd l'
       go (unasked k) (one_reply r) = absurd (speaks_no_usage s (r.only _ _ usage).0)
       go {text = text} {reply = reply} (unasked k) (interrupted by) = elim by [ ]
+      go {text = text} {reply = reply} (unasked k) (ran by) = elim by [ ]
       go (read {command = c} t) (one_reply r) =
           elim t.whole [
             | inl end ↦ end
@@ -109,6 +173,11 @@ module _ (command : Option Command) (l l' w w' : Option (List ℕ)) (old new : M
           elim t.whole [
             | inl end ↦ end
             | inr many ↦ absurd (long_front many by)
+          ]
+      go (read t) (ran by) =
+          elim t.whole [
+            | inl end ↦ end
+            | inr many ↦ absurd (let few = short_run by in omega (arith, many, few))
           ]
 
   -- what speaks of the text was read to its end
@@ -131,6 +200,7 @@ module _ (command : Option Command) (l l' w w' : Option (List ℕ)) (old new : M
       elim (let r : Answers None e.text status e.reply = subst (λ c. Answers c e.text status e.reply) none e.replies in r) [
         | one_reply r ↦ let same = r.only Usage (line (codes "usage")) usage in inl (sym same.0, subst (Appends w w') (sym same.1) e.all)
         | interrupted by ↦ inr (inr (inr (is_fault by)))
+        | ran by ↦ elim by [ ]
       ]
 
   pub usage_comes : (status : Status) → Ends command status l l' w w' old new → (status ≡ ReadFault → command ≢ None) → command ≡ None → ComesTo status Usage w w' (line (codes "usage"))
@@ -153,6 +223,7 @@ module _ (command : Option Command) (l l' w w' : Option (List ℕ)) (old new : M
       of_usage : {asked : Option Command} {text reply : List ℕ} → Replies asked text Usage reply → asked ≡ None
       of_usage usage = refl
   nothing_asked {asked = asked} {text = text} {reply = reply} (interrupted x) = elim x [ ]
+  nothing_asked {asked = asked} {text = text} {reply = reply} (ran x) = elim x [ ]
 
   pub only_unasked : (status : Status) → Ends command status l l' w w' old new → status ≡ Usage → command ≡ None
   only_unasked Usage e h = nothing_asked e.replies
@@ -168,14 +239,6 @@ module _ (command : Option Command) (l l' w w' : Option (List ℕ)) (old new : M
   only_unasked (JournalFault node) e h = absurd (cc)
 
   -- ---- runs
-
-  runs_by : (c : Command) (s : Start) (wanted : Wanted) → Wants s c wanted → MakesRuns (Some c)
-  runs_by Replay s wanted h = tt
-  runs_by (View names) s wanted h = tt
-  runs_by Check s wanted h = absurd h
-  runs_by Evaluate s wanted h = absurd h
-  runs_by (Flows a b) s wanted h = absurd h
-  runs_by Format s wanted h = absurd h
 
   -- no reply has the status of a journal's fault
   no_journal_fault : {asked : Option Command} {text reply : List ℕ} {s : Status} {node : ℕ} → Replies asked text s reply → s ≡ JournalFault node → ⊥
@@ -195,8 +258,10 @@ module _ (command : Option Command) (l l' w w' : Option (List ℕ)) (old new : M
 
   of_run : {asked : Option Command} {text reply : List ℕ} {status : Status} {node : ℕ} → Answers asked text status reply → status ≡ JournalFault node → MakesRuns asked
   of_run (one_reply r) h = absurd (no_journal_fault r.is h)
-  of_run (interrupted (in_run {command = c} {wanted = u} {s = z} w g k m)) h = runs_by c z u w
-  of_run (interrupted (before {command = c} u {s = z} w g k m)) h = runs_by c z u w
+  of_run (interrupted (in_run {command = c} {wanted = u} {s = z} w g k m)) h = runs_by z c u w
+  of_run (interrupted (before {command = c} u {s = z} w g k m)) h = runs_by z c u w
+  of_run (ran (sound g k m)) h = tt
+  of_run (ran (faulty g k m)) h = tt
 
   -- a journal's fault comes of a run
   pub fault_of_run : (status : Status) → Ends command status l l' w w' old new → (node : ℕ) → status ≡ JournalFault node → MakesRuns command
@@ -223,6 +288,7 @@ module _ (command : Option Command) (l l' w w' : Option (List ℕ)) (old new : M
   -- the journals of such a command are as a replay left them
   is_left : (c : Command) (text reply : List ℕ) (status : Status) → MakesRuns (Some c) → JournalsAre (Some c) text old new status reply → AreLeft c text old new status reply
   is_left Replay text reply status runs h = h
+  is_left Run text reply status runs h = h
   is_left (View names) text reply status runs h = h
   is_left Check text reply status runs h = absurd runs
   is_left Evaluate text reply status runs h = absurd runs
@@ -230,22 +296,22 @@ module _ (command : Option Command) (l l' w w' : Option (List ℕ)) (old new : M
   is_left Format text reply status runs h = absurd runs
 
   -- the headline holds of what was written
-  pub whole_headline : (status : Status) → Ends command status l l' w w' old new → MakesRuns command → status ≡ Ok → Headline command IsOfSchedule l l' w w'
+  pub whole_headline : (status : Status) → Ends command status l l' w w' old new → MakesRuns command → status ≡ Ok → Headline command (IsWholeFor command) l l' w w'
   whole_headline status e runs h =
       let there : RepliesWith Ok command l l' w w' old new = subst (λ s. Ends command s l l' w w' old new) h e in
-      for_runs (λ c. Headline c IsOfSchedule l l' w w') runs (λ c is makes. one c makes (subst (λ x. RepliesWith Ok x l l' w w' old new) is there))
+      for_runs (λ c. Headline c (IsWholeFor c) l l' w w') runs (λ c is makes. one c makes (subst (λ x. RepliesWith Ok x l l' w w' old new) is there))
     where
-      one : (c : Command) → MakesRuns (Some c) → RepliesWith Ok (Some c) l l' w w' old new → Headline (Some c) IsOfSchedule l l' w w'
+      one : (c : Command) → MakesRuns (Some c) → RepliesWith Ok (Some c) l l' w w' old new → Headline (Some c) (IsWholeFor (Some c)) l l' w w'
       one c makes x = done_headline l l' w w' old new c x.text x.reply x.input (is_left c x.text x.reply Ok makes x.journals) x.all
 
   pub part_headline : (status : Status) → Ends command status l l' w w' old new → (node : ℕ) → status ≡ JournalFault node
-      → Keeps w w' ⊎ Headline command (IsOfFault node) l l' w w'
+      → Keeps w w' ⊎ Headline command (IsPartFor command node) l l' w w'
   part_headline status e node h =
       let there : RepliesWith (JournalFault node) command l l' w w' old new = subst (λ s. Ends command s l l' w w' old new) h e in
-      for_runs (λ c. Keeps w w' ⊎ Headline c (IsOfFault node) l l' w w') (fault_of_run status e node h)
+      for_runs (λ c. Keeps w w' ⊎ Headline c (IsPartFor c node) l l' w w') (fault_of_run status e node h)
       (λ c is makes. one c makes (subst (λ x. RepliesWith (JournalFault node) x l l' w w' old new) is there))
     where
-      one : (c : Command) → MakesRuns (Some c) → RepliesWith (JournalFault node) (Some c) l l' w w' old new → Keeps w w' ⊎ Headline (Some c) (IsOfFault node) l l' w w'
+      one : (c : Command) → MakesRuns (Some c) → RepliesWith (JournalFault node) (Some c) l l' w w' old new → Keeps w w' ⊎ Headline (Some c) (IsPartFor (Some c) node) l l' w w'
       one c makes x = fault_headline l l' w w' old new c node x.text x.reply x.input (is_left c x.text x.reply (JournalFault node) makes x.journals) x.all
 
   pub none_fails : (status : Status) → Ends command status l l' w w' old new → old.may_fail ≡ Some [] → (node : ℕ) → status ≡ JournalFault node → ⊥
@@ -275,6 +341,7 @@ module _ (command : Option Command) (l l' w w' : Option (List ℕ)) (old new : M
   are_unfailed : (asked : Option Command) (text reply : List ℕ) (status : Status) → JournalsAre asked text old new status reply
       → (reply ≢ []) ⊎ (IsJournalFault status → ⊥) → new.faults ≡ old.faults
   are_unfailed (Some Replay) text reply status h k = left_unfailed Replay text reply status h k
+  are_unfailed (Some Run) text reply status h k = left_unfailed Run text reply status h k
   are_unfailed (Some (View names)) text reply status h k = left_unfailed (View names) text reply status h k
   are_unfailed (Some Check) text reply status h k = ap (λ (m : Makers). m.faults) h
   are_unfailed (Some Evaluate) text reply status h k = ap (λ (m : Makers). m.faults) h

@@ -1,5 +1,5 @@
 -- The report that was written is read back.
-use Rattle.std.proofs.Common.{◌≡◌, ℕ, List, Option, Some, refl, sym, ap, subst}
+use Rattle.std.proofs.Common.{◌≡◌, ℕ, List, Some, refl, subst}
 use Rattle.std.specs.Io.KnownBytes.{Appends}
 use Rattle.fab_base.specs.declared.token.Token.{Token}
 use Rattle.fab_base.specs.Tokens.{Lexes}
@@ -10,15 +10,15 @@ use Rattle.fab_rights.specs.declared.rights.Rights.{Rights}
 use Rattle.fab_world.specs.Machine.{Move}
 use Rattle.fab_node.specs.Standing.{GivenModel}
 use Rattle.fab_command.specs.declared.command.Command.{Command}
-use Rattle.fab_command.specs.declared.command.Command.TheVariants.{Replay}
+use Rattle.fab_command.specs.declared.command.Command.TheVariants.{Replay, Run}
 use Rattle.fab_replay.specs.Replays.{text_of}
 use Rattle.fab_replay.specs.declared.replayed.Wanted.{Wanted}
-use Rattle.fab_replay.specs.declared.replayed.Wanted.TheVariants.{Report, View}
+use Rattle.fab_replay.specs.declared.replayed.Wanted.TheVariants.{Report, Run as ByNodes, View as Viewed}
 use Rattle.fab_shown.specs.Shown.{report_of}
 use Rattle.fab_shown.proofs.Shown.{read_back}
 use Rattle.fab_reply.specs.declared.front.Outcome.TheVariants as outcome
 use Rattle.fab_reply.specs.Front.{Front, whole}
-use Rattle.fab_reply.specs.Headline.{IsOfFault, IsOfSchedule}
+use Rattle.fab_reply.specs.Headline.{IsOfFault, IsOfSchedule, IsPartFor, IsWholeFor}
 use Rattle.fab_reply.specs.Printed.{AreReadBack, AreReadBackOf}
 use Rattle.fab_reply.specs.Replays.{Wants, given_of}
 
@@ -31,22 +31,36 @@ record Cut (text : List ℕ) (s : Start) : Type 0 where
 cut_of : {text : List ℕ} {s : Start} → Front text (outcome.Bundle s) → Cut text s
 cut_of (whole l x k t p) = record { tokens = _; cut = x; is = t }
 
--- a replay wants the report
-wanted_text : (s : Start) (rights : Rights) (moves : List Move) (wanted : Wanted) → Wants s Replay wanted
-    → text_of (given_of s rights) wanted moves ≡ report_of (resolved s) rights moves
-wanted_text s rights moves Report h = refl
-wanted_text s rights moves (View nodes seen part) h = absurd h
+-- the text that a command wants of every run is its report
+abbrev WantsReport : Command → Type 0
+WantsReport c =
+    (s : Start) (rights : Rights) (moves : List Move) (wanted : Wanted) → Wants s c wanted → text_of (given_of s rights) wanted moves ≡ report_of (resolved s) rights moves
+
+of_replay : WantsReport Replay
+of_replay s rights moves Report h = refl
+of_replay s rights moves ByNodes h = absurd h
+of_replay s rights moves (Viewed nodes seen part) h = absurd h
+
+of_run : WantsReport Run
+of_run s rights moves ByNodes h = refl
+of_run s rights moves Report h = absurd h
+of_run s rights moves (Viewed nodes seen part) h = absurd h
 
 same_command : (a b : Command) → Some a ≡ Some b → b ≡ a
 same_command a b e = cc
 
-are_read_back_of : (P : GivenModel → List Move → Type 0) → AreReadBackOf P
-are_read_back_of P left left' written written' h =
+are_read_back_of : (c : Command) (P : GivenModel → List Move → Type 0) → WantsReport c → AreReadBackOf c P
+are_read_back_of c P wanted_text left left' written written' h =
     let front = cut_of h.spelled in
-    let wants = subst (λ c. Wants h.start c h.wanted) (same_command Replay h.asked h.command_is) h.wants in (
+    let wants = subst (λ x. Wants h.start x h.wanted) (same_command c h.asked h.command_is) h.wants in (
       subst (λ bs. Appends written written' bs) (wanted_text h.start h.rights h.moves h.wanted wants) h.reported,
       read_back h.text front.tokens h.start h.rights h.moves front.cut front.is h.accepted h.run,
     )
 
 pub are_read_back : AreReadBack
-are_read_back = record { whole = are_read_back_of IsOfSchedule; in_part = λ node. are_read_back_of (IsOfFault node) }
+are_read_back = record {
+  whole = are_read_back_of Replay IsOfSchedule of_replay;
+  in_part = λ node. are_read_back_of Replay (IsOfFault node) of_replay;
+  ran = are_read_back_of Run (IsWholeFor (Some Run)) of_run;
+  ran_on = λ node. are_read_back_of Run (IsPartFor (Some Run) node) of_run;
+}

@@ -1,8 +1,9 @@
--- What a replay comes to, as a reply to a text, and that the headline holds of its report.
-use Rattle.std.proofs.Common.{◌≡◌, ◌≢◌, ◌⊎◌, inl, inr, ℕ, List, [], length, Option, Some, None, Result, Ok as Fine, Err, IfOk, OnErr, refl, sym, ap, ◌∙◌, subst, append-nil, arith}
+-- What a run comes to, as a reply to a text, and that the headline holds of its report.
+use Rattle.std.proofs.Common.{◌≡◌, ◌≢◌, ◌⊎◌, inl, inr, ℕ, IsTrue, List, [], length, Option, Some, None, Result, Ok as Fine, Err, IfOk, OnErr, refl, sym, ap, ◌∙◌, subst, append-nil, arith}
 use Rattle.std.proofs.lemmas.List.{take_all}
 use Rattle.std.specs.Io.KnownBytes.{Appends, Keeps}
 use Rattle.fab_command.specs.declared.command.Command.{Command}
+use Rattle.fab_command.specs.declared.command.Command.TheVariants.{Replay, Run, View}
 use Rattle.fab_tree.specs.declared.start.Start.{Start}
 use Rattle.fab_language.specs.Numbers.{resolved}
 use Rattle.fab_language.specs.Words.{node_text}
@@ -12,6 +13,7 @@ use Rattle.fab_settings.specs.Settings.{IsAcceptedWith}
 use Rattle.fab_replay.specs.declared.replayed.Replayed.{Replayed}
 use Rattle.fab_replay.specs.declared.replayed.Replayed.TheVariants as replays
 use Rattle.fab_replay.specs.declared.replayed.Wanted.{Wanted}
+use Rattle.fab_replay.specs.declared.replayed.Wanted.TheVariants.{Report, Run as ByNodes, View as Viewed}
 use Rattle.fab_replay.specs.Kept.{IsCutShort, IsOfRun, IsPossible, IsReplayed, OfRun, with_more}
 use Rattle.fab_reply.specs.declared.front.Outcome.TheVariants as outcome
 use Rattle.fab_reply.specs.declared.status.Status.{Status}
@@ -19,12 +21,13 @@ use Rattle.fab_reply.specs.declared.status.Status.TheVariants.{Ok, JournalFault}
 use Rattle.fab_reply.specs.Front.{Front, IsFront}
 use Rattle.fab_world.specs.Machine.{Move}
 use Rattle.fab_node.specs.Standing.{GivenModel}
-use Rattle.fab_replay.specs.Replays.{StopsIn, text_of as text_by}
-use Rattle.fab_reply.specs.Headline.{Headline, IsOfFault, IsOfSchedule}
+use Rattle.fab_replay.specs.Replays.{IsFaulty, is_scheduled, text_of as text_by}
+use Rattle.fab_reply.specs.Headline.{Headline, IsPartFor, IsWholeFor}
 use Rattle.fab_reply.specs.Reading.{ReadsText}
 use Rattle.fab_reply.specs.Replays.{Makers, Wants, given_of}
-use Rattle.fab_reply.specs.Reply.{Answers, one_reply, interrupted, in_run, before, AreCut, cut_short, untouched, AreLeft, IsCut, cut, unmade, IsInput, read, IsJournalFault, IsNotEnabled, IsReplay, status_of, text_of}
+use Rattle.fab_reply.specs.Reply.{Answers, one_reply, interrupted, ran, in_run, before, sound, faulty, AreCut, cut_short, untouched, AreLeft, IsCut, cut, unmade, IsInput, read, IsJournalFault, IsNotEnabled, IsReplay, status_of, text_of}
 use Rattle.fab_reply.proofs.Replying.{barred_reply, replay_reply}
+use Rattle.fab_reply.proofs.Wishes.{part_for, whole_for, wished}
 
 -- what is so of a status and a text is so of what was answered
 pub if_told : {E : Type 0} (P : Status → List ℕ → Type 0) (s : Status) (l : List ℕ) (o : Result (Status × List ℕ) E) → IfOk o (λ r. (r.0 ≡ s) × (r.1 ≡ l)) → P s l
@@ -37,19 +40,36 @@ pub unless_told : {A E P Q R : Type 0} (o : Result A E) → (P → R → Q) → 
 unless_told (Fine r) f h k = tt
 unless_told (Err e) f h k = f h k
 
+module _ {text : List ℕ} {start : Start} (f : IsFront text (outcome.Bundle start)) (rights : Rights) (accepted : IsAcceptedWith start rights) where
+  -- a run of the schedule answers the text
+  replay_answered : (command : Command) (wanted : Wanted) → Wants start command wanted → IsTrue (is_scheduled wanted) → (answer : Replayed) (old new : Makers)
+      → IsReplayed (given_of start rights) wanted answer old.kept new.kept old.faults new.faults → Answers (Some command) text (status_of answer) (text_of answer)
+  replay_answered command wanted wants s (replays.Done reply) old new (h, e) =
+      one_reply (replay_reply f rights accepted command wanted wants reply (record { moves = h.moves; run = h.run; told = h.told; scheduled = s }))
+  replay_answered command wanted wants s (replays.NotEnabled event) old new (h, e) =
+      one_reply (barred_reply f rights accepted command wanted wants event (record { moves = h.moves; run = h.run; told = h.told; scheduled = s }))
+  replay_answered command wanted wants s (replays.JournalFault node (Some reply)) old new (h, e) =
+      interrupted (in_run wants f.is accepted (record { moves = h.moves; run = h.run; told = h.told; scheduled = s }))
+  replay_answered command wanted wants s (replays.JournalFault node None) old new h = interrupted (before wanted wants f.is accepted h.0)
+
+  -- so does one that the nodes make by themselves
+  run_answered : (answer : Replayed) (old new : Makers) → IsReplayed (given_of start rights) ByNodes answer old.kept new.kept old.faults new.faults
+      → Answers (Some Run) text (status_of answer) (text_of answer)
+  run_answered (replays.Done reply) old new (h, e) = ran (sound f accepted (record { moves = h.moves; run = h.run; told = h.told }))
+  run_answered (replays.NotEnabled event) old new (h, e) = absurd h.told
+  run_answered (replays.JournalFault node (Some reply)) old new (h, e) = ran (faulty f accepted (record { moves = h.moves; run = h.run; told = h.told }))
+  run_answered (replays.JournalFault node None) old new h = interrupted (before ByNodes tt f.is accepted h.0)
+
+  pub answered : (command : Command) (wanted : Wanted) → Wants start command wanted → (answer : Replayed) (old new : Makers)
+      → IsReplayed (given_of start rights) wanted answer old.kept new.kept old.faults new.faults → Answers (Some command) text (status_of answer) (text_of answer)
+  answered command wanted wants =
+      wished
+      (λ c u. (answer : Replayed) (old new : Makers) → IsReplayed (given_of start rights) u answer old.kept new.kept old.faults new.faults
+      → Answers (Some c) text (status_of answer) (text_of answer))
+      (replay_answered Replay Report tt refl) run_answered (λ names nodes seen part named. replay_answered (View names) (Viewed nodes seen part) named refl) command wanted wants
+
 module _ {text : List ℕ} {start : Start} (f : IsFront text (outcome.Bundle start)) (rights : Rights) (accepted : IsAcceptedWith start rights)
     (command : Command) (wanted : Wanted) (wants : Wants start command wanted) where
-  -- a replay answers the text
-  pub answered : (answer : Replayed) (old new : Makers) → IsReplayed (given_of start rights) wanted answer old.kept new.kept old.faults new.faults
-      → Answers (Some command) text (status_of answer) (text_of answer)
-  answered (replays.Done reply) old new (h, e) =
-      one_reply (replay_reply f rights accepted command wanted wants reply (record { moves = h.moves; run = h.run; told = h.told }))
-  answered (replays.NotEnabled event) old new (h, e) =
-      one_reply (barred_reply f rights accepted command wanted wants event (record { moves = h.moves; run = h.run; told = h.told }))
-  answered (replays.JournalFault node (Some reply)) old new (h, e) =
-      interrupted (in_run wants f.is accepted (record { moves = h.moves; run = h.run; told = h.told }))
-  answered (replays.JournalFault node None) old new h = interrupted (before wanted wants f.is accepted h.0)
-
   -- and the journals are as it left them
   is_replay : (answer : Replayed) (old new : Makers) → IsReplayed (given_of start rights) wanted answer old.kept new.kept old.faults new.faults
       → IsPossible old.may_fail (resolved start) answer → IsReplay command text old new (status_of answer) (text_of answer)
@@ -135,28 +155,29 @@ module _ (l l' w w' : Option (List ℕ)) (old new : Makers) (command : Command) 
   done_headlined : (start : Start) (rights : Rights) (wanted : Wanted) (answer : Replayed) (text reply : List ℕ) → Wants start command wanted → ReadsText l l' text
       → Front text (outcome.Bundle start) → IsAcceptedWith start rights
       → IsReplayed (given_of start rights) wanted answer old.kept new.kept old.faults new.faults → Ok ≡ status_of answer
-      → reply ≡ text_of answer → Appends w w' reply → Headline (Some command) IsOfSchedule l l' w w'
+      → reply ≡ text_of answer → Appends w w' reply → Headline (Some command) (IsWholeFor (Some command)) l l' w w'
   done_headlined start rights wanted (replays.Done report) text reply wants input front accepted (h, n) e is all =
-      headlined IsOfSchedule start rights wanted (replays.Done report) text reply report h wants input front accepted h.told.0 h.told.1 is all
+      headlined (IsWholeFor (Some command)) start rights wanted (replays.Done report) text reply report h wants input front accepted
+      (whole_for start (given_of start rights) h.moves command wanted wants h.told.0) h.told.1 is all
   done_headlined start rights wanted (replays.NotEnabled event) text reply wants input front accepted h e is all = absurd (cc)
   done_headlined start rights wanted (replays.JournalFault node report) text reply wants input front accepted h e is all = absurd (cc)
 
   -- the text and the journals of a run that ended
   pub done_headline : (text reply : List ℕ) → IsInput (Some command) l l' text → IsReplay command text old new Ok reply → Appends w w' reply
-      → Headline (Some command) IsOfSchedule l l' w w'
+      → Headline (Some command) (IsWholeFor (Some command)) l l' w w'
   done_headline text reply input x all =
       done_headlined x.start x.rights x.wanted x.answer text reply x.asked (text_read input) x.front x.accepted x.is x.status_is x.reply_is all
 
   fault_headlined : (start : Start) (rights : Rights) (wanted : Wanted) (answer : Replayed) (node : ℕ) (text reply : List ℕ) → Wants start command wanted
       → ReadsText l l' text → Front text (outcome.Bundle start) → IsAcceptedWith start rights
       → IsReplayed (given_of start rights) wanted answer old.kept new.kept old.faults new.faults → JournalFault node ≡ status_of answer
-      → reply ≡ text_of answer → Appends w w' reply → Keeps w w' ⊎ Headline (Some command) (IsOfFault node) l l' w w'
+      → reply ≡ text_of answer → Appends w w' reply → Keeps w w' ⊎ Headline (Some command) (IsPartFor (Some command) node) l l' w w'
   fault_headlined start rights wanted (replays.Done report) node text reply wants input front accepted h e is all = absurd (cc)
   fault_headlined start rights wanted (replays.NotEnabled event) node text reply wants input front accepted h e is all = absurd (cc)
   fault_headlined start rights wanted (replays.JournalFault n (Some report)) node text reply wants input front accepted (h, k) e is all =
       let same : n ≡ node = cc in
-      inr (headlined (IsOfFault node) start rights wanted (replays.JournalFault n (Some report)) text reply report h wants input front accepted
-      (subst (λ m. StopsIn (given_of start rights) h.moves m) same h.told.0) h.told.1 is all)
+      inr (headlined (IsPartFor (Some command) node) start rights wanted (replays.JournalFault n (Some report)) text reply report h wants input front accepted
+      (part_for start (given_of start rights) h.moves node command wanted wants (subst (λ m. IsFaulty (given_of start rights) wanted h.moves m) same h.told.0)) h.told.1 is all)
   fault_headlined start rights wanted (replays.JournalFault n None) node text reply wants input front accepted h e is all =
       inl (nothing_more w w' (subst (Appends w w') is all))
 
@@ -176,7 +197,7 @@ module _ (l l' w w' : Option (List ℕ)) (old new : Makers) (command : Command) 
   no_fault node text reply x none = fault_possible x.start x.answer node x.possible x.status_is none
 
   pub fault_headline : (node : ℕ) (text reply : List ℕ) → IsInput (Some command) l l' text → IsReplay command text old new (JournalFault node) reply → Appends w w' reply
-      → Keeps w w' ⊎ Headline (Some command) (IsOfFault node) l l' w w'
+      → Keeps w w' ⊎ Headline (Some command) (IsPartFor (Some command) node) l l' w w'
   fault_headline node text reply input x all =
       fault_headlined x.start x.rights x.wanted x.answer node text reply x.asked (text_read input) x.front x.accepted x.is x.status_is x.reply_is all
 

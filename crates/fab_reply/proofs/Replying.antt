@@ -1,5 +1,5 @@
 -- The replies to a text.
-use Rattle.std.proofs.Common.{◌≡◌, inl, inr, ℕ, List, [], ◌++◌, length, Option, Some, None, MatchOption, refl, sym, ap, ◌∙◌, subst, arith, codes, true, false, true≢false}
+use Rattle.std.proofs.Common.{◌≡◌, inl, inr, ℕ, IsTrue, List, [], ◌++◌, length, Option, Some, None, MatchOption, refl, sym, ap, ◌∙◌, subst, arith, codes, true, false, true≢false}
 use Rattle.std.specs.Prelude.{Contains}
 use Rattle.std.specs.Fmt.{decimal}
 use Rattle.fab_base.specs.declared.limit.What.{What}
@@ -13,7 +13,7 @@ use Rattle.fab_language.specs.Faults.{faults, IsFirst}
 use Rattle.fab_language.specs.Flows.{FlowReply, IsFlowReply}
 use Rattle.fab_language.specs.Numbers.{resolved}
 use Rattle.fab_command.specs.declared.command.Command.{Command}
-use Rattle.fab_command.specs.declared.command.Command.TheVariants.{Check, Evaluate, Flows, Format, Replay, View}
+use Rattle.fab_command.specs.declared.command.Command.TheVariants.{Check, Evaluate, Flows, Format, Replay, Run, View}
 use Rattle.fab_reply.specs.declared.front.Outcome.TheVariants as outcome
 use Rattle.fab_reply.specs.declared.status.Status.{Status}
 use Rattle.fab_reply.specs.declared.status.Status.TheVariants.{Ok, Usage, Syntax, Name, Label as Labelled, Limit, NotEnabled}
@@ -30,8 +30,8 @@ use Rattle.fab_replay.specs.declared.replayed.Replayed.TheVariants as replays
 use Rattle.fab_world.specs.Machine.{Move}
 use Rattle.fab_listing.specs.Named.{are_node_names}
 use Rattle.fab_replay.specs.declared.replayed.Wanted.{Wanted}
-use Rattle.fab_replay.specs.declared.replayed.Wanted.TheVariants.{Report, View as Viewed}
-use Rattle.fab_replay.specs.Replays.{HasNoFault, text_of as text_by}
+use Rattle.fab_replay.specs.declared.replayed.Wanted.TheVariants.{Report, Run as ByNodes, View as Viewed}
+use Rattle.fab_replay.specs.Replays.{HasNoFault, is_scheduled, text_of as text_by}
 use Rattle.fab_reply.specs.Replays.{LacksNode, ReplaysTo, Wants, given_of}
 use Rattle.fab_reply.proofs.Wishes.{same_text, tells_alike}
 use Rattle.fab_fitting.proofs.Rights.{one_rights}
@@ -63,14 +63,14 @@ no_limit e = absurd (cc)
 -- ---- replies
 
 pub usage_reply : (text : List ℕ) → IsReply None text Usage (line (codes "usage"))
-usage_reply text = record { is = usage; only = λ s r. go s r }
+usage_reply text = record { is = usage; only = λ s r. go s r; front = tt }
   where
     go : (s : Status) (r : List ℕ) → Replies None text s r → (s ≡ Usage) × (r ≡ line (codes "usage"))
     go s r usage = (refl, refl)
 
 module _ {command : Command} {text : List ℕ} where
   pub syntax_reply : {at : ℕ} → IsFront text (outcome.Syntax at) → IsReply (Some command) text (Syntax at) (line (codes "syntax at " ++ decimal at))
-  syntax_reply {at = at} f = record { is = syntax f.is; only = λ s r. go s r }
+  syntax_reply {at = at} f = record { is = syntax f.is; only = λ s r. go s r; front = (_, f) }
     where
       go : {c : Command} (s : Status) (r : List ℕ) → Replies (Some c) text s r → (s ≡ Syntax at) × (r ≡ line (codes "syntax at " ++ decimal at))
       go s r (syntax {at = b} g) = let e = same_at (f.only (outcome.Syntax b) g) in (ap Syntax e, ap (λ x. line (codes "syntax at " ++ decimal x)) e)
@@ -87,7 +87,7 @@ module _ {command : Command} {text : List ℕ} where
       go s r (barred {s = b} w g h k) = not_bundle (sym (f.only (outcome.Bundle b) g))
 
   pub limit_reply : {what : What} → IsFront text (outcome.Limit what) → IsReply (Some command) text (Limit what) (line (codes "limit " ++ what_word what))
-  limit_reply {what = what} f = record { is = limit f.is; only = λ s r. go s r }
+  limit_reply {what = what} f = record { is = limit f.is; only = λ s r. go s r; front = (_, f) }
     where
       go : {c : Command} (s : Status) (r : List ℕ) → Replies (Some c) text s r → (s ≡ Limit what) × (r ≡ line (codes "limit " ++ what_word what))
       go s r (syntax {at = b} g) = not_limit (f.only (outcome.Syntax b) g)
@@ -116,7 +116,7 @@ module _ {text : List ℕ} {start : Start} (f : IsFront text (outcome.Bundle sta
   same {b} g = same_bundle (f.only (outcome.Bundle b) g)
 
   pub format_reply : IsReply (Some Format) text Ok (canonical start)
-  format_reply = record { is = formatted f.is; only = λ s r. go s r }
+  format_reply = record { is = formatted f.is; only = λ s r. go s r; front = (_, f) }
     where
       go : (s : Status) (r : List ℕ) → Replies (Some Format) text s r → (s ≡ Ok) × (r ≡ canonical start)
       go s r (syntax {at = b} g) = not_bundle (f.only (outcome.Syntax b) g)
@@ -128,7 +128,7 @@ module _ {text : List ℕ} {start : Start} (f : IsFront text (outcome.Bundle sta
       go s r (barred w g h k) = absurd w
 
   pub name_reply : {command : Command} {x : Fault} → AsksNames command → IsFirst (faults start) x → IsReply (Some command) text (Name x.rule x.at) (name_line x.rule x.at)
-  name_reply {x = x} asks h = record { is = misnamed asks f.is h; only = λ s r. go asks s r }
+  name_reply {x = x} asks h = record { is = misnamed asks f.is h; only = λ s r. go asks s r; front = (_, f) }
     where
       go : {c : Command} → AsksNames c → (s : Status) (r : List ℕ) → Replies (Some c) text s r → (s ≡ Name x.rule x.at) × (r ≡ name_line x.rule x.at)
       go w s r (syntax {at = b} g) = not_bundle (f.only (outcome.Syntax b) g)
@@ -152,7 +152,7 @@ module _ {text : List ℕ} {start : Start} (f : IsFront text (outcome.Bundle sta
 
   pub label_reply : {command : Command} {x : Refusal} → AsksLabels command start → faults start ≡ [] → IsFirstRefusal (resolved start) x
       → IsReply (Some command) text (Labelled x.rule x.at x.source x.target) (label_line (resolved start) x)
-  label_reply {x = x} asks right h = record { is = mislabelled asks f.is right h; only = λ s r. go asks s r }
+  label_reply {x = x} asks right h = record { is = mislabelled asks f.is right h; only = λ s r. go asks s r; front = (_, f) }
     where
       go : {c : Command} → AsksLabels c start → (s : Status) (r : List ℕ) → Replies (Some c) text s r → (s ≡ Labelled x.rule x.at x.source x.target) × (r ≡ label_line (resolved start) x)
       go w s r (syntax {at = b} g) = not_bundle (f.only (outcome.Syntax b) g)
@@ -172,7 +172,7 @@ module _ {text : List ℕ} {start : Start} (f : IsFront text (outcome.Bundle sta
 
   module _ (right : faults start ≡ []) (well : IsWellLabelled (resolved start)) where
     pub checked_reply : IsReply (Some Check) text Ok (line (codes "ok"))
-    checked_reply = record { is = checked f.is right well; only = λ s r. go s r }
+    checked_reply = record { is = checked f.is right well; only = λ s r. go s r; front = (_, f) }
       where
         go : (s : Status) (r : List ℕ) → Replies (Some Check) text s r → (s ≡ Ok) × (r ≡ line (codes "ok"))
         go s r (syntax {at = b} g) = not_bundle (f.only (outcome.Syntax b) g)
@@ -184,7 +184,7 @@ module _ {text : List ℕ} {start : Start} (f : IsFront text (outcome.Bundle sta
         go s r (barred w g h k) = absurd w
 
     pub evaluated_reply : IsReply (Some Evaluate) text Ok (evaluation_text (resolved start))
-    evaluated_reply = record { is = evaluated f.is right well; only = λ s r. go s r }
+    evaluated_reply = record { is = evaluated f.is right well; only = λ s r. go s r; front = (_, f) }
       where
         go : (s : Status) (r : List ℕ) → Replies (Some Evaluate) text s r → (s ≡ Ok) × (r ≡ evaluation_text (resolved start))
         go s r (syntax {at = b} g) = not_bundle (f.only (outcome.Syntax b) g)
@@ -211,12 +211,12 @@ module _ {text : List ℕ} {start : Start} (f : IsFront text (outcome.Bundle sta
     one_replay {b} {q} c u w x y v n g k l m noted told =
         let e = same g in
         let here : ReplaysTo start rights u x = subst (λ z. ReplaysTo start z u x) (rights_of q rights e k.rights_are accepted.rights_are) (subst (λ z. ReplaysTo z q u x) e l) in
-        let tells = tells_alike (given_of start rights) u w here.moves x (one_text rights c u w accepted e v n here.moves) here.told in
-        one_answer (given_of start rights) w here.moves m.moves x y here.run m.run tells m.told noted told
+        let tells = tells_alike (given_of start rights) u w here.moves x noted here.scheduled m.scheduled (one_text rights c u w accepted e v n here.moves) here.told in
+        one_answer (given_of start rights) w here.moves m.moves x y m.scheduled here.run m.run tells m.told noted told
 
     module _ (command : Command) (wanted : Wanted) (wants : Wants start command wanted) where
       pub replay_reply : (reply : List ℕ) → ReplaysTo start rights wanted (replays.Done reply) → IsReply (Some command) text Ok reply
-      replay_reply reply m = record { is = replayed wants f.is accepted m; only = λ s r. go wants m s r }
+      replay_reply reply m = record { is = replayed wants f.is accepted m; only = λ s r. go wants m s r; front = (_, f) }
         where
           go : {c : Command} {u : Wanted} → Wants start c u → ReplaysTo start rights u (replays.Done reply) → (s : Status) (r : List ℕ) → Replies (Some c) text s r → (s ≡ Ok) × (r ≡ reply)
           go w m s r (syntax {at = b} g) = not_bundle (f.only (outcome.Syntax b) g)
@@ -229,12 +229,13 @@ module _ {text : List ℕ} {start : Start} (f : IsFront text (outcome.Bundle sta
           go w m s r (unlabelled g k l) = absurd w
           go w m s r (flow g k l n o) = absurd w
           go {u = Report} w m s r (unnamed {names = names} g k l) = absurd w
+          go {u = ByNodes} w m s r (unnamed {names = names} g k l) = absurd w
           go {u = Viewed nodes seen part} w m s r (unnamed {names = names} g k l) = no_names names (ap (λ z. are_node_names (resolved z) names) (sym (same g)) ∙ l) w.names_are
           go {c} {u} w m s r (replayed {wanted = z} {reply = t} v g k l) = let e = one_replay c z u (replays.Done t) (replays.Done reply) v w g k l m tt tt in (refl, ap text_of e)
           go {c} {u} w m s r (barred {wanted = z} {event = n} v g k l) = let e = one_replay c z u (replays.NotEnabled n) (replays.Done reply) v w g k l m tt tt in (ap status_of e, ap text_of e)
 
       pub barred_reply : (event : ℕ) → ReplaysTo start rights wanted (replays.NotEnabled event) → IsReply (Some command) text (NotEnabled event) (barred_line event)
-      barred_reply event m = record { is = barred wants f.is accepted m; only = λ s r. go wants m s r }
+      barred_reply event m = record { is = barred wants f.is accepted m; only = λ s r. go wants m s r; front = (_, f) }
         where
           go : {c : Command} {u : Wanted} → Wants start c u → ReplaysTo start rights u (replays.NotEnabled event) → (s : Status) (r : List ℕ) → Replies (Some c) text s r
               → (s ≡ NotEnabled event) × (r ≡ barred_line event)
@@ -248,17 +249,33 @@ module _ {text : List ℕ} {start : Start} (f : IsFront text (outcome.Bundle sta
           go w m s r (unlabelled g k l) = absurd w
           go w m s r (flow g k l n o) = absurd w
           go {u = Report} w m s r (unnamed {names = names} g k l) = absurd w
+          go {u = ByNodes} w m s r (unnamed {names = names} g k l) = absurd w
           go {u = Viewed nodes seen part} w m s r (unnamed {names = names} g k l) = no_names names (ap (λ z. are_node_names (resolved z) names) (sym (same g)) ∙ l) w.names_are
           go {c} {u} w m s r (replayed {wanted = z} {reply = t} v g k l) = let e = one_replay c z u (replays.Done t) (replays.NotEnabled event) v w g k l m tt tt in (ap status_of e, ap text_of e)
           go {c} {u} w m s r (barred {wanted = z} {event = n} v g k l) = let e = one_replay c z u (replays.NotEnabled n) (replays.NotEnabled event) v w g k l m tt tt in (ap status_of e, ap text_of e)
 
+  -- a text whose bundle is accepted has no reply for `run`
+  unscheduled : (b : Start) {A : Type 0} (u : Wanted) → Wants b Run u → IsTrue (is_scheduled u) → A
+  unscheduled b ByNodes w e = absurd (cc)
+  unscheduled b Report w e = absurd w
+  unscheduled b (Viewed nodes seen part) w e = absurd w
+
+  pub no_reply : {A : Type 0} {rights : Rights} → IsAcceptedWith start rights → (s : Status) (r : List ℕ) → Replies (Some Run) text s r → A
+  no_reply accepted s r (syntax {at = b} g) = not_bundle (f.only (outcome.Syntax b) g)
+  no_reply accepted s r (limit {what = b} g) = no_limit (f.only (outcome.Limit b) g)
+  no_reply accepted s r (misnamed c g k) = none_first (ap faults (same g) ∙ accepted.named) k
+  no_reply accepted s r (mislabelled {x = y} c g k l) = none_refused (resolved start) y accepted.labelled (here g l)
+  no_reply accepted s r (replayed {wanted = u} {s = b} w g k l) = unscheduled b u w l.scheduled
+  no_reply accepted s r (barred {wanted = u} {s = b} w g k l) = unscheduled b u w l.scheduled
+
   -- a word of `view` that names no node
   module _ (names : List (List ℕ)) (right : faults start ≡ []) where
     pub unnamed_reply : are_node_names (resolved start) names ≡ false → IsReply (Some (View names)) text (Name rule.Unknown (length text)) (name_line rule.Unknown (length text))
-    unnamed_reply l = record { is = unnamed f.is right l; only = λ s r. go s r }
+    unnamed_reply l = record { is = unnamed f.is right l; only = λ s r. go s r; front = (_, f) }
       where
         no_wish : {b : Start} {A : Type 0} (u : Wanted) → b ≡ start → Wants b (View names) u → A
         no_wish Report e w = absurd w
+        no_wish ByNodes e w = absurd w
         no_wish (Viewed nodes seen part) e w = no_names names l (ap (λ z. are_node_names (resolved z) names) (sym e) ∙ w.names_are)
 
         go : (s : Status) (r : List ℕ) → Replies (Some (View names)) text s r → (s ≡ Name rule.Unknown (length text)) × (r ≡ name_line rule.Unknown (length text))
@@ -274,6 +291,7 @@ module _ {text : List ℕ} {start : Start} (f : IsFront text (outcome.Bundle sta
   pub lacking_reply : (c : Command) → faults start ≡ [] → LacksNode start c → IsReply (Some c) text (Name rule.Unknown (length text)) (name_line rule.Unknown (length text))
   lacking_reply (View names) right h = unnamed_reply names right h
   lacking_reply Replay right h = absurd h
+  lacking_reply Run right h = absurd h
   lacking_reply Check right h = absurd h
   lacking_reply Evaluate right h = absurd h
   lacking_reply (Flows a b) right h = absurd h
@@ -285,7 +303,7 @@ module _ {text : List ℕ} {start : Start} (f : IsFront text (outcome.Bundle sta
 
   module _ (a b : List ℕ) (right : faults start ≡ []) where
     pub unlabelled_reply : LacksLabel start a b → IsReply (Some (Flows a b)) text (Name rule.Unknown (length text)) (name_line rule.Unknown (length text))
-    unlabelled_reply l = record { is = unlabelled f.is right l; only = λ s r. go s r }
+    unlabelled_reply l = record { is = unlabelled f.is right l; only = λ s r. go s r; front = (_, f) }
       where
         go : (s : Status) (r : List ℕ) → Replies (Some (Flows a b)) text s r → (s ≡ Name rule.Unknown (length text)) × (r ≡ name_line rule.Unknown (length text))
         go s r (syntax {at = b} g) = not_bundle (f.only (outcome.Syntax b) g)
@@ -298,7 +316,7 @@ module _ {text : List ℕ} {start : Start} (f : IsFront text (outcome.Bundle sta
         go s r (flow g k m n o) = lacks a b (ap (λ x. label_of x a) (sym (same g)) ∙ m) (ap (λ x. label_of x b) (sym (same g)) ∙ n) l
 
     pub flow_reply : {x y : Label} {t : List ℕ} → label_of start a ≡ Some x → label_of start b ≡ Some y → IsFlowReply (resolved start) x y t → IsReply (Some (Flows a b)) text Ok t
-    flow_reply {x = x} {y = y} {t = t} p q l = record { is = flow f.is right p q l.is; only = λ s r. go s r }
+    flow_reply {x = x} {y = y} {t = t} p q l = record { is = flow f.is right p q l.is; only = λ s r. go s r; front = (_, f) }
       where
         go : (s : Status) (r : List ℕ) → Replies (Some (Flows a b)) text s r → (s ≡ Ok) × (r ≡ t)
         go s r (syntax {at = b} g) = not_bundle (f.only (outcome.Syntax b) g)

@@ -27,7 +27,7 @@ use Rattle.fab_tables.proofs.LimitLemmas.{is_within}
 use Rattle.fab_views.specs.Views.{IsSeenBy}
 use Rattle.fab_views.proofs.Declared.{class_label_declared}
 use Rattle.fab_replay.specs.declared.replayed.Wanted.{Wanted}
-use Rattle.fab_replay.specs.declared.replayed.Wanted.TheVariants.{Report, View as Viewed}
+use Rattle.fab_replay.specs.declared.replayed.Wanted.TheVariants.{Report, Run as ByNodes, View as Viewed}
 use Rattle.fab_replay.specs.Replays.{IsReady}
 use Rattle.fab_replay.specs.View.{CanBeSeen, IsViewInto}
 use Rattle.fab_reply.specs.Replays.{AreNamed, IsSetOf, Wants, given_of}
@@ -112,6 +112,7 @@ can_be_seen s r within right is =
 pub ready_view : (s : Start) (command : Command) (names : List (List ℕ)) (set : ℕ) (program : Resolved) (w : Wanted) → program ≡ resolved s → command ≡ View names → IsSetOf s command set
     → IsViewInto program set w → Wants s command w × ((rights : Rights) → IsAcceptedWith s rights → IsReady (given_of s rights) w)
 ready_view s command names set program Report is of h v = absurd v
+ready_view s command names set program ByNodes is of h v = absurd v
 ready_view s command names set program (Viewed nodes seen part) is of h v =
     let named : AreNamed s names nodes = subst (AreNamed s names) (sym v.nodes_are) (let k = subst (λ c. IsSetOf s c set) of h in k) in (
       subst (λ c. Wants s c (Viewed nodes seen part)) (sym of) named,

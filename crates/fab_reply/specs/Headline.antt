@@ -1,5 +1,5 @@
--- The headline: what holds of the run that a replay's report tells, whichever nodes are distrusted.
-use Rattle.std.specs.Prelude.{◌≡◌, ℕ, Bool, List, Option, Some}
+-- The headline: what holds of the run of which a report tells, whichever nodes are distrusted.
+use Rattle.std.specs.Prelude.{◌≡◌, ℕ, Bool, List, Option, Some, None}
 use Rattle.std.specs.Io.KnownBytes.{Appends}
 use Rattle.fab_tree.specs.declared.start.Start.{Start}
 use Rattle.fab_rights.specs.declared.rights.Rights.{Rights}
@@ -10,8 +10,9 @@ use Rattle.fab_settings.specs.Settings.{IsAcceptedWith}
 use Rattle.fab_node.specs.Standing.{GivenModel}
 use Rattle.fab_core.specs.Cores.{setting}
 use Rattle.fab_command.specs.declared.command.Command.{Command}
+use Rattle.fab_command.specs.declared.command.Command.TheVariants.{Run}
 use Rattle.fab_replay.specs.declared.replayed.Wanted.{Wanted}
-use Rattle.fab_replay.specs.Replays.{StopsIn, events_of, moves_of, text_of}
+use Rattle.fab_replay.specs.Replays.{IsRunOver, StopsIn, events_of, first_mark, moves_of, text_of}
 use Rattle.fab_replay.specs.Integral.{IsExcluded, IsIntegral}
 use Rattle.fab_replay.specs.Isolated.{IsIsolated}
 use Rattle.fab_reply.specs.declared.front.Outcome.TheVariants as outcome
@@ -26,8 +27,20 @@ IsOfSchedule g moves = moves ≡ moves_of (events_of g.program)
 abbrev pub IsOfFault : ℕ → GivenModel → List Move → Type 0
 IsOfFault node g moves = StopsIn g moves node
 
+-- The run of which a command's whole text tells: the schedule's. Of `run` it is one that the nodes made by themselves, which keeps the crash lines,
+-- behind which nothing is due, and in which no journal failed.
+abbrev pub IsWholeFor : Option Command → GivenModel → List Move → Type 0
+IsWholeFor (Some Run) g moves = IsRunOver g moves × (first_mark moves ≡ None)
+IsWholeFor _ g moves = IsOfSchedule g moves
+
+-- The run of which it tells where this node's journal failed: the schedule's up to there. Of `run` it is such a run, too, to its end, in which this
+-- node's is the first journal that failed.
+abbrev pub IsPartFor : Option Command → ℕ → GivenModel → List Move → Type 0
+IsPartFor (Some Run) node g moves = IsRunOver g moves × (first_mark moves ≡ Some node)
+IsPartFor _ node g moves = IsOfFault node g moves
+
 -- A text was read that spells an accepted bundle, and what was written is the text that the command wants of one run from its start, of which P
--- holds: for `replay` its report. And for every set of nodes that contains the hostile ones, each object whose integrity excludes the set holds
+-- holds: for `replay` and `run` its report. And for every set of nodes that contains the hostile ones, each object whose integrity excludes the set holds
 -- what replaying the committed requests of the others in the order of their decisions gives, each at most once; and each node outside the set
 -- has sent each node of it exactly the public replay of the release record.
 pub record Headline (command : Option Command) (P : GivenModel → List Move → Type 0) (left left' written written' : Option (List ℕ)) : Type 0 where

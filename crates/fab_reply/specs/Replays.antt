@@ -1,5 +1,5 @@
--- What a replay comes to over a bundle, and what it leaves of the journals.
-use Rattle.std.specs.Prelude.{◌≡◌, ◌<◌, ◌||◌, ℕ, true, false, List, Option, Some}
+-- What runs of a bundle come to, and what they leave of the journals.
+use Rattle.std.specs.Prelude.{◌≡◌, ◌<◌, ◌||◌, ℕ, Bool, true, false, IsTrue, List, Option, Some, None}
 use Rattle.fab_tree.specs.declared.start.Start.{Start}
 use Rattle.fab_language.specs.Numbers.{resolved}
 use Rattle.fab_rights.specs.declared.rights.Rights.{Rights}
@@ -12,38 +12,56 @@ use Rattle.fab_node.specs.Standing.{GivenModel}
 use Rattle.fab_core.specs.Cores.{setting}
 use Rattle.fab_core.specs.Starts.{given_by}
 use Rattle.fab_command.specs.declared.command.Command.{Command}
-use Rattle.fab_command.specs.declared.command.Command.TheVariants.{Check, Evaluate, Flows, Format, Replay, View}
+use Rattle.fab_command.specs.declared.command.Command.TheVariants.{Check, Evaluate, Flows, Format, Replay, Run, View}
 use Rattle.fab_listing.specs.Named.{are_node_names, is_named}
 use Rattle.fab_replay.specs.declared.replayed.Replayed.{Replayed}
 use Rattle.fab_replay.specs.declared.replayed.Wanted.{Wanted}
-use Rattle.fab_replay.specs.declared.replayed.Wanted.TheVariants.{Report, View as Viewed}
-use Rattle.fab_replay.specs.Replays.{Tells}
+use Rattle.fab_replay.specs.declared.replayed.Wanted.TheVariants.{Report, Run as ByNodes, View as Viewed}
+use Rattle.fab_replay.specs.Replays.{Tells, is_scheduled}
 
 -- what the nodes of a bundle are given
 abbrev pub given_of : Start → Rights → GivenModel
 given_of s rights = given_by (resolved s) rights
 
--- there are moves of a run of the bundle of which the answer tells, with the text that is wanted
+-- there are moves of a run of the bundle's schedule of which the answer tells, with the text that is wanted
 pub record ReplaysTo (s : Start) (rights : Rights) (wanted : Wanted) (answer : Replayed) : Type 0 where
   pub moves : List Move
   pub run : IsRun (setting (given_of s rights)) moves
   pub told : Tells (given_of s rights) wanted moves answer
+  pub scheduled : IsTrue (is_scheduled wanted)
+
+-- there are moves of a run that the bundle's nodes make by themselves of which the answer tells
+pub record RunsTo (s : Start) (rights : Rights) (answer : Replayed) : Type 0 where
+  pub moves : List Move
+  pub run : IsRun (setting (given_of s rights)) moves
+  pub told : Tells (given_of s rights) ByNodes moves answer
 
 -- the words are names of nodes, and these are those nodes and the hostile ones
 pub record AreNamed (s : Start) (names : List (List ℕ)) (nodes : ℕ) : Type 0 where
   pub names_are : are_node_names (resolved s) names ≡ true
   pub nodes_are : (n : ℕ) → n < 64 → has_bit nodes n ≡ (is_named (resolved s) names n || is_hostile_node (resolved s) n)
 
--- what a command wants of a run: `replay` its report, and `view` what was sent into the set of the nodes that it names and of the hostile ones
+-- what a command wants: `replay` the report of the schedule's run, `run` that of a run that the nodes make by themselves, and `view` what was sent
+-- in the schedule's run into the set of the nodes that it names and of the hostile ones
 abbrev pub Wants : Start → Command → Wanted → Type 0
 Wants s Replay Report = Unit {0}
+Wants s Replay ByNodes = ⊥
 Wants s Replay (Viewed nodes seen part) = ⊥
+Wants s Run Report = ⊥
+Wants s Run ByNodes = Unit {0}
+Wants s Run (Viewed nodes seen part) = ⊥
 Wants s (View names) Report = ⊥
+Wants s (View names) ByNodes = ⊥
 Wants s (View names) (Viewed nodes seen part) = AreNamed s names nodes
 Wants s Check wanted = ⊥
 Wants s Evaluate wanted = ⊥
 Wants s (Flows a b) wanted = ⊥
 Wants s Format wanted = ⊥
+
+-- such runs are made as this command may want, by who makes these
+abbrev pub CanMake : (Wanted → Bool) → Option Command → Type 0
+CanMake makes None = Unit {0}
+CanMake makes (Some command) = (s : Start) (wanted : Wanted) → Wants s command wanted → IsTrue (makes wanted)
 
 -- these are the nodes of the command's set, if it has one
 abbrev pub IsSetOf : Start → Command → ℕ → Type 0
@@ -55,9 +73,10 @@ abbrev pub LacksNode : Start → Command → Type 0
 LacksNode s (View names) = are_node_names (resolved s) names ≡ false
 LacksNode s _ = ⊥
 
--- `replay` and `view` make runs
+-- `replay`, `run` and `view` make runs
 abbrev pub MakesRuns : Option Command → Type 0
 MakesRuns (Some Replay) = Unit {0}
+MakesRuns (Some Run) = Unit {0}
 MakesRuns (Some (View names)) = Unit {0}
 MakesRuns _ = ⊥
 

@@ -24,10 +24,11 @@ use Rattle.fab_labelling.specs.declared.rule.Side.{Side}
 use Rattle.fab_labelling.specs.declared.rule.Side.TheVariants as side
 use Rattle.fab_labelling.specs.Claims.{IsWellLabelled}
 use Rattle.fab_labelling.specs.Refusals.{IsFirstRefusal}
+use Rattle.fab_reply.specs.declared.front.Outcome.{Outcome}
 use Rattle.fab_reply.specs.declared.front.Outcome.TheVariants as outcome
-use Rattle.fab_reply.specs.Front.{Front}
+use Rattle.fab_reply.specs.Front.{Front, IsFront}
 use Rattle.fab_reply.specs.Reading.{ReadsText, WritesFront}
-use Rattle.fab_reply.specs.Replays.{Makers, ReplaysTo, Wants, given_of}
+use Rattle.fab_reply.specs.Replays.{Makers, ReplaysTo, RunsTo, Wants, given_of}
 use Rattle.fab_rights.specs.declared.rights.Rights.{Rights}
 use Rattle.fab_settings.specs.Settings.{IsAcceptedWith}
 use Rattle.fab_core.specs.Cores.{is_honest}
@@ -39,7 +40,7 @@ use Rattle.fab_replay.specs.Kept.{IsCutShort, IsReplayed, IsPossible}
 use Rattle.fab_reply.specs.declared.status.Status.{Status}
 use Rattle.fab_reply.specs.declared.status.Status.TheVariants.{Ok, Usage, ReadFault, WriteFault, Memory, Syntax, Name, Label as Labelled, Limit, NotEnabled, JournalFault}
 use Rattle.fab_command.specs.declared.command.Command.{Command}
-use Rattle.fab_command.specs.declared.command.Command.TheVariants.{Check, Evaluate, Flows, Format, Replay, View}
+use Rattle.fab_command.specs.declared.command.Command.TheVariants.{Check, Evaluate, Flows, Format, Replay, Run, View}
 
 -- a line of a text
 abbrev pub line : List ℕ → List ℕ
@@ -106,15 +107,17 @@ abbrev pub AsksNames : Command → Type 0
 AsksNames Check = Unit {0}
 AsksNames Evaluate = Unit {0}
 AsksNames Replay = Unit {0}
+AsksNames Run = Unit {0}
 AsksNames (View names) = Unit {0}
 AsksNames (Flows a b) = Unit {0}
 AsksNames Format = ⊥
 
--- `check`, `eval`, `replay` and `view` ask for the rules of labels, `view` behind the names of its nodes
+-- `check`, `eval`, `replay`, `run` and `view` ask for the rules of labels, `view` behind the names of its nodes
 abbrev pub AsksLabels : Command → Start → Type 0
 AsksLabels Check s = Unit {0}
 AsksLabels Evaluate s = Unit {0}
 AsksLabels Replay s = Unit {0}
+AsksLabels Run s = Unit {0}
 AsksLabels (View names) s = are_node_names (resolved s) names ≡ true
 AsksLabels (Flows a b) s = ⊥
 AsksLabels Format s = ⊥
@@ -167,8 +170,8 @@ pub data Replies : Option Command → List ℕ → Status → List ℕ → Type 
       → Wants s command wanted → Front text (outcome.Bundle s) → IsAcceptedWith s rights → ReplaysTo s rights wanted (replays.NotEnabled event)
       → Replies (Some command) text (NotEnabled event) (barred_line event)
 
--- Interrupted command text status written: a node's journal failed. In a run that is what is wanted of the run as it stands; before there is a
--- run nothing is written.
+-- Interrupted command text status written: a node's journal failed. In the schedule's run that is what is wanted of the run as it stands; before
+-- there is a run nothing is written.
 pub data Interrupted : Option Command → List ℕ → Status → List ℕ → Type 0 where
   in_run : {command : Command} {wanted : Wanted} {text reply : List ℕ} {s : Start} {rights : Rights} {node : ℕ}
       → Wants s command wanted → Front text (outcome.Bundle s) → IsAcceptedWith s rights
@@ -177,15 +180,31 @@ pub data Interrupted : Option Command → List ℕ → Status → List ℕ → T
       → Wants s command wanted → Front text (outcome.Bundle s) → IsAcceptedWith s rights → IsTrue (is_honest (given_of s rights) node)
       → Interrupted (Some command) text (JournalFault node) []
 
+-- Ran command text status written: the report of a run that the nodes of the text's bundle make by themselves. A text may have many of them, so
+-- it is no reply. Where a node's journal failed in it, the others went on, and this is the first.
+pub data Ran : Option Command → List ℕ → Status → List ℕ → Type 0 where
+  sound : {text reply : List ℕ} {s : Start} {rights : Rights}
+      → IsFront text (outcome.Bundle s) → IsAcceptedWith s rights → RunsTo s rights (replays.Done reply) → Ran (Some Run) text Ok reply
+  faulty : {text reply : List ℕ} {s : Start} {rights : Rights} {node : ℕ}
+      → IsFront text (outcome.Bundle s) → IsAcceptedWith s rights → RunsTo s rights (replays.JournalFault node (Some reply))
+      → Ran (Some Run) text (JournalFault node) reply
+
+-- a text of which something is asked comes to one outcome
+abbrev pub HasOutcome : Option Command → List ℕ → Type 0
+HasOutcome None text = Unit {0}
+HasOutcome (Some command) text = (x : Outcome) × IsFront text x
+
 -- this is the reply, and there is no other
 pub record IsReply (command : Option Command) (text : List ℕ) (status : Status) (reply : List ℕ) : Type 0 where
   pub is : Replies command text status reply
   pub only : (s : Status) (r : List ℕ) → Replies command text s r → (s ≡ status) × (r ≡ reply)
+  pub front : HasOutcome command text
 
--- what comes of a text: its one reply, unless a journal failed
+-- what comes of a text: its one reply, unless a journal failed; or the report of a run
 pub data Answers (command : Option Command) (text : List ℕ) (status : Status) (reply : List ℕ) : Type 0 where
   one_reply : IsReply command text status reply → Answers command text status reply
   interrupted : Interrupted command text status reply → Answers command text status reply
+  ran : Ran command text status reply → Answers command text status reply
 
 abbrev pub status_of : Replayed → Status
 status_of (replays.Done reply) = Ok
@@ -203,7 +222,7 @@ text_of (replays.NotEnabled event) = barred_line event
 text_of (replays.JournalFault node (Some reply)) = reply
 text_of (replays.JournalFault node None) = []
 
--- This is the reply of a replay of the bundle that the text has, and the journals are as it left them.
+-- This is the reply of a run of the bundle that the text has, and the journals are as it left them.
 pub record IsReplay (command : Command) (text : List ℕ) (old new : Makers) (status : Status) (reply : List ℕ) : Type 0 where
   pub start : Start
   pub rights : Rights
@@ -226,6 +245,7 @@ AreLeft command text old new status reply = new ≡ old
 
 abbrev pub JournalsAre : Option Command → List ℕ → Makers → Makers → Status → List ℕ → Type 0
 JournalsAre (Some Replay) text old new status reply = AreLeft Replay text old new status reply
+JournalsAre (Some Run) text old new status reply = AreLeft Run text old new status reply
 JournalsAre (Some (View names)) text old new status reply = AreLeft (View names) text old new status reply
 JournalsAre command text old new status reply = new ≡ old
 
@@ -300,6 +320,19 @@ SpeaksOfText _ = ⊥
 abbrev pub IsJournalFault : Status → Type 0
 IsJournalFault (JournalFault node) = Unit {0}
 IsJournalFault _ = ⊥
+
+-- nothing was refused: all was done, or memory ran out, or the sink or a journal failed
+abbrev pub IsNoRefusal : Status → Type 0
+IsNoRefusal Ok = Unit {0}
+IsNoRefusal Memory = Unit {0}
+IsNoRefusal WriteFault = Unit {0}
+IsNoRefusal (JournalFault node) = Unit {0}
+IsNoRefusal _ = ⊥
+
+-- where `run` is asked of a text that has an accepted bundle, it isn't refused
+abbrev pub IsComplete : Option Command → Status → List ℕ → Type 0
+IsComplete command status text =
+    (s : Start) (rights : Rights) → command ≡ Some Run → Front text (outcome.Bundle s) → IsAcceptedWith s rights → IsNoRefusal status
 
 -- this status and the whole reply, or memory ran out, or the sink or a journal failed
 abbrev pub ComesTo : Status → Status → Option (List ℕ) → Option (List ℕ) → List ℕ → Type 0

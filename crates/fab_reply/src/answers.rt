@@ -10,7 +10,8 @@ ghost use Rattle.fab_reply.specs.Front.{IsFront};
 ghost use Rattle.fab_tree.specs.declared.start.Start.{Start as AnyStart};
 ghost use Rattle.fab_reply.specs.Accepted.{IsAccepted};
 ghost use Rattle.fab_reply.specs.declared.accepted.Accepted.TheVariants.{Bundle as Whole};
-ghost use Rattle.fab_reply.specs.Replays.{IsSetOf, LacksNode, Makers, MakesRuns, Wants, given_of};
+ghost use Rattle.fab_reply.specs.Replays.{CanMake, IsSetOf, LacksNode, Makers, MakesRuns, Wants, given_of};
+ghost use Rattle.fab_replay.specs.Courses.{IsCourse};
 ghost use Rattle.fab_replay.specs.Replays.{IsReady};
 ghost use Rattle.fab_rights.specs.declared.rights.Rights.{Rights as AnyRights};
 ghost use Rattle.fab_settings.specs.Settings.{IsAcceptedWith};
@@ -23,6 +24,7 @@ use crate::lines::{barred_line, label_line, name_line};
 use crate::status::Status;
 use fab_base::{NoMemory, Seq, Text};
 use fab_command::Command;
+use fab_core::Core;
 use fab_device::Journals;
 use fab_evaluation::evaluation;
 use fab_flows::flow_reply;
@@ -30,7 +32,7 @@ use fab_labelling::Refusal;
 use fab_language::{Fault, NameRule};
 use fab_listing::{hostile_nodes, nodes_named};
 use fab_print::print_start;
-use fab_replay::{Replayed, Wanted, replay, view_into};
+use fab_replay::{Course, Replayed, Wanted, make_run, view_into};
 use fab_setup::accepted_setup;
 use fab_tree::Start;
 use fab_tree::resolved::{NamedLabel, Resolved};
@@ -120,7 +122,7 @@ pub(crate) fn evaluate(
     }
 }
 
-/// The status and the text of what a replay comes to.
+/// The status and the text of what a run comes to.
 fn told(alloc: Global, answer: Replayed) -> Result<(Status, Seq<u8>), NoMemory>
     ensures told { IfOk result (λ r. (r.0 ≡ status_of answer) × (r.1 ≡ text_of answer)) }
     ensures failed { OnErr result (IsNotEnabled answer) }
@@ -152,7 +154,7 @@ fn set_of(program: &Resolved, command: &Command) -> Option<u64>
     }
 }
 
-/// What a command wants of a run of the bundle: for `view`, what its set sees and what everybody may know.
+/// What a command wants of runs of the bundle: for `view`, what its set sees and what everybody may know.
 fn wanted_of(alloc: Global, start: &Start, command: &Command, set: u64) -> Result<Wanted, NoMemory>
     requires runs { MakesRuns (Some command.now) }
     requires within { first_passed start.now ≡ Nothing }
@@ -165,13 +167,15 @@ fn wanted_of(alloc: Global, start: &Start, command: &Command, set: u64) -> Resul
             Ok(program) => view_into(alloc, program, set),
             Err(_) => unreachable!(),
         },
+        Command::Run => Ok(Wanted::Run),
         _ => Ok(Wanted::Report),
     }
 }
 
 /// What a command that makes a run replies to a text with this bundle, which is accepted.
-fn run_of<M: Journals>(
+fn run_of<C: Course<Core<M::Item>>, M: Journals>(
     alloc: Global,
+    course: &C,
     text: &[u8],
     start: &Start,
     command: &Command,
@@ -182,6 +186,8 @@ fn run_of<M: Journals>(
     requires front { IsFront text.now (Bundle start.now) }
     requires accepted { IsAccepted start.now (Whole program) }
     requires runs { MakesRuns (Some command.now) }
+    requires made { CanMake C.makes (Some command.now) }
+    requires course { IsCourse C.makes (C.may course.now) (C.comes course.now) }
     requires set { IsSetOf start.now command.now set }
     ensures replies { IfOk result (λ r. Answers (Some command.now) text.now r.0 r.1) }
     ensures journals { IfOk result (λ r. AreLeft command.now text.now
@@ -196,7 +202,14 @@ fn run_of<M: Journals>(
     let _text = text;
     let wanted = wanted_of(alloc, start, command, set)?;
     let setup = accepted_setup(alloc, program)?;
-    let answer = replay(alloc, setup.program, setup.rights, &wanted, journals)?;
+    let answer = make_run(
+        alloc,
+        course,
+        setup.program,
+        setup.rights,
+        &wanted,
+        journals,
+    )?;
     told(alloc, answer)
 }
 
@@ -215,9 +228,10 @@ fn unknown(alloc: Global, text: &[u8]) -> Result<(Status, Seq<u8>), NoMemory>
     )
 }
 
-/// What a command that makes a run, as `replay` and `view` do, replies to a text with this bundle.
-pub(crate) fn replayed<M: Journals>(
+/// What a command that makes a run, as `replay`, `run` and `view` do, replies to a text with this bundle.
+pub(crate) fn replayed<C: Course<Core<M::Item>>, M: Journals>(
     alloc: Global,
+    course: &C,
     text: &[u8],
     start: &Start,
     command: &Command,
@@ -225,6 +239,8 @@ pub(crate) fn replayed<M: Journals>(
 ) -> Result<(Status, Seq<u8>), NoMemory>
     requires front { IsFront text.now (Bundle start.now) }
     requires runs { MakesRuns (Some command.now) }
+    requires made { CanMake C.makes (Some command.now) }
+    requires course { IsCourse C.makes (C.may course.now) (C.comes course.now) }
     ensures replies { IfOk result (λ r. Answers (Some command.now) text.now r.0 r.1) }
     ensures journals { IfOk result (λ r. AreLeft command.now text.now
         (record { may_fail = M.may_fail journals.old; kept = M.kept journals.old; faults = M.faults journals.old })
@@ -237,7 +253,7 @@ pub(crate) fn replayed<M: Journals>(
 {
     match accept(alloc, start)? {
         Accepted::Bundle(program) => match set_of(&program, command) {
-            Some(set) => run_of(alloc, text, start, command, program, set, journals),
+            Some(set) => run_of(alloc, course, text, start, command, program, set, journals),
             None => unknown(alloc, text),
         },
         Accepted::Misnamed(fault) => refused(alloc, fault),

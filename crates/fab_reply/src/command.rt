@@ -2,11 +2,12 @@
 ghost use Rattle.std.specs.Prelude.{◌≡◌, ◌≢◌, ◌⊎◌, ◌≤◌, List, ℕ, [], Some, None as Nothing, codes, IfOk, IfSome, IsErrOf, OnErr};
 ghost use Rattle.std.specs.Io.KnownBytes.{Keeps, IsAtEnd};
 ghost use Rattle.fab_base.specs.Faults.{Rose};
-ghost use Rattle.fab_reply.specs.Headline.{Headline, IsOfFault, IsOfSchedule};
-ghost use Rattle.fab_reply.specs.Reply.{Answers, AreCut, ComesTo, Ends, IsCut, IsInput, IsJournalFault, JournalsAre, Replies, RepliesInPart, SpeaksOfText, line};
+ghost use Rattle.fab_reply.specs.Headline.{Headline, IsPartFor, IsWholeFor};
+ghost use Rattle.fab_reply.specs.Reply.{Answers, AreCut, ComesTo, Ends, IsCut, IsComplete, IsInput, IsJournalFault, JournalsAre, Replies, RepliesInPart, SpeaksOfText, line};
+ghost use Rattle.fab_replay.specs.Courses.{IsCourse};
 ghost use Rattle.fab_reply.specs.Front.{IsFront};
 ghost use Rattle.fab_reply.specs.Reading.{TakesAtMost};
-ghost use Rattle.fab_reply.specs.Replays.{MakesRuns};
+ghost use Rattle.fab_reply.specs.Replays.{CanMake, MakesRuns};
 ghost use Rattle.fab_reply.specs.declared.reading.ReadError.TheVariants.{Fault, Memory as Wanting};
 ghost use Rattle.fab_reply.specs.declared.status.Status.{Status as AnyStatus};
 ghost use Rattle.fab_reply.specs.declared.status.Status.TheVariants.{Ok as Done, Usage, ReadFault, WriteFault, Memory, JournalFault};
@@ -19,16 +20,21 @@ use crate::status::Status;
 use crate::writing::write_all;
 use fab_base::{NoMemory, Seq, Sink, SinkError, Source};
 use fab_command::Command;
+use fab_core::Core;
 use fab_device::Journals;
+use fab_replay::Course;
 use std::alloc::Global;
 
 /// What a command replies to a text.
-fn replied<M: Journals>(
+fn replied<C: Course<Core<M::Item>>, M: Journals>(
     alloc: Global,
+    course: &C,
     command: &Command,
     text: &[u8],
     journals: &mut M,
 ) -> Result<(Status, Seq<u8>), NoMemory>
+    requires made { CanMake C.makes (Some command.now) }
+    requires course { IsCourse C.makes (C.may course.now) (C.comes course.now) }
     ensures replies { IfOk result (λ r. Answers (Some command.now) text.now r.0 r.1) }
     ensures journals { IfOk result (λ r. JournalsAre (Some command.now) text.now
         (record { may_fail = M.may_fail journals.old; kept = M.kept journals.old; faults = M.faults journals.old })
@@ -54,20 +60,23 @@ fn replied<M: Journals>(
             Command::Evaluate => evaluate(alloc, text, &start),
             Command::Flows { from, to } => flows(alloc, text, &start, from, to),
             Command::Format => format(alloc, text, &start),
-            Command::Replay | Command::View { .. } => {
-                replayed(alloc, text, &start, command, journals)
+            Command::Replay | Command::Run | Command::View { .. } => {
+                replayed(alloc, course, text, &start, command, journals)
             }
         },
     }
 }
 
 /// The status and the text to write, after reading.
-fn reply<S: Source, M: Journals>(
+fn reply<C: Course<Core<M::Item>>, S: Source, M: Journals>(
     alloc: Global,
+    course: &C,
     asked: Option<Command>,
     source: &mut S,
     journals: &mut M,
 ) -> Result<(Status, Seq<u8>), ReadError>
+    requires made { CanMake C.makes asked }
+    requires course { IsCourse C.makes (C.may course.now) (C.comes course.now) }
     ensures given { IfOk result (λ r. (text : List ℕ) × IsInput asked (S.left source.old) (S.left source.new) text × Answers asked text r.0 r.1
         × JournalsAre asked text
         (record { may_fail = M.may_fail journals.old; kept = M.kept journals.old; faults = M.faults journals.old })
@@ -90,19 +99,22 @@ fn reply<S: Source, M: Journals>(
         None => Ok((Status::Usage, Seq::from_slice(alloc, b"usage\n")?)),
         Some(command) => {
             let text = read_all(alloc, source)?;
-            Ok(replied(alloc, &command, &text, journals)?)
+            Ok(replied(alloc, course, &command, &text, journals)?)
         }
     }
 }
 
 /// Replies, and says how it ended.
-fn run<S: Source, K: Sink, M: Journals>(
+fn run<C: Course<Core<M::Item>>, S: Source, K: Sink, M: Journals>(
     alloc: Global,
+    course: &C,
     asked: Option<Command>,
     source: &mut S,
     sink: &mut K,
     journals: &mut M,
 ) -> Status
+    requires made { CanMake C.makes asked }
+    requires course { IsCourse C.makes (C.may course.now) (C.comes course.now) }
     ensures means { Ends asked result (S.left source.old) (S.left source.new) (K.written sink.old) (K.written sink.new)
         (record { may_fail = M.may_fail journals.old; kept = M.kept journals.old; faults = M.faults journals.old })
         (record { may_fail = M.may_fail journals.new; kept = M.kept journals.new; faults = M.faults journals.new }) }
@@ -120,7 +132,7 @@ fn run<S: Source, K: Sink, M: Journals>(
     ensures source_unfailed { result ≢ ReadFault → S.faults source.new ≡ S.faults source.old }
     ensures sink_unfailed { result ≢ WriteFault → K.faults sink.new ≡ K.faults sink.old }
 {
-    let (status, text) = match reply(alloc, asked, source, journals) {
+    let (status, text) = match reply(alloc, course, asked, source, journals) {
         Ok(reply) => reply,
         Err(ReadError::Memory) => return Status::Memory,
         Err(ReadError::Fault) => return Status::ReadFault,
@@ -138,16 +150,22 @@ fn run<S: Source, K: Sink, M: Journals>(
 /// `check` asks whether the bundle that the source has keeps the rules of labels, `eval` for its
 /// evaluation, `flows A B` whether its label A
 /// flows to its label B, with the reasons, `fmt` for its canonical text, `replay` for the report of its
-/// schedule's run, and `view NODE ..` for what was sent in that run into the set of these nodes and the
-/// hostile ones, by those outside it. A text has at most 4,194,304 bytes. Of what the source has left, what the sink holds
-/// and which journals were kept, the clauses speak where these tell it.
-pub fn answer<S: Source, K: Sink, M: Journals>(
+/// schedule's run, `run` for that of a run that its nodes make by themselves, and `view NODE ..` for what was
+/// sent in the schedule's run into the set of these nodes and the hostile ones, by those outside it. A text has
+/// at most 4,194,304 bytes. Of what the source has left, what the sink holds and which journals were kept, the
+/// clauses speak where these tell it.
+pub fn answer<C: Course<Core<M::Item>>, S: Source, K: Sink, M: Journals>(
     alloc: Global,
+    course: &C,
     asked: Option<Command>,
     source: &mut S,
     sink: &mut K,
     journals: &mut M,
 ) -> Status
+    // What is asked of runs may be wanted of the course, and it makes such runs.
+    requires made { CanMake C.makes asked }
+    requires course { IsCourse C.makes (C.may course.now) (C.comes course.now) }
+
     // What each status says of what was read and of what was written.
     ensures means { Ends asked result (S.left source.old) (S.left source.new) (K.written sink.old) (K.written sink.new)
         (record { may_fail = M.may_fail journals.old; kept = M.kept journals.old; faults = M.faults journals.old })
@@ -156,6 +174,10 @@ pub fn answer<S: Source, K: Sink, M: Journals>(
     // Whatever reply the command and the text have is the one that comes, whole, unless the source,
     // the sink or a journal fails or memory runs out; so each refusal comes exactly where it should.
     ensures exact { result ≢ ReadFault → IfSome (S.left source.old) (λ text. (status : AnyStatus) (reply : List ℕ) → Replies asked text status reply → ComesTo result status (K.written sink.old) (K.written sink.new) reply) }
+
+    // Where `run` is asked of a text that has an accepted bundle, that is done, unless the source, the sink or a
+    // journal fails or memory runs out.
+    ensures complete { result ≢ ReadFault → IfSome (S.left source.old) (IsComplete asked result) }
 
     // `Usage` comes exactly where nothing is asked, and nothing is read then.
     ensures usage { asked ≡ Nothing → ComesTo result Usage (K.written sink.old) (K.written sink.new) (line (codes "usage")) }
@@ -192,13 +214,13 @@ pub fn answer<S: Source, K: Sink, M: Journals>(
     ensures sink_unfailed { result ≢ WriteFault → K.faults sink.new ≡ K.faults sink.old }
 
     // With `Ok` of a command that makes a run, and where a journal failed in its run, the text that it wants of that
-    // run was written, for `replay` the report, and the headline holds of the run, integrity and isolation. Where a
-    // journal failed before there was a run, nothing was written.
-    ensures headline { MakesRuns asked → result ≡ Done → Headline asked IsOfSchedule (S.left source.old) (S.left source.new) (K.written sink.old) (K.written sink.new) }
+    // run was written, for `replay` and `run` the report, and the headline holds of the run, integrity and isolation.
+    // Where a journal failed before there was a run, nothing was written.
+    ensures headline { MakesRuns asked → result ≡ Done → Headline asked (IsWholeFor asked) (S.left source.old) (S.left source.new) (K.written sink.old) (K.written sink.new) }
     ensures headline_of_a_part { (node : ℕ) → result ≡ JournalFault node
-        → Keeps (K.written sink.old) (K.written sink.new) ⊎ Headline asked (IsOfFault node) (S.left source.old) (S.left source.new) (K.written sink.old) (K.written sink.new) }
+        → Keeps (K.written sink.old) (K.written sink.new) ⊎ Headline asked (IsPartFor asked node) (S.left source.old) (S.left source.new) (K.written sink.old) (K.written sink.new) }
 
-    // `JournalFault` comes of `replay` and `view` alone, and only these make journals and have them kept. What was
+    // `JournalFault` comes of `replay`, `run` and `view` alone, and only these make journals and have them kept. What was
     // kept, and which faults there were, says `means`. With each other status no journal's making failed.
     ensures journal_fault { (node : ℕ) → result ≡ JournalFault node → MakesRuns asked }
     ensures journals_unfailed { (IsJournalFault result → ⊥) → M.faults journals.new ≡ M.faults journals.old }
@@ -208,5 +230,5 @@ pub fn answer<S: Source, K: Sink, M: Journals>(
     ensures journals_faults { M.faults journals.old ≤ M.faults journals.new }
     ensures journals_told { M.may_fail journals.new ≡ M.may_fail journals.old }
 {
-    run(alloc, asked, source, sink, journals)
+    run(alloc, course, asked, source, sink, journals)
 }

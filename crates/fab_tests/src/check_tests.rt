@@ -4,7 +4,9 @@ use crate::tests::replies;
 use fab_base::NoMemory;
 use std::alloc::Global;
 use std::process::Abort;
+use std::sync::Wait;
 use std::test::Fail;
+use std::thread::Threads;
 
 /// A may read S and has written T; w and s act for A, and v and u for nobody.
 const DECLARED: &str =
@@ -101,7 +103,7 @@ const GOOD: &str = "run{}\n\
 
 /// `check` and `eval` refuse the text with the mark taken out, at its place.
 fn refused(
-    rt: &impl Abort,
+    rt: &(impl Abort + Threads + Wait + Sync),
     alloc: Global,
     front: &str,
     row: &str,

@@ -4,7 +4,9 @@ use crate::tests::replies;
 use fab_base::NoMemory;
 use std::alloc::Global;
 use std::process::Abort;
+use std::sync::Wait;
 use std::test::Fail;
+use std::thread::Threads;
 
 /// What the bundles of the tables declare in front of their methods.
 const DECLARED: &str =
@@ -271,7 +273,7 @@ const LIMITS: &str = "walk(r1025,1024) => ended 1024\n\
 
 /// Evaluates a text, of this row of a table.
 fn gives(
-    rt: &impl Abort,
+    rt: &(impl Abort + Threads + Wait + Sync),
     alloc: Global,
     text: &str,
     lines: &str,
@@ -282,7 +284,7 @@ fn gives(
 
 /// Runs a method with this body on the two objects, and compares how it ended and what they then are.
 fn leaves(
-    rt: &impl Abort,
+    rt: &(impl Abort + Threads + Wait + Sync),
     alloc: Global,
     body: &str,
     ending: &str,

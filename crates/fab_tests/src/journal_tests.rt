@@ -6,10 +6,13 @@ use crate::replay_tests::{
 use crate::tests::words_of;
 use fab_base::{NoMemory, Seq, SureSink, SureSource, Text};
 use fab_device::{JournalError, Journals, MemJournals, SureJournal, SureJournals};
+use fab_gates::OpenGate;
 use fab_top::{Status, fab};
 use std::alloc::Global;
 use std::process::Abort;
+use std::sync::Wait;
 use std::test::Fail;
+use std::thread::Threads;
 
 /// The bytes that the run leaves in the journals of both nodes, all of them synced: the header, and the
 /// worker's decision, or what the store prepared and then applied.
@@ -38,7 +41,7 @@ struct Outcome {
 
 /// A replay by this schedule, where the node's journal fails at its call of this number.
 fn replay_with_fault(
-    rt: &impl Abort,
+    rt: &(impl Abort + Threads + Wait + Sync),
     alloc: Global,
     schedule: &str,
     node: &str,
@@ -51,7 +54,15 @@ fn replay_with_fault(
     let mut fails = Seq::new(alloc);
     fails.push((Text::make(alloc, node)?, call))?;
     let mut journals = MemJournals::with_fails(alloc, fails)?;
-    let status = fab(alloc, &words, &mut source, &mut sink, &mut journals);
+    let status = fab(
+        rt,
+        alloc,
+        &words,
+        &mut source,
+        &mut sink,
+        &mut journals,
+        &OpenGate,
+    );
     let Ok(written) = std::str::from_utf8(sink.bytes()) else {
         panic!(rt; "no text of {schedule}");
     };
@@ -64,7 +75,7 @@ fn replay_with_fault(
 
 /// A node's journal was kept, with so many of the first bytes of what the run leaves.
 fn holds(
-    rt: &impl Abort,
+    rt: &(impl Abort + Threads + Wait + Sync),
     alloc: Global,
     journals: &MemJournals,
     node: &str,
@@ -188,7 +199,7 @@ const FAULTS_AT_RECOVERIES: [(u32, &str, u32, u32); 19] = [
 /// A journal call fails in a schedule with a recovery: up to the event in which it does the report is that of
 /// the run in which none fails, and this event is the last, cut before its record.
 fn fails_at_recovery(
-    rt: &impl Abort,
+    rt: &(impl Abort + Threads + Wait + Sync),
     alloc: Global,
     row: (u32, &str, u32, u32),
 ) -> Result<(), NoMemory> {
@@ -247,7 +258,15 @@ fn journals_are_kept(rt: HostRuntime) -> Result<(), Fail> {
     let mut source = SureSource::new(Seq::from_slice(alloc, text.as_str().as_bytes())?);
     let mut sink = SureSink::new(alloc)?;
     let mut journals = SureJournals::new(alloc)?;
-    fab(alloc, &words, &mut source, &mut sink, &mut journals);
+    fab(
+        &rt,
+        alloc,
+        &words,
+        &mut source,
+        &mut sink,
+        &mut journals,
+        &OpenGate,
+    );
     for (node, digits) in [("w1", WORKER), ("s1", STORE)] {
         let Some(journal) = journals.kept(node) else {
             panic!(&rt; "no journal of {node}");
@@ -310,7 +329,15 @@ fn journals_cannot_be_made(rt: HostRuntime) -> Result<(), Fail> {
             kept: 0,
             faults: 0,
         };
-        let status = fab(alloc, &words, &mut source, &mut sink, &mut journals);
+        let status = fab(
+            &rt,
+            alloc,
+            &words,
+            &mut source,
+            &mut sink,
+            &mut journals,
+            &OpenGate,
+        );
         assert_eq!(&rt; status, Status::JournalFault { node });
         assert_eq!(&rt; sink.bytes(), b"".as_slice());
         assert_eq!(&rt; journals.kept, 0);

@@ -5,7 +5,9 @@ use fab_base::{NoMemory, What};
 use fab_top::Status;
 use std::alloc::Global;
 use std::process::Abort;
+use std::sync::Wait;
 use std::test::Fail;
+use std::thread::Threads;
 
 /// A text, so many copies of another, and an end.
 fn with_copies(
@@ -25,7 +27,7 @@ fn with_copies(
 
 /// With so many copies the text is printed as it is, and with one more it has too many of this.
 fn limits(
-    rt: &impl Abort,
+    rt: &(impl Abort + Threads + Wait + Sync),
     alloc: Global,
     front: &str,
     copy: &str,
@@ -50,7 +52,7 @@ fn limits(
 
 /// A text that has too many of this.
 fn refuses(
-    rt: &impl Abort,
+    rt: &(impl Abort + Threads + Wait + Sync),
     alloc: Global,
     text: &str,
     what: &str,

@@ -4,7 +4,9 @@ use crate::tests::replies;
 use fab_base::NoMemory;
 use std::alloc::Global;
 use std::process::Abort;
+use std::sync::Wait;
 use std::test::Fail;
+use std::thread::Threads;
 
 /// Each row of the tables has a rule and a text that breaks it first at the place of the sign `^`,
 /// which isn't of the text.
@@ -303,7 +305,7 @@ const IN_RUN: &str = "method m(C c:L,int n:L)begin L{}run{";
 
 /// `eval` refuses each row of a table, between these texts, at its place and for its rule.
 fn refused(
-    rt: &impl Abort,
+    rt: &(impl Abort + Threads + Wait + Sync),
     alloc: Global,
     front: &str,
     table: &str,

@@ -4,23 +4,39 @@ use crate::tests::replies;
 use fab_base::NoMemory;
 use std::alloc::Global;
 use std::process::Abort;
+use std::sync::Wait;
 use std::test::Fail;
+use std::thread::Threads;
 
 /// A text is printed as this, and this as it is.
-fn prints(rt: &impl Abort, alloc: Global, text: &str, printed: &str) -> Result<(), NoMemory> {
+fn prints(
+    rt: &(impl Abort + Threads + Wait + Sync),
+    alloc: Global,
+    text: &str,
+    printed: &str,
+) -> Result<(), NoMemory> {
     replies(rt, alloc, "fmt", text, 0, printed, text)?;
     replies(rt, alloc, "fmt", printed, 0, printed, text)
 }
 
 /// A text of statements is printed as this, in a method.
-fn body(rt: &impl Abort, alloc: Global, text: &str, printed: &str) -> Result<(), NoMemory> {
+fn body(
+    rt: &(impl Abort + Threads + Wait + Sync),
+    alloc: Global,
+    text: &str,
+    printed: &str,
+) -> Result<(), NoMemory> {
     let text = format!(in alloc; "method m()begin L{{{text}}}run{{}}")?;
     let printed = format!(in alloc; "method m() begin L {{\n{printed}}}\nrun {{\n}}\n")?;
     prints(rt, alloc, text.as_str(), printed.as_str())
 }
 
 /// Each line of a table has an expression, an arrow, and how it is printed.
-fn expressions(rt: &impl Abort, alloc: Global, table: &str) -> Result<(), NoMemory> {
+fn expressions(
+    rt: &(impl Abort + Threads + Wait + Sync),
+    alloc: Global,
+    table: &str,
+) -> Result<(), NoMemory> {
     for row in table.lines() {
         let Some((text, printed)) = row.split_once(" => ") else {
             panic!(rt; "no arrow in {row}");

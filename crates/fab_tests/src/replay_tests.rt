@@ -4,10 +4,13 @@
 use crate::tests::{expect_fronts, replies, words_of};
 use fab_base::{NoMemory, Seq, SureSink, SureSource};
 use fab_device::SureJournals;
+use fab_gates::OpenGate;
 use fab_top::fab;
 use std::alloc::Global;
 use std::process::Abort;
+use std::sync::Wait;
 use std::test::Fail;
+use std::thread::Threads;
 
 /// A worker, a store, and a transfer of 5 between accounts of 100 and 0.
 pub(crate) const TRANSFER: &str =
@@ -93,7 +96,7 @@ pub(crate) fn report_to(alloc: Global, count: u32) -> Result<String, NoMemory> {
 
 /// The replay of a bundle, of which all but the events is given, by this schedule.
 fn expect(
-    rt: &impl Abort,
+    rt: &(impl Abort + Threads + Wait + Sync),
     alloc: Global,
     text: &str,
     schedule: &str,
@@ -106,7 +109,7 @@ fn expect(
 
 /// The event of this number may not come, the first of the schedule.
 fn bars(
-    rt: &impl Abort,
+    rt: &(impl Abort + Threads + Wait + Sync),
     alloc: Global,
     text: &str,
     schedule: &str,
@@ -333,7 +336,12 @@ pub(crate) fn front_of(alloc: Global, cut: &Cut) -> Result<String, NoMemory> {
 }
 
 /// All these events come but one with a mark, which may not.
-fn follow(rt: &impl Abort, alloc: Global, text: &str, events: &str) -> Result<(), NoMemory> {
+fn follow(
+    rt: &(impl Abort + Threads + Wait + Sync),
+    alloc: Global,
+    text: &str,
+    events: &str,
+) -> Result<(), NoMemory> {
     let Some((good, bad)) = events.split_once('!') else {
         return comes(rt, alloc, text, events);
     };
@@ -347,13 +355,26 @@ fn follow(rt: &impl Abort, alloc: Global, text: &str, events: &str) -> Result<()
 }
 
 /// The whole schedule comes.
-fn comes(rt: &impl Abort, alloc: Global, text: &str, schedule: &str) -> Result<(), NoMemory> {
+fn comes(
+    rt: &(impl Abort + Threads + Wait + Sync),
+    alloc: Global,
+    text: &str,
+    schedule: &str,
+) -> Result<(), NoMemory> {
     let text = format!(in alloc; "{text}{schedule}}}}}")?;
     let words = words_of(alloc, "replay")?;
     let mut source = SureSource::new(Seq::from_slice(alloc, text.as_str().as_bytes())?);
     let mut sink = SureSink::new(alloc)?;
     let mut journals = SureJournals::new(alloc)?;
-    let status = fab(alloc, &words, &mut source, &mut sink, &mut journals);
+    let status = fab(
+        rt,
+        alloc,
+        &words,
+        &mut source,
+        &mut sink,
+        &mut journals,
+        &OpenGate,
+    );
     assert_eq!(rt; status.number(), 0, "{schedule}");
     Ok(())
 }

@@ -5,10 +5,13 @@ use fab_base::{
     Failed, MemSink, MemSource, NoMemory, Seq, Sink, SinkError, Source, SureSink, SureSource, What,
 };
 use fab_device::SureJournals;
+use fab_gates::OpenGate;
 use fab_top::{Status, fab};
 use std::alloc::Global;
 use std::process::Abort;
+use std::sync::Wait;
 use std::test::Fail;
+use std::thread::Threads;
 
 const SMALLEST: &str = "worker w1;store s1;run{}";
 
@@ -23,7 +26,7 @@ pub(crate) fn words_of(alloc: Global, words: &str) -> Result<Vec<String>, NoMemo
 
 /// Asks for this of a text, and compares the status and what is written.
 pub(crate) fn expect(
-    rt: &impl Abort,
+    rt: &(impl Abort + Threads + Wait + Sync),
     alloc: Global,
     word: &str,
     text: &[u8],
@@ -34,7 +37,15 @@ pub(crate) fn expect(
     let mut source = SureSource::new(Seq::from_slice(alloc, text)?);
     let mut sink = SureSink::new(alloc)?;
     let mut journals = SureJournals::new(alloc)?;
-    let found = fab(alloc, &words, &mut source, &mut sink, &mut journals);
+    let found = fab(
+        rt,
+        alloc,
+        &words,
+        &mut source,
+        &mut sink,
+        &mut journals,
+        &OpenGate,
+    );
     assert_eq!(rt; found, status);
     assert_eq!(rt; sink.bytes(), reply.as_bytes());
     Ok(())
@@ -43,7 +54,7 @@ pub(crate) fn expect(
 /// Asks with these words of a text, and compares the status's number and what is written. What differs
 /// is told with the row of the table.
 pub(crate) fn replies(
-    rt: &impl Abort,
+    rt: &(impl Abort + Threads + Wait + Sync),
     alloc: Global,
     words: &str,
     text: &str,
@@ -55,7 +66,15 @@ pub(crate) fn replies(
     let mut source = SureSource::new(Seq::from_slice(alloc, text.as_bytes())?);
     let mut sink = SureSink::new(alloc)?;
     let mut journals = SureJournals::new(alloc)?;
-    let found = fab(alloc, &list, &mut source, &mut sink, &mut journals);
+    let found = fab(
+        rt,
+        alloc,
+        &list,
+        &mut source,
+        &mut sink,
+        &mut journals,
+        &OpenGate,
+    );
     assert_eq!(rt; found.number(), status, "{words}: {row}");
     let Ok(written) = std::str::from_utf8(sink.bytes()) else {
         panic!(rt; "no text of {words}: {row}");
@@ -65,7 +84,11 @@ pub(crate) fn replies(
 }
 
 /// Each line of a table has a place and a text. `fmt` refuses the text there.
-pub(crate) fn refused(rt: &impl Abort, alloc: Global, table: &str) -> Result<(), NoMemory> {
+pub(crate) fn refused(
+    rt: &(impl Abort + Threads + Wait + Sync),
+    alloc: Global,
+    table: &str,
+) -> Result<(), NoMemory> {
     for row in table.lines() {
         let Some((at, text)) = row.split_once(' ') else {
             panic!(rt; "no place in {row}");
@@ -85,7 +108,15 @@ fn other_words(rt: HostRuntime) -> Result<(), Fail> {
     let mut source = MemSource::with_fails(alloc, text, Seq::from_slice(alloc, &[1])?)?;
     let mut sink = SureSink::new(alloc)?;
     let mut journals = SureJournals::new(alloc)?;
-    let status = fab(alloc, &words, &mut source, &mut sink, &mut journals);
+    let status = fab(
+        &rt,
+        alloc,
+        &words,
+        &mut source,
+        &mut sink,
+        &mut journals,
+        &OpenGate,
+    );
     assert_eq!(rt; status, Status::Usage);
     assert_eq!(rt; sink.bytes(), b"usage\n".as_slice());
     Ok(())
@@ -99,7 +130,15 @@ fn second_read_fails(rt: HostRuntime) -> Result<(), Fail> {
     let mut source = MemSource::with_fails(alloc, text, Seq::from_slice(alloc, &[2])?)?;
     let mut sink = SureSink::new(alloc)?;
     let mut journals = SureJournals::new(alloc)?;
-    let status = fab(alloc, &words, &mut source, &mut sink, &mut journals);
+    let status = fab(
+        &rt,
+        alloc,
+        &words,
+        &mut source,
+        &mut sink,
+        &mut journals,
+        &OpenGate,
+    );
     assert_eq!(rt; status, Status::ReadFault);
     assert_eq!(rt; sink.bytes(), b"".as_slice());
     Ok(())
@@ -141,7 +180,15 @@ fn pieces_of_65_536_bytes(rt: HostRuntime) -> Result<(), Fail> {
     };
     let mut sink = SureSink::new(alloc)?;
     let mut journals = SureJournals::new(alloc)?;
-    let status = fab(alloc, &words, &mut source, &mut sink, &mut journals);
+    let status = fab(
+        &rt,
+        alloc,
+        &words,
+        &mut source,
+        &mut sink,
+        &mut journals,
+        &OpenGate,
+    );
     assert_eq!(rt; status, Status::Limit { what: What::Bytes });
     assert_eq!(rt; source.reads, 65);
     assert_eq!(rt; source.longest, 65_536);
@@ -181,7 +228,7 @@ impl Sink for Drip {
 
 /// What the smallest bundle is replied to this word, where the write of this number fails.
 fn expect_front(
-    rt: &impl Abort,
+    rt: &(impl Abort + Threads + Wait + Sync),
     alloc: Global,
     words: &str,
     text: &str,
@@ -197,7 +244,15 @@ fn expect_front(
         faults: 0,
     };
     let mut journals = SureJournals::new(alloc)?;
-    let status = fab(alloc, &words, &mut source, &mut sink, &mut journals);
+    let status = fab(
+        rt,
+        alloc,
+        &words,
+        &mut source,
+        &mut sink,
+        &mut journals,
+        &OpenGate,
+    );
     assert_eq!(rt; status, Status::WriteFault);
     assert_eq!(rt; sink.bytes.as_slice(), front.as_bytes());
     Ok(())
@@ -205,7 +260,7 @@ fn expect_front(
 
 /// Where any of its writes fails, of a byte each, what was written before is a front of the reply.
 pub(crate) fn expect_fronts(
-    rt: &impl Abort,
+    rt: &(impl Abort + Threads + Wait + Sync),
     alloc: Global,
     words: &str,
     text: &str,
@@ -237,7 +292,15 @@ fn a_refusal_is_not_written(rt: HostRuntime) -> Result<(), Fail> {
     let mut source = SureSource::new(Seq::from_slice(alloc, b"run")?);
     let mut sink = MemSink::with_fails(alloc, Seq::from_slice(alloc, &[1])?)?;
     let mut journals = SureJournals::new(alloc)?;
-    let status = fab(alloc, &words, &mut source, &mut sink, &mut journals);
+    let status = fab(
+        &rt,
+        alloc,
+        &words,
+        &mut source,
+        &mut sink,
+        &mut journals,
+        &OpenGate,
+    );
     assert_eq!(rt; status, Status::WriteFault);
     assert_eq!(rt; sink.bytes(), b"".as_slice());
     Ok(())
@@ -271,7 +334,15 @@ fn nothing_is_taken(rt: HostRuntime) -> Result<(), Fail> {
     let mut source = SureSource::new(Seq::from_slice(alloc, SMALLEST.as_bytes())?);
     let mut sink = Full { faults: 0 };
     let mut journals = SureJournals::new(alloc)?;
-    let status = fab(alloc, &words, &mut source, &mut sink, &mut journals);
+    let status = fab(
+        &rt,
+        alloc,
+        &words,
+        &mut source,
+        &mut sink,
+        &mut journals,
+        &OpenGate,
+    );
     assert_eq!(rt; status, Status::WriteFault);
     Ok(())
 }

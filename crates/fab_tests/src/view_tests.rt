@@ -4,10 +4,13 @@ use crate::replay_tests::{CUTS, TRANSFER, front_of};
 use crate::tests::{expect_fronts, replies, words_of};
 use fab_base::{NoMemory, Seq, SureSink, SureSource, Text};
 use fab_device::MemJournals;
+use fab_gates::OpenGate;
 use fab_top::fab;
 use std::alloc::Global;
 use std::process::Abort;
+use std::sync::Wait;
 use std::test::Fail;
+use std::thread::Threads;
 
 /// A worker and a store that act for Alice, a store that is hostile, a secret pin at the one and a box at the
 /// other. `probe` reads the pin and puts 7 into the box; `tell` puts the pin there.
@@ -196,7 +199,7 @@ fn views_over_recoveries(rt: HostRuntime) -> Result<(), Fail> {
 
 /// What a set was sent behind these events of the transfer, as a view lists it, but for its last line.
 fn messages_by(
-    rt: &impl Abort,
+    rt: &(impl Abort + Threads + Wait + Sync),
     alloc: Global,
     words: &str,
     events: &str,
@@ -206,7 +209,15 @@ fn messages_by(
     let mut source = SureSource::new(Seq::from_slice(alloc, text.as_str().as_bytes())?);
     let mut sink = SureSink::new(alloc)?;
     let mut journals = MemJournals::with_fails(alloc, Seq::new(alloc))?;
-    let status = fab(alloc, &words, &mut source, &mut sink, &mut journals);
+    let status = fab(
+        rt,
+        alloc,
+        &words,
+        &mut source,
+        &mut sink,
+        &mut journals,
+        &OpenGate,
+    );
     assert_eq!(rt; status.number(), 0, "{events}");
     let Ok(written) = std::str::from_utf8(sink.bytes()) else {
         panic!(rt; "no text of {events}");
@@ -218,7 +229,12 @@ fn messages_by(
 }
 
 /// Behind each event of a schedule what was sent is a front of what was sent behind the next.
-fn grows(rt: &impl Abort, alloc: Global, words: &str, schedule: &str) -> Result<(), NoMemory> {
+fn grows(
+    rt: &(impl Abort + Threads + Wait + Sync),
+    alloc: Global,
+    words: &str,
+    schedule: &str,
+) -> Result<(), NoMemory> {
     let mut events = String::new(alloc);
     let mut listed = String::new(alloc);
     for event in schedule.split(';') {
@@ -269,7 +285,15 @@ fn view_to_a_fault(rt: HostRuntime) -> Result<(), Fail> {
         let mut fails = Seq::new(alloc);
         fails.push((Text::make(alloc, "w1")?, call))?;
         let mut journals = MemJournals::with_fails(alloc, fails)?;
-        let found = fab(alloc, &words, &mut source, &mut sink, &mut journals);
+        let found = fab(
+            &rt,
+            alloc,
+            &words,
+            &mut source,
+            &mut sink,
+            &mut journals,
+            &OpenGate,
+        );
         assert_eq!(&rt; found.number(), status, "{call}");
         assert_eq!(&rt; sink.bytes(), text.as_bytes(), "{call}");
     }

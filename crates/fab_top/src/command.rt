@@ -3,20 +3,29 @@ ghost use Rattle.std.specs.Prelude.{◌≡◌, ◌≢◌, ◌⊎◌, ◌≤◌, 
 ghost use Rattle.std.specs.Io.KnownBytes.{Keeps, IsAtEnd};
 ghost use Rattle.fab_base.specs.Faults.{Rose};
 ghost use Rattle.fab_words.specs.Words.{asked_by};
-ghost use Rattle.fab_reply.specs.Reply.{AreCut, ComesTo, Ends, IsJournalFault, Replies, RepliesInPart, SpeaksOfText, line};
+ghost use Rattle.fab_reply.specs.Reply.{AreCut, ComesTo, Ends, IsComplete, IsJournalFault, Replies, RepliesInPart, SpeaksOfText, line};
 ghost use Rattle.fab_reply.specs.Reading.{TakesAtMost};
 ghost use Rattle.fab_reply.specs.Replays.{MakesRuns};
 ghost use Rattle.fab_reply.specs.declared.status.Status.{Status as AnyStatus};
 ghost use Rattle.fab_reply.specs.declared.status.Status.TheVariants.{Ok as Done, Usage, ReadFault, WriteFault, Memory, JournalFault};
-ghost use Rattle.fab_reply.specs.Headline.{Headline, IsOfFault, IsOfSchedule};
+ghost use Rattle.fab_reply.specs.Headline.{Headline, IsPartFor, IsWholeFor};
+ghost use Rattle.fab_core.specs.Cores.{slot};
+ghost use Rattle.fab_core.specs.Moved.{faults_in};
+ghost use Rattle.fab_command.specs.declared.command.Command.TheVariants.{Run};
 
 use fab_base::{Sink, Source};
+use fab_core::Core;
 use fab_device::Journals;
+use fab_gates::Gate;
+use fab_replay::{ByCall, ByHand};
 use fab_reply::{Status, answer};
+use fab_run::by_threads;
 use fab_words::asked_command;
 use std::alloc::{AllocError, Global};
+use std::sync::Wait;
+use std::thread::Threads;
 
-/// Does what the words ask for, and says how it ended.
+/// Does what the words ask for, where that is no `run`, and says how it ended. It waits for nobody.
 ///
 /// `check` asks whether the bundle that the source has keeps the rules of labels, `eval` for its
 /// evaluation, `flows A B` whether its label A flows to its label B, with the reasons, `fmt` for its
@@ -24,13 +33,15 @@ use std::alloc::{AllocError, Global};
 /// that run into the set of these nodes and the hostile ones, by those outside it. A text has at most
 /// 4,194,304 bytes. Of what the source has left, what the sink holds and which journals were kept, the clauses speak
 /// where these tell it.
-pub fn fab<S: Source, K: Sink, M: Journals>(
+pub fn plain<S: Source, K: Sink, M: Journals>(
     alloc: Global,
     words: &[String],
     source: &mut S,
     sink: &mut K,
     journals: &mut M,
 ) -> Status
+    requires { asked_by words.now ≢ Some Run }
+
     // What each status says of what was read and of what was written.
     ensures means { Ends (asked_by words.now) result (S.left source.old) (S.left source.new) (K.written sink.old) (K.written sink.new)
         (record { may_fail = M.may_fail journals.old; kept = M.kept journals.old; faults = M.faults journals.old })
@@ -75,11 +86,11 @@ pub fn fab<S: Source, K: Sink, M: Journals>(
     ensures sink_unfailed { result ≢ WriteFault → K.faults sink.new ≡ K.faults sink.old }
 
     // With `Ok` of a command that makes a run, and where a journal failed in its run, the text that it wants of that
-    // run was written, for `replay` the report, and the headline holds of the run, integrity and isolation. Where a
-    // journal failed before there was a run, nothing was written.
-    ensures headline { MakesRuns (asked_by words.now) → result ≡ Done → Headline (asked_by words.now) IsOfSchedule (S.left source.old) (S.left source.new) (K.written sink.old) (K.written sink.new) }
+    // run was written, for `replay` the report, and the headline holds of the run, integrity and isolation.
+    // Where a journal failed before there was a run, nothing was written.
+    ensures headline { MakesRuns (asked_by words.now) → result ≡ Done → Headline (asked_by words.now) (IsWholeFor (asked_by words.now)) (S.left source.old) (S.left source.new) (K.written sink.old) (K.written sink.new) }
     ensures headline_of_a_part { (node : ℕ) → result ≡ JournalFault node
-        → Keeps (K.written sink.old) (K.written sink.new) ⊎ Headline (asked_by words.now) (IsOfFault node) (S.left source.old) (S.left source.new) (K.written sink.old) (K.written sink.new) }
+        → Keeps (K.written sink.old) (K.written sink.new) ⊎ Headline (asked_by words.now) (IsPartFor (asked_by words.now) node) (S.left source.old) (S.left source.new) (K.written sink.old) (K.written sink.new) }
 
     // `JournalFault` comes of `replay` and `view` alone, and only these make journals and have them kept. What was
     // kept, and which faults there were, says `means`. With each other status no journal's making failed.
@@ -92,7 +103,97 @@ pub fn fab<S: Source, K: Sink, M: Journals>(
     ensures journals_told { M.may_fail journals.new ≡ M.may_fail journals.old }
 {
     match asked_command(alloc, words) {
-        Ok(asked) => answer(alloc, asked, source, sink, journals),
+        Ok(asked) => answer(alloc, &ByHand, asked, source, sink, journals),
+        Err(AllocError) => Status::Memory,
+    }
+}
+
+/// Does what the words ask for, and says how it ended.
+///
+/// That is what `plain` does, and `run`: it asks for the report of a run that the nodes of the bundle make by
+/// themselves, each as a thread, with the gate around each evaluation. Of what the source has left, what the
+/// sink holds and which journals were kept, the clauses speak where these tell it.
+pub fn fab<R: Threads + Wait + Sync, S: Source, K: Sink, M: Journals, G: Gate + Sync>(
+    rt: &R,
+    alloc: Global,
+    words: &[String],
+    source: &mut S,
+    sink: &mut K,
+    journals: &mut M,
+    gate: &G,
+) -> Status
+    // What each status says of what was read and of what was written.
+    ensures means { Ends (asked_by words.now) result (S.left source.old) (S.left source.new) (K.written sink.old) (K.written sink.new)
+        (record { may_fail = M.may_fail journals.old; kept = M.kept journals.old; faults = M.faults journals.old })
+        (record { may_fail = M.may_fail journals.new; kept = M.kept journals.new; faults = M.faults journals.new }) }
+
+    // Whatever reply the command and the text have is the one that comes, whole, unless the source,
+    // the sink or a journal fails or memory runs out; so each refusal comes exactly where it should.
+    ensures exact { result ≢ ReadFault → IfSome (S.left source.old) (λ text. (status : AnyStatus) (reply : List ℕ) → Replies (asked_by words.now) text status reply → ComesTo result status (K.written sink.old) (K.written sink.new) reply) }
+
+    // Where `run` is asked of a text that has an accepted bundle, that is done, unless the source, the sink or a
+    // journal fails or memory runs out.
+    ensures complete { result ≢ ReadFault → IfSome (S.left source.old) (IsComplete (asked_by words.now) result) }
+
+    // `Usage` comes exactly where the words ask for nothing, and nothing is read then.
+    ensures usage { asked_by words.now ≡ Nothing → ComesTo result Usage (K.written sink.old) (K.written sink.new) (line (codes "usage")) }
+    ensures usage_only { result ≡ Usage → asked_by words.now ≡ Nothing }
+    ensures unread { asked_by words.now ≡ Nothing → source.new ≡ source.old }
+
+    // Never more than 4,194,305 bytes are read, and with each status that speaks of the text, but
+    // the limit on bytes, it was read to its end.
+    ensures taken { TakesAtMost 4194305 (S.left source.old) (S.left source.new) }
+    ensures whole { SpeaksOfText result → IsAtEnd (S.left source.new) }
+
+    // `ReadFault` comes only where the source's faults rose, and nothing is written.
+    ensures read_fault { result ≡ ReadFault → Rose (S.faults source.old) (S.faults source.new) }
+    ensures read_fault_unwritten { result ≡ ReadFault → sink.new ≡ sink.old }
+
+    // `WriteFault` comes only where the sink's faults rose, and a front of the reply is written.
+    ensures write_fault { result ≡ WriteFault → Rose (K.faults sink.old) (K.faults sink.new) }
+    ensures write_fault_front { result ≡ WriteFault → RepliesInPart (asked_by words.now) (S.left source.old) (S.left source.new) (K.written sink.old) (K.written sink.new)
+        (record { may_fail = M.may_fail journals.old; kept = M.kept journals.old; faults = M.faults journals.old })
+        (record { may_fail = M.may_fail journals.new; kept = M.kept journals.new; faults = M.faults journals.new }) }
+
+    // With `Memory` nothing is written, and nothing came of the journals, or the first of those of a run, or of a start that failed, were kept;
+    // or a front of the reply to what was read is written.
+    ensures memory { result ≡ Memory → (Keeps (K.written sink.old) (K.written sink.new) × AreCut (asked_by words.now) (S.left source.old) (S.left source.new)
+        (record { may_fail = M.may_fail journals.old; kept = M.kept journals.old; faults = M.faults journals.old })
+        (record { may_fail = M.may_fail journals.new; kept = M.kept journals.new; faults = M.faults journals.new })) ⊎ RepliesInPart (asked_by words.now) (S.left source.old) (S.left source.new) (K.written sink.old) (K.written sink.new)
+        (record { may_fail = M.may_fail journals.old; kept = M.kept journals.old; faults = M.faults journals.old })
+        (record { may_fail = M.may_fail journals.new; kept = M.kept journals.new; faults = M.faults journals.new }) }
+    ensures source_faults { S.faults source.old ≤ S.faults source.new }
+    ensures sink_faults { K.faults sink.old ≤ K.faults sink.new }
+
+    // The counts stay at each other status, so a fault is told as one, and not as want of memory.
+    ensures source_unfailed { result ≢ ReadFault → S.faults source.new ≡ S.faults source.old }
+    ensures sink_unfailed { result ≢ WriteFault → K.faults sink.new ≡ K.faults sink.old }
+
+    // With `Ok` of a command that makes a run, and where a journal failed in its run, the text that it wants of that
+    // run was written, for `replay` and `run` the report, and the headline holds of the run, integrity and isolation.
+    // Where a journal failed before there was a run, nothing was written.
+    ensures headline { MakesRuns (asked_by words.now) → result ≡ Done → Headline (asked_by words.now) (IsWholeFor (asked_by words.now)) (S.left source.old) (S.left source.new) (K.written sink.old) (K.written sink.new) }
+    ensures headline_of_a_part { (node : ℕ) → result ≡ JournalFault node
+        → Keeps (K.written sink.old) (K.written sink.new) ⊎ Headline (asked_by words.now) (IsPartFor (asked_by words.now) node) (S.left source.old) (S.left source.new) (K.written sink.old) (K.written sink.new) }
+
+    // `JournalFault` comes of `replay`, `run` and `view` alone, and only these make journals and have them kept. What was
+    // kept, and which faults there were, says `means`. With each other status no journal's making failed.
+    ensures journal_fault { (node : ℕ) → result ≡ JournalFault node → MakesRuns (asked_by words.now) }
+    ensures journals_unfailed { (IsJournalFault result → ⊥) → M.faults journals.new ≡ M.faults journals.old }
+    // Where it is told that no journal may fail, none does.
+    ensures journals_unfailing { M.may_fail journals.old ≡ Some [] → (node : ℕ) → result ≡ JournalFault node → ⊥ }
+    ensures journals_untouched { (MakesRuns (asked_by words.now) → ⊥) → journals.new ≡ journals.old }
+    ensures journals_faults { M.faults journals.old ≤ M.faults journals.new }
+    ensures journals_told { M.may_fail journals.new ≡ M.may_fail journals.old }
+{
+    let course = ByCall {
+        call: |core: Core<M::Item>|
+            requires start { core.moves ≡ [] }
+            requires unfailed { (n : ℕ) → faults_in (slot core.journals n) ≡ 0 }
+        { by_threads(rt, alloc, gate, core) },
+    };
+    match asked_command(alloc, words) {
+        Ok(asked) => answer(alloc, &course, asked, source, sink, journals),
         Err(AllocError) => Status::Memory,
     }
 }

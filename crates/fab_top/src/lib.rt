@@ -3,5 +3,5 @@
 
 mod command;
 
-pub use command::fab;
+pub use command::{fab, plain};
 pub use fab_reply::Status;

@@ -1,6 +1,6 @@
 -- Worked examples of what words ask for.
 use Rattle.std.proofs.Common.{◌≡◌, ℕ, List, [], ◌∷◌, ◌++◌, Some, None, refl, codes}
-use Rattle.fab_command.specs.declared.command.Command.TheVariants.{Flows, View}
+use Rattle.fab_command.specs.declared.command.Command.TheVariants.{Flows, Run, View}
 use Rattle.fab_words.specs.Words.{asked}
 
 view_alone : asked (codes "view" ∷ []) ≡ Some (View [])
@@ -25,6 +25,15 @@ empty = refl
 -- no other word takes names
 replay_with_name : asked (codes "replay" ∷ codes "w1" ∷ []) ≡ None
 replay_with_name = refl
+
+run_alone : asked (codes "run" ∷ []) ≡ Some Run
+run_alone = refl
+
+run_with_name : asked (codes "run" ∷ codes "w1" ∷ []) ≡ None
+run_with_name = refl
+
+run_in_capitals : asked (codes "Run" ∷ []) ≡ None
+run_in_capitals = refl
 
 two_labels : asked (codes "flows" ∷ codes "A" ∷ codes "B" ∷ []) ≡ Some (Flows (codes "A") (codes "B"))
 two_labels = refl

@@ -4,7 +4,7 @@ use Rattle.std.specs.List.{list_all}
 use Rattle.std.specs.Str.{bytes_eq}
 use Rattle.std.specs.declared.alloc.Global.{Global}
 use Rattle.fab_command.specs.declared.command.Command.{Command}
-use Rattle.fab_command.specs.declared.command.Command.TheVariants.{Check, Evaluate, Flows, Format, Replay, View}
+use Rattle.fab_command.specs.declared.command.Command.TheVariants.{Check, Evaluate, Flows, Format, Replay, Run, View}
 use Rattle.fab_words.specs.Names.{is_name_word}
 
 -- the command of one word
@@ -13,7 +13,8 @@ command_of word =
     if bytes_eq word (codes "check") then Some Check
     else (if bytes_eq word (codes "eval") then Some Evaluate
     else (if bytes_eq word (codes "fmt") then Some Format
-    else (if bytes_eq word (codes "replay") then Some Replay else None)))
+    else (if bytes_eq word (codes "replay") then Some Replay
+    else (if bytes_eq word (codes "run") then Some Run else None))))
 
 -- the command of a word and two operands, which are names
 abbrev pub command_with : List ℕ → List ℕ → List ℕ → Option Command

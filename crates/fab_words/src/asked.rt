@@ -28,6 +28,8 @@ fn named(word: &str) -> Option<Command>
         Some(Command::Format)
     } else if word == "replay" {
         Some(Command::Replay)
+    } else if word == "run" {
+        Some(Command::Run)
     } else {
         None
     }

@@ -17,14 +17,17 @@ accepted_setup-requires g c =
     let p = c.requires.accepted in
     (c.args.start.now, sym p.1, record { within = within c.requires.front.is; named = p.0; labelled = p.2 })
 
-pub replay-requires-clause-accepted : goal.replay-requires-clause-accepted
-replay-requires-clause-accepted g c κs bounds =
+pub make_run-requires-clause-made : goal.make_run-requires-clause-made
+make_run-requires-clause-made g c κs bounds = c.requires.made c.args.start.now c.in_ok-wanted.wanted c.in_ok-wanted.ensures.0
+
+pub make_run-requires-clause-accepted : goal.make_run-requires-clause-accepted
+make_run-requires-clause-accepted g c κs bounds =
     let p = c.requires.accepted in
     let e = c.in_ok-setup.ensures in
     (c.args.start.now, sym (e.program ∙ p.1), e.accepted c.args.start.now (sym p.1) (record { within = within c.requires.front.is; named = p.0; labelled = p.2 }))
 
-pub replay-requires-clause-ready : goal.replay-requires-clause-ready
-replay-requires-clause-ready g c κs bounds =
+pub make_run-requires-clause-ready : goal.make_run-requires-clause-ready
+make_run-requires-clause-ready g c κs bounds =
     let p = c.requires.accepted in
     let e = c.in_ok-setup.ensures in
     let accepted = e.accepted c.args.start.now (sym p.1) (record { within = within c.requires.front.is; named = p.0; labelled = p.2 }) in
@@ -39,7 +42,7 @@ returns-in_err-answer-clause-cut g c =
     let wanted = c.in_ok-wanted.wanted in
     let accepted = e.accepted c.args.start.now (sym p.1) (record { within = within c.requires.front.is; named = p.0; labelled = p.2 }) in
     let old : Makers = record { may_fail = J.may_fail c.args.journals.now; kept = J.kept c.args.journals.now; faults = J.faults c.args.journals.now } in
-    let new : Makers = record { may_fail = J.may_fail c.replay.new.journals; kept = J.kept c.replay.new.journals; faults = J.faults c.replay.new.journals } in
+    let new : Makers = record { may_fail = J.may_fail c.make_run.new.journals; kept = J.kept c.make_run.new.journals; faults = J.faults c.make_run.new.journals } in
     any_err c.from_residual-in_err-answer.result
     (cut_replay c.requires.front rights accepted c.args.command.now wanted c.in_ok-wanted.ensures.0 old new
     (subst (λ r. IsCutShort (given_by r rights) wanted old.kept new.kept) (e.program ∙ p.1) c.in_err-answer.ensures.memory) c.in_err-answer.ensures.unfailed c.in_err-answer.ensures.told)
@@ -53,7 +56,7 @@ returns-clause-replies g c =
     let wanted = c.in_ok-wanted.wanted in
     let accepted = e.accepted c.args.start.now (sym p.1) (record { within = within c.requires.front.is; named = p.0; labelled = p.2 }) in
     let old : Makers = record { may_fail = J.may_fail c.args.journals.now; kept = J.kept c.args.journals.now; faults = J.faults c.args.journals.now } in
-    let new : Makers = record { may_fail = J.may_fail c.replay.new.journals; kept = J.kept c.replay.new.journals; faults = J.faults c.replay.new.journals } in
+    let new : Makers = record { may_fail = J.may_fail c.make_run.new.journals; kept = J.kept c.make_run.new.journals; faults = J.faults c.make_run.new.journals } in
     let answer = c.in_ok-answer.answer in
     let there = subst (λ r. IsReplayed (given_by r rights) wanted answer old.kept new.kept old.faults new.faults) (e.program ∙ p.1) c.in_ok-answer.ensures.answer in
     if_told (Answers (Some c.args.command.now) c.args.text.now) (status_of answer) (text_of answer) c.told.result c.told.ensures.told
@@ -68,7 +71,7 @@ returns-clause-journals g c =
     let wanted = c.in_ok-wanted.wanted in
     let accepted = e.accepted c.args.start.now (sym p.1) (record { within = within c.requires.front.is; named = p.0; labelled = p.2 }) in
     let old : Makers = record { may_fail = J.may_fail c.args.journals.now; kept = J.kept c.args.journals.now; faults = J.faults c.args.journals.now } in
-    let new : Makers = record { may_fail = J.may_fail c.replay.new.journals; kept = J.kept c.replay.new.journals; faults = J.faults c.replay.new.journals } in
+    let new : Makers = record { may_fail = J.may_fail c.make_run.new.journals; kept = J.kept c.make_run.new.journals; faults = J.faults c.make_run.new.journals } in
     let answer = c.in_ok-answer.answer in
     let there = subst (λ r. IsReplayed (given_by r rights) wanted answer old.kept new.kept old.faults new.faults) (e.program ∙ p.1) c.in_ok-answer.ensures.answer in
     let possible = subst (λ r. IsPossible old.may_fail r answer) (e.program ∙ p.1) c.in_ok-answer.ensures.possible in
@@ -84,7 +87,7 @@ returns-clause-cut g c =
     let wanted = c.in_ok-wanted.wanted in
     let accepted = e.accepted c.args.start.now (sym p.1) (record { within = within c.requires.front.is; named = p.0; labelled = p.2 }) in
     let old : Makers = record { may_fail = J.may_fail c.args.journals.now; kept = J.kept c.args.journals.now; faults = J.faults c.args.journals.now } in
-    let new : Makers = record { may_fail = J.may_fail c.replay.new.journals; kept = J.kept c.replay.new.journals; faults = J.faults c.replay.new.journals } in
+    let new : Makers = record { may_fail = J.may_fail c.make_run.new.journals; kept = J.kept c.make_run.new.journals; faults = J.faults c.make_run.new.journals } in
     let answer = c.in_ok-answer.answer in
     let there = subst (λ r. IsReplayed (given_by r rights) wanted answer old.kept new.kept old.faults new.faults) (e.program ∙ p.1) c.in_ok-answer.ensures.answer in
     unless_told c.told.result (cut_answer c.requires.front rights accepted c.args.command.now wanted c.in_ok-wanted.ensures.0 answer old new there) c.told.ensures.failed c.in_ok-answer.ensures.told

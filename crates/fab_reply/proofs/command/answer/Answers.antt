@@ -1,10 +1,18 @@
-use Rattle.fab_reply.proofs.Endings.{exactly, fault_of_run, makers_unfailed, none_fails, only_unasked, part_headline, read_whole, usage_comes, whole_headline}
+use Rattle.fab_reply.proofs.Endings.{completely, exactly, fault_of_run, makers_unfailed, none_fails, only_unasked, part_headline, read_whole, usage_comes, whole_headline}
 use Rattle.fab_reply.proofs.command.answer.Goals as goal
 
 pub returns-clause-exact : goal.returns-clause-exact
 returns-clause-exact g c =
     let J = g.M.Journals in
     exactly c.args.asked (g.S.Source.left c.args.source.now) (g.S.Source.left c.run.new.source) (g.K.Sink.written c.args.sink.now) (g.K.Sink.written c.run.new.sink)
+    (record { may_fail = J.may_fail c.args.journals.now; kept = J.kept c.args.journals.now; faults = J.faults c.args.journals.now })
+    (record { may_fail = J.may_fail c.run.new.journals; kept = J.kept c.run.new.journals; faults = J.faults c.run.new.journals })
+    c.run.result c.run.ensures.means
+
+pub returns-clause-complete : goal.returns-clause-complete
+returns-clause-complete g c =
+    let J = g.M.Journals in
+    completely c.args.asked (g.S.Source.left c.args.source.now) (g.S.Source.left c.run.new.source) (g.K.Sink.written c.args.sink.now) (g.K.Sink.written c.run.new.sink)
     (record { may_fail = J.may_fail c.args.journals.now; kept = J.kept c.args.journals.now; faults = J.faults c.args.journals.now })
     (record { may_fail = J.may_fail c.run.new.journals; kept = J.kept c.run.new.journals; faults = J.faults c.run.new.journals })
     c.run.result c.run.ensures.means

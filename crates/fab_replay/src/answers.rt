@@ -1,0 +1,108 @@
+//! What is answered to a run.
+
+ghost use Rattle.std.specs.Prelude.{◌≡◌, find, IfOk, IsTrue};
+ghost use Rattle.std.specs.Option.{option_map};
+ghost use Rattle.fab_lines.specs.Numbered.{AreNumbered};
+ghost use Rattle.fab_core.specs.Moved.{node_at as node_in};
+ghost use Rattle.fab_replay.specs.Replays.{IsReady, IsRunOver, IsTold, is_scheduled, report_of, text_of};
+ghost use Rattle.fab_replay.specs.Running.{ComesTo};
+ghost use Rattle.fab_replay.specs.declared.replayed.Wanted.TheVariants as wants;
+
+use crate::events::node_at;
+use crate::replayed::{Replayed, Wanted};
+use crate::running::Ran;
+use crate::view::view_of;
+use fab_base::{NoMemory, Seq};
+use fab_core::Core;
+use fab_device::Journal;
+use fab_net::Logged;
+use fab_trace::print_report;
+use fab_tree::resolved::Resolved;
+use std::alloc::Global;
+
+/// The report of the run so far.
+fn report_of<J: Journal>(
+    alloc: Global,
+    core: &Core<J>,
+    program: &Resolved,
+) -> Result<Seq<u8>, NoMemory>
+    requires program { program.now ≡ core.now.given.program }
+    requires numbered { AreNumbered program.now.roots }
+    ensures { IfOk result (λ bytes. bytes ≡ report_of core.now.given core.now.moves) }
+{
+    let held = core.held_all()?;
+    let outcomes = core.outcomes()?;
+    print_report(alloc, program, core.log(), &held, &outcomes)
+}
+
+/// The text that is wanted of the run so far.
+fn text_of<J: Journal>(
+    alloc: Global,
+    core: &Core<J>,
+    program: &Resolved,
+    wanted: &Wanted,
+) -> Result<Seq<u8>, NoMemory>
+    requires program { program.now ≡ core.now.given.program }
+    requires numbered { AreNumbered program.now.roots }
+    requires ready { IsReady core.now.given wanted.now }
+    ensures { IfOk result (λ bytes. bytes ≡ text_of core.now.given wanted.now core.now.moves) }
+{
+    match wanted {
+        Wanted::Report | Wanted::Run => report_of(alloc, core, program),
+        Wanted::View { nodes, seen, part } => view_of(alloc, core, program, *nodes, seen, part),
+    }
+}
+
+/// What is answered to a schedule's run.
+pub(crate) fn answer<J: Journal>(
+    alloc: Global,
+    core: &Core<J>,
+    program: &Resolved,
+    wanted: &Wanted,
+    ran: Ran,
+) -> Result<Replayed, NoMemory>
+    requires program { program.now ≡ core.now.given.program }
+    requires numbered { AreNumbered program.now.roots }
+    requires ready { IsReady core.now.given wanted.now }
+    requires scheduled { IsTrue (is_scheduled wanted.now) }
+    requires ran { ComesTo core.now.given core.now.moves ran }
+    ensures { IfOk result (IsTold core.now.given wanted.now core.now.moves) }
+{
+    match ran {
+        Ran::Through => Ok(Replayed::Done(text_of(alloc, core, program, wanted)?)),
+        Ran::Barred { event } => Ok(Replayed::NotEnabled { event }),
+        Ran::Cut { node } => {
+            let report = text_of(alloc, core, program, wanted)?;
+            Ok(Replayed::JournalFault {
+                node,
+                report: Some(report),
+            })
+        }
+    }
+}
+
+/// The node of the first event in which a journal failed.
+fn first_mark(log: &[Logged]) -> Option<u16>
+    ensures { result ≡ option_map (λ x. node_in x.event) (find (λ x. x.marked) log.now) }
+{
+    match log.iter().find(|x| x.marked) {
+        Some(logged) => Some(node_at(logged.event)),
+        None => None,
+    }
+}
+
+/// What is answered to a run that nodes made by themselves.
+pub fn answer_of_run<J: Journal>(alloc: Global, core: &Core<J>) -> Result<Replayed, NoMemory>
+    requires { IsRunOver core.now.given core.now.moves }
+    ensures { IfOk result (IsTold core.now.given wants.Run core.now.moves) }
+{
+    core.is_a_run();
+    let report = report_of(alloc, core, core.start())?;
+    match first_mark(core.log()) {
+        Some(node) => Ok(Replayed::JournalFault {
+            node,
+            report: Some(report),
+        }),
+        None => Ok(Replayed::Done(report)),
+    }
+}

@@ -1,0 +1,145 @@
+//! How runs of bundles are made.
+
+ghost use Rattle.std.specs.Prelude.{◌≡◌, ◌≤◌, IfOk, IsTrue, OnErr};
+ghost use Rattle.fab_language.specs.Numbers.{resolved};
+ghost use Rattle.fab_settings.specs.Settings.{IsAcceptedWith};
+ghost use Rattle.fab_tree.specs.declared.start.Start.{Start};
+ghost use Rattle.fab_core.specs.Starts.{given_by};
+ghost use Rattle.fab_replay.specs.Courses.{IsCourse};
+ghost use Rattle.fab_replay.specs.Kept.{IsCutShort, IsPossible, IsReplayed};
+ghost use Rattle.fab_replay.specs.Replays.{IsReady, is_scheduled};
+ghost use Rattle.fab_replay.specs.declared.replayed.Wanted.TheVariants as wants;
+
+use crate::answers::answer_of_run;
+use crate::beginning::started;
+use crate::ending::finished;
+use crate::journals::Unstarted;
+use crate::replayed::{Replayed, Wanted};
+use crate::whole::replay;
+use fab_base::NoMemory;
+use fab_core::Core;
+use fab_device::{Journal, Journals};
+use fab_rights::Rights;
+use fab_tree::resolved::Resolved;
+use std::alloc::{AllocError, Global};
+use std::sync::Arc;
+
+/// How runs are made: what comes between the start and the end of one that nodes make by themselves. A course
+/// knows no more of either than that both are a `T`, since what threads do with it stands in a closure.
+pub trait Course<T> {
+    ghost use Rattle.std.specs.Prelude.{Bool, Result};
+    ghost use Rattle.std.specs.declared.alloc.AllocError.{AllocError};
+    ghost use Rattle.fab_replay.specs.declared.replayed.Wanted.{Wanted};
+
+    /// What may be wanted of its runs.
+    ghost makes: { Wanted → Bool };
+
+    /// Whether it goes on from this start.
+    ghost may: { Self → T → Type 0 };
+
+    /// Whether it may come to this from there.
+    ghost comes: { Self → T → Result T AllocError → Type 0 };
+
+    fn come(&self, start: T) -> Result<T, NoMemory>
+        requires { may self.now start }
+        ensures { comes self.now start result };
+}
+
+/// Schedules alone, by the calling thread: it goes nowhere by itself.
+#[derive(Drop)]
+pub struct ByHand;
+
+impl<T> Course<T> for ByHand {
+    ghost use Rattle.std.specs.Prelude.{◌≡◌, Ok};
+
+    ghost makes = { is_scheduled };
+
+    ghost may = { λ course start. Unit {0} };
+
+    ghost comes = { λ course start end. end ≡ Ok start };
+
+    fn come(&self, start: T) -> Result<T, NoMemory> {
+        Ok(start)
+    }
+}
+
+/// Schedules, and by this call what nodes do by themselves.
+#[derive(Drop)]
+pub struct ByCall<F> {
+    pub call: F,
+}
+
+impl<T, F: Fn(T) -> Result<T, NoMemory>> Course<T> for ByCall<F> {
+    ghost use Rattle.std.specs.Prelude.{true};
+
+    ghost makes = { λ wanted. true };
+
+    ghost may = { λ course start. F.pre course.call start };
+
+    ghost comes = { λ course start end. F.post course.call start end };
+
+    fn come(&self, start: T) -> Result<T, NoMemory> {
+        (self.call)(start)
+    }
+}
+
+/// A run that nodes make by themselves.
+fn by_themselves<C: Course<Core<M::Item>>, M: Journals>(
+    alloc: Global,
+    course: &C,
+    program: Arc<Resolved>,
+    rights: Rights,
+    wanted: &Wanted,
+    journals: &mut M,
+) -> Result<Replayed, NoMemory>
+    requires run { wanted.now ≡ wants.Run }
+    requires made { IsTrue (C.makes wanted.now) }
+    requires course { IsCourse C.makes (C.may course.now) (C.comes course.now) }
+    requires accepted { (s : Start) × (resolved s ≡ program.value) × IsAcceptedWith s rights }
+    ensures answer { IfOk result (λ answer. IsReplayed (given_by program.value rights) wanted.now answer (M.kept journals.old) (M.kept journals.new) (M.faults journals.old) (M.faults journals.new)) }
+    ensures possible { IfOk result (IsPossible (M.may_fail journals.old) program.value) }
+    ensures later { M.faults journals.old ≤ M.faults journals.new }
+    ensures memory { OnErr result (IsCutShort (given_by program.value rights) wanted.now (M.kept journals.old) (M.kept journals.new)) }
+    ensures unfailed { OnErr result (M.faults journals.new ≡ M.faults journals.old) }
+    ensures told { M.may_fail journals.new ≡ M.may_fail journals.old }
+{
+    let core = match started(alloc, program, rights, journals) {
+        Ok(core) => core,
+        Err(Unstarted::Failed { node }) => {
+            return Ok(Replayed::JournalFault { node, report: None });
+        }
+        Err(Unstarted::Memory) => return Err(AllocError),
+    };
+    let core = course.come(core)?;
+    let answer = answer_of_run(alloc, &core)?;
+    finished(alloc, core, wanted, answer, journals)
+}
+
+/// A run of an accepted bundle, with what is wanted of it: of its schedule, or one that nodes make by themselves,
+/// as the course does. Each honest node has a journal, in which the run begins with its header. Behind the run each
+/// journal is given back, in the order of the nodes, before there is an answer; where a header couldn't be written,
+/// too. Where memory runs out in the midst of it, the first of them were given back.
+pub fn make_run<C: Course<Core<M::Item>>, M: Journals>(
+    alloc: Global,
+    course: &C,
+    program: Arc<Resolved>,
+    rights: Rights,
+    wanted: &Wanted,
+    journals: &mut M,
+) -> Result<Replayed, NoMemory>
+    requires made { IsTrue (C.makes wanted.now) }
+    requires course { IsCourse C.makes (C.may course.now) (C.comes course.now) }
+    requires accepted { (s : Start) × (resolved s ≡ program.value) × IsAcceptedWith s rights }
+    requires ready { IsReady (given_by program.value rights) wanted.now }
+    ensures answer { IfOk result (λ answer. IsReplayed (given_by program.value rights) wanted.now answer (M.kept journals.old) (M.kept journals.new) (M.faults journals.old) (M.faults journals.new)) }
+    ensures possible { IfOk result (IsPossible (M.may_fail journals.old) program.value) }
+    ensures later { M.faults journals.old ≤ M.faults journals.new }
+    ensures memory { OnErr result (IsCutShort (given_by program.value rights) wanted.now (M.kept journals.old) (M.kept journals.new)) }
+    ensures unfailed { OnErr result (M.faults journals.new ≡ M.faults journals.old) }
+    ensures told { M.may_fail journals.new ≡ M.may_fail journals.old }
+{
+    match wanted {
+        Wanted::Run => by_themselves(alloc, course, program, rights, wanted, journals),
+        Wanted::Report | Wanted::View { .. } => replay(alloc, program, rights, wanted, journals),
+    }
+}

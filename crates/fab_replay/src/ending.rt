@@ -1,0 +1,45 @@
+//! What holds of a run that has ended, and its journals.
+
+ghost use Rattle.std.specs.Prelude.{◌≡◌, IfOk, OnErr};
+ghost use Rattle.fab_replay.specs.Kept.{IsCutShort, IsOfRun, IsPossible};
+ghost use Rattle.fab_replay.specs.Replays.{IsTold};
+ghost use Rattle.fab_replay.specs.Running.{AreMarked, AreSure};
+
+use crate::honest::honest_nodes;
+use crate::integral::is_integral;
+use crate::isolated::is_isolated;
+use crate::journals::keep_all;
+use crate::replayed::{Replayed, Wanted};
+use fab_base::NoMemory;
+use fab_core::Core;
+use fab_device::{Journal, Journals};
+use std::alloc::Global;
+
+/// Hands on what a run is answered. Each journal is given back before, in the order of the nodes; where memory
+/// runs out in the midst of it, the first of them were.
+pub fn finished<M: Journals>(
+    alloc: Global,
+    core: Core<M::Item>,
+    wanted: &Wanted,
+    answer: Replayed,
+    journals: &mut M,
+) -> Result<Replayed, NoMemory>
+    requires answer { IsTold core.given wanted.now core.moves answer }
+    requires marked { AreMarked core.moves core.journals }
+    requires sure { AreSure (M.may_fail journals.old) core.given core.journals }
+    ensures answer { IfOk result (λ answer. IsOfRun core.given wanted.now answer (M.kept journals.old) (M.kept journals.new)) }
+    ensures possible { IfOk result (IsPossible (M.may_fail journals.old) core.given.program) }
+    ensures memory { OnErr result (IsCutShort core.given wanted.now (M.kept journals.old) (M.kept journals.new)) }
+    ensures faults { M.faults journals.new ≡ M.faults journals.old }
+    ensures told { M.may_fail journals.new ≡ M.may_fail journals.old }
+{
+    let _wanted = wanted;
+    core.is_a_run();
+    core.journals_are();
+    is_integral(&core);
+    is_isolated(&core);
+    let nodes = honest_nodes(alloc, core.start(), core.rights())?;
+    let program = core.start().clone()?;
+    keep_all(&program, nodes.as_slice(), core.into_journals(), journals)?;
+    Ok(answer)
+}
