@@ -1,8 +1,17 @@
-//! What a command line may ask for.
+//! What may be asked of a bundle.
 
 use fab_base::{Seq, Text};
 
-/// What a command line may ask for.
+/// What is to be told of a run that the nodes of a bundle make by themselves.
+#[derive(Clone, Copy, Debug, PartialEq, Eq)]
+pub enum Telling {
+    /// Its report.
+    Report,
+    /// One line on its requests, and on what the stores hold behind them.
+    Summary,
+}
+
+/// What may be asked of a bundle.
 #[derive(Debug, Drop)]
 pub enum Command {
     /// Whether a bundle keeps the rules of labels.
@@ -15,8 +24,8 @@ pub enum Command {
     Format,
     /// The run of a bundle's schedule, and its report.
     Replay,
-    /// A run of a bundle's nodes, each by itself, and its report.
-    Run,
+    /// A run of a bundle's nodes, each by itself, and what is to be told of it.
+    Run(Telling),
     /// The run of the schedule, and in place of the report the messages that these nodes and the hostile ones got
     /// from the others.
     View { nodes: Seq<Text> },

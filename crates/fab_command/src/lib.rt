@@ -2,5 +2,7 @@
 #![tactic(auto)]
 
 mod command;
+mod task;
 
-pub use command::Command;
+pub use command::{Command, Telling};
+pub use task::Task;

@@ -18,5 +18,3 @@ mod reports_tests;
 mod secret_tests;
 #[cfg(test)]
 mod serial_tests;
-#[cfg(test)]
-mod words_tests;

@@ -12,6 +12,7 @@ use Rattle.fab_core.specs.Cores.{CoreModel, is_honest, setting, slot, world_by}
 use Rattle.fab_core.specs.Moved.{faults_in}
 use Rattle.fab_core.specs.Telling.{IsJournalAt, those_in}
 use Rattle.fab_core.specs.Honest.{AreFor, honest_in}
+use Rattle.fab_command.specs.declared.command.Telling.{Telling}
 use Rattle.fab_replay.specs.Courses.{HasRun, IsAtStart, IsCourse}
 use Rattle.fab_replay.specs.Integral.{IsExcluded, IsIntegral}
 use Rattle.fab_replay.specs.Isolated.{IsIsolated}
@@ -104,13 +105,14 @@ module _ {J : Type 0} (seen : J → JournalModel) (core : CoreModel) (program : 
       ∙ ap (λ (r : Resolved). entries_of r nodes (those_in core.journals)) p
       ∙ ap (λ ns. entries_of core.given.program ns (those_in core.journals)) q
 
-  module _ (wanted : Wanted) (answer : Replayed) (kept new : Option (List Entry)) (run : IsRun (setting core.given) core.moves) (tells : Tells core.given wanted core.moves answer) where
-    pub ended : ((nodes : ℕ) (ex : ℕ → Bool) → IsExcluded core.given nodes ex → IsIntegral core.given core.moves (has_bit nodes) ex) → IsIsolated core.given core.moves
-        → new ≡ with_more kept (entries_of program nodes (map seen journals)) → IsOfRun core.given wanted answer kept new
-    ended whole apart k = record {
+  module _ (told : Option (List (List ℕ))) (wanted : Wanted) (answer : Replayed) (kept new : Option (List Entry)) (run : IsRun (setting core.given) core.moves) (tells : Tells core.given wanted core.moves answer) where
+    pub ended : AreSure told core.given core.journals → ((nodes : ℕ) (ex : ℕ → Bool) → IsExcluded core.given nodes ex → IsIntegral core.given core.moves (has_bit nodes) ex) → IsIsolated core.given core.moves
+        → new ≡ with_more kept (entries_of program nodes (map seen journals)) → IsOfRun told core.given wanted answer kept new
+    ended sure whole apart k = record {
       moves = core.moves;
       run = run;
       told = tells;
+      sure = λ n cannot. (marked n).never (sure n cannot);
       integral = whole;
       isolated = apart;
       kept = record { entries = entries; each = are; kept = k ∙ ap (with_more kept) are_those };
@@ -130,28 +132,29 @@ sure_behind told first last unfailed h =
     subst (λ (x : GivenModel). AreSure told x last.journals) (sym h.given) (λ n cannot. h.sure n ∙ (unfailed n).sure cannot)
 
 -- the course came there
-pub ran_on : {E : Type 0} (makes : Wanted → Bool) (may : CoreModel → Type 0) (comes : CoreModel → Result CoreModel E → Type 0) (wanted : Wanted) (told : Option (List (List ℕ)))
-    (first last : CoreModel) (result : Result CoreModel E) → IsCourse makes may comes → wanted ≡ Run → IsTrue (makes wanted) → first.moves ≡ []
+pub ran_on : {E : Type 0} {x : Telling} (makes : Wanted → Bool) (may : CoreModel → Type 0) (comes : CoreModel → Result CoreModel E → Type 0) (wanted : Wanted) (told : Option (List (List ℕ)))
+    (first last : CoreModel) (result : Result CoreModel E) → IsCourse makes may comes → wanted ≡ Run x → IsTrue (makes wanted) → first.moves ≡ []
     → AreUnfailed told first.given first.journals → comes first result → result ≡ Ok last → HasRun first last
-ran_on makes may comes wanted told first last result course is made none unfailed came was =
+ran_on {x = x} makes may comes wanted told first last result course is made none unfailed came was =
     let start : IsAtStart first = record { moves = none; unfailed = λ n. (unfailed n).faults } in
-    let run = (course (subst (λ w. IsTrue (makes w)) is made) first start).1 result came in
+    let run = (course x (subst (λ w. IsTrue (makes w)) is made) first start).1 result came in
     subst (λ x. IfOk x (HasRun first)) was run
 
 -- an answer that tells of moves has a run
-is_replayed : (g : GivenModel) (wanted : Wanted) (answer : Replayed) (old new : Option (List Entry)) (before now : ℕ) → IsOfRun g wanted answer old new → now ≡ before
-    → IsReplayed g wanted answer old new before now
-is_replayed g wanted (r.Done bytes) old new before now h same = (h, same)
-is_replayed g wanted (r.NotEnabled number) old new before now h same = (h, same)
-is_replayed g wanted (r.JournalFault node None) old new before now h same = absurd h.told
-is_replayed g wanted (r.JournalFault node (Some bytes)) old new before now h same = (h, same)
+is_replayed : (told : Option (List (List ℕ))) (g : GivenModel) (wanted : Wanted) (answer : Replayed) (old new : Option (List Entry)) (before now : ℕ)
+    → IsOfRun told g wanted answer old new → now ≡ before → IsReplayed told g wanted answer old new before now
+is_replayed told g wanted (r.Done bytes) old new before now h same = (h, same)
+is_replayed told g wanted (r.NotEnabled number) old new before now h same = (h, same)
+is_replayed told g wanted (r.JournalFault node None) old new before now h same = absurd h.told
+is_replayed told g wanted (r.JournalFault node (Some bytes)) old new before now h same = (h, same)
 
 module _ {E : Type 0} (g h : GivenModel) (same : h ≡ g) (wanted : Wanted) (result : Result Replayed E) (old mid new : Option (List Entry)) (kept : mid ≡ old) where
-  pub ran_to : (before between now : ℕ) → between ≡ before → now ≡ between → IfOk result (λ answer. IsOfRun h wanted answer mid new)
-      → IfOk result (λ answer. IsReplayed g wanted answer old new before now)
-  ran_to before between now was is of =
-      if_ok_weaker result (λ answer k. is_replayed g wanted answer old new before now k (is ∙ was))
-      (subst (λ (x : GivenModel). IfOk result (λ answer. IsOfRun x wanted answer old new)) same (subst (λ k. IfOk result (λ answer. IsOfRun h wanted answer k new)) kept of))
+  pub ran_to : (told still : Option (List (List ℕ))) (before between now : ℕ) → still ≡ told → between ≡ before → now ≡ between → IfOk result (λ answer. IsOfRun still h wanted answer mid new)
+      → IfOk result (λ answer. IsReplayed told g wanted answer old new before now)
+  ran_to told still before between now alike was is of =
+      if_ok_weaker result (λ answer k. is_replayed told g wanted answer old new before now k (is ∙ was))
+      (subst (λ t. IfOk result (λ answer. IsOfRun t g wanted answer old new)) alike
+      (subst (λ (x : GivenModel). IfOk result (λ answer. IsOfRun still x wanted answer old new)) same (subst (λ k. IfOk result (λ answer. IsOfRun still h wanted answer k new)) kept of)))
 
   pub ran_short : OnErr result (IsCutShort h wanted mid new) → OnErr result (IsCutShort g wanted old new)
   ran_short cut =

@@ -1,6 +1,7 @@
 -- Examples of replays, computed.
-use Rattle.std.specs.Prelude.{◌≡◌, ◌<◌, ◌==◌, ℕ, zero, suc, Bool, true, false, List, [], ◌∷◌, map, Option, Some, None, codes, pos}
-use Rattle.std.proofs.Common.{refl, sym, ◌∙◌, subst, arith, lit<, true≢false}
+use Rattle.std.specs.Prelude.{◌≡◌, ◌<◌, ◌==◌, ℕ, zero, suc, Bool, true, false, List, [], ◌∷◌, ◌++◌, map, Option, Some, None, Ok, Err, IfOk, codes, pos}
+use Rattle.std.proofs.Common.{refl, sym, ap, ◌∙◌, subst, arith, get_or, length, lit<, true≢false}
+use Rattle.std.specs.Fmt.{digits}
 use Rattle.std.proofs.lemmas.Bool.{eqb-true, false≢true, ne_eqb}
 use Rattle.fab_base.specs.declared.label.Policy.{Policy}
 use Rattle.fab_base.specs.declared.object.Value.TheVariants.{Int}
@@ -29,13 +30,16 @@ use Rattle.fab_world.specs.Machine.{Crashes, Does, Move}
 use Rattle.fab_world.specs.Workers.{kept_of}
 use Rattle.fab_integrity.proofs.Over.{none_is_due}
 use Rattle.fab_node.specs.Standing.{GivenModel, JournalModel}
-use Rattle.fab_core.specs.Cores.{marked, setting, unmarked, world_by}
+use Rattle.fab_core.specs.Cores.{CoreModel, marked, setting, unmarked, world_by}
 use Rattle.fab_core.specs.Starts.{given_by}
 use Rattle.fab_core.specs.Honest.{AreFor, honest_in, honest_up}
+use Rattle.fab_command.specs.declared.command.Telling.{Telling}
+use Rattle.fab_command.specs.declared.command.Telling.TheVariants as telling
+use Rattle.fab_replay.specs.Courses.{HasRun, IsAtStart, IsCourse}
 use Rattle.fab_replay.specs.Integral.{IsExcluded, IsIntegral}
 use Rattle.fab_replay.specs.Kept.{IsEntryAt, IsEntryBehind, IsPossible, Unmade, has_mark, with_more}
 use Rattle.fab_replay.specs.Making.{HasNoJournal}
-use Rattle.fab_replay.specs.Replays.{IsRunOver, StopsBefore, Tells, event_of, first_mark, moves_of, report_of}
+use Rattle.fab_replay.specs.Replays.{IsRunOver, is_scheduled, StopsBefore, Tells, event_of, first_mark, moves_of, report_of}
 use Rattle.fab_replay.specs.Running.{IsMarked}
 use Rattle.fab_replay.specs.declared.replayed.Replayed.TheVariants as r
 use Rattle.fab_replay.specs.declared.replayed.Wanted.{Wanted}
@@ -143,8 +147,8 @@ none_of_number_zero : (g : GivenModel) (moves : List Move) → StopsBefore g mov
 none_of_number_zero g moves h = let n = h.number_is in omega (arith, n)
 
 -- a run that nodes make by themselves stands in no schedule
-no_event_is_barred : (g : GivenModel) (moves : List Move) (number : ℕ) → Tells g Run moves (r.NotEnabled number) → ⊥
-no_event_is_barred g moves number h = h
+no_event_is_barred : (g : GivenModel) (x : Telling) (moves : List Move) (number : ℕ) → Tells g (Run x) moves (r.NotEnabled number) → ⊥
+no_event_is_barred g x moves number h = h
 
 -- behind a run there is a report
 report_of_a_fault : (g : GivenModel) (wanted : Wanted) (moves : List Move) (node : ℕ) → Tells g wanted moves (r.JournalFault node None) → ⊥
@@ -281,8 +285,17 @@ nothing_to_do : IsRunOver g []
 unfolding kept_of shelf_of
 nothing_to_do = record { lined = refl; over = none_is_due (setting g) (lines_of program) (world_by g []) [] (lit< tt) (lit< tt) refl }
 
-its_report : Tells g Run [] (r.Done (report_of g []))
+its_report : Tells g (Run telling.Report) [] (r.Done (report_of g []))
 its_report = ((nothing_to_do, refl), refl)
+
+-- its summary: t holds one object, which counts 5
+its_summary : Tells g (Run telling.Summary) [] (r.Done (codes "requests 0 committed 0 objects 1 total 5" ++ 10 ∷ []))
+unfolding digits kept_of shelf_of
+its_summary = ((nothing_to_do, refl), refl)
+
+not_of_another_sum : Tells g (Run telling.Summary) [] (r.Done (codes "requests 0 committed 0 objects 1 total 6" ++ 10 ∷ [])) → ⊥
+unfolding digits kept_of shelf_of
+not_of_another_sum h = let other : 54 ≡ 53 = ap (λ bytes. get_or bytes 39 0) h.1 in omega (arith, other)
 
 -- no crash comes that no line makes
 no_crash_by_itself : IsRunOver g (moves_of (e.Crash 1 ∷ e.Recover 1 ∷ [])) → ⊥
@@ -320,15 +333,56 @@ over_behind_failure = record {
   over = none_is_due (setting crashing) (lines_of crashing.program) (world_by crashing failing) failing (lit< tt) (lit< tt) refl;
 }
 
-t_has_failed : Tells crashing Run failing (r.JournalFault 1 (Some (report_of crashing failing)))
+t_has_failed : Tells crashing (Run telling.Report) failing (r.JournalFault 1 (Some (report_of crashing failing)))
 t_has_failed = ((over_behind_failure, refl), refl)
 
-not_w : (bytes : List ℕ) → Tells crashing Run failing (r.JournalFault 0 (Some bytes)) → ⊥
+not_w : (bytes : List ℕ) → Tells crashing (Run telling.Report) failing (r.JournalFault 0 (Some bytes)) → ⊥
 not_w bytes h = let other : ◌≡◌ {A = Option ℕ} (Some 1) (Some 0) = h.0.1 in cc
 
-not_done : (bytes : List ℕ) → Tells crashing Run failing (r.Done bytes) → ⊥
+not_done : (bytes : List ℕ) → Tells crashing (Run telling.Report) failing (r.Done bytes) → ⊥
 not_done bytes h = let none : ◌≡◌ {A = Option ℕ} (Some 1) None = h.0.1 in cc
 
 -- of the schedule, which is empty, that is no run
 not_of_the_schedule : (bytes : List ℕ) → Tells crashing Report failing (r.Done bytes) → ⊥
 not_of_the_schedule bytes h = let none : failing ≡ [] = h.0 in cc
+
+-- ---- who makes runs that nodes make by themselves
+
+-- of these two bundles, with no journals that could fail
+abbrev core_of : GivenModel → List Move → CoreModel
+core_of given moves = record { given = given; moves = moves; journals = [] }
+
+at_start : (given : GivenModel) → IsAtStart (core_of given [])
+at_start given = record { moves = refl; unfailed = λ n. refl }
+
+-- where nothing is due a run is over at once
+over_at_once : HasRun (core_of g []) (core_of g [])
+over_at_once = record { given = refl; over = nothing_to_do; marked = λ n. whole_without_journal; sure = λ n. refl }
+  where
+    whole_without_journal : IsMarked false None
+    whole_without_journal = record { failed = λ e. absurd (false≢true e); sound = λ e. refl; never = λ e. refl }
+
+not_before_the_crash : HasRun (core_of crashing []) (core_of crashing []) → ⊥
+not_before_the_crash h = crash_is_left h.over
+
+-- a failure has its mark
+not_unmarked : HasRun (core_of g []) (record { given = g; moves = []; journals = Some (journal 1 false) ∷ [] }) → ⊥
+not_unmarked h = let none : 1 ≡ 0 = (h.marked 0).sound refl in omega (arith, none)
+
+not_of_another_bundle : HasRun (core_of crashing []) (core_of g []) → ⊥
+not_of_another_bundle h = let same : ◌≡◌ {A = ℕ} 0 1 = ap (λ (x : GivenModel). length x.program.crashes) h.given in omega (arith, same)
+
+-- who makes schedules' runs alone is asked nothing, and who always wants memory makes runs of its own
+by_hand_alone : IsCourse {E = ℕ} is_scheduled (λ first. ⊥) (λ first result. ⊥)
+by_hand_alone x makes = absurd (false≢true makes)
+
+wants_memory : IsCourse {E = ℕ} (λ wanted. true) (λ first. Unit {0}) (λ first result. result ≡ Err 0)
+wants_memory x makes first start = (tt, λ result is. subst (λ o. IfOk o (HasRun first)) (sym is) tt)
+
+-- who stays at the start doesn't, where a crash is due
+not_who_stays : IsCourse {E = ℕ} (λ wanted. true) (λ first. Unit {0}) (λ first result. result ≡ Ok first) → ⊥
+not_who_stays h = not_before_the_crash ((h telling.Report refl (core_of crashing []) (at_start crashing)).1 (Ok (core_of crashing [])) refl)
+
+-- and who goes on from no start is none
+not_without_a_start : IsCourse {E = ℕ} (λ wanted. true) (λ first. ⊥) (λ first result. result ≡ Err 0) → ⊥
+not_without_a_start h = (h telling.Summary refl (core_of g []) (at_start g)).0

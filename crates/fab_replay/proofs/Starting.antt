@@ -115,7 +115,7 @@ module _ {J : Type 0} (seen : J → JournalModel) (told : Option (List (List ℕ
 -- ---- what a run comes to that has no start
 
 pub no_start : (g : GivenModel) (told : Option (List (List ℕ))) (old new : Option (List Entry)) (before now node : ℕ) (wanted : Wanted) → HasNoJournal g told old new before now node
-    → IsReplayed g wanted (r.JournalFault node None) old new before now
+    → IsReplayed told g wanted (r.JournalFault node None) old new before now
 no_start g told old new before now node wanted h = (h.honest, h.unmade)
 
 pub cut_at_start : (g : GivenModel) (old new : Option (List Entry)) (wanted : Wanted) → IsStartCut g old new → IsCutShort g wanted old new

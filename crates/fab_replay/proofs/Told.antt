@@ -19,27 +19,27 @@ use Rattle.fab_replay.proofs.Marks.{first_has, first_marked, first_unmarked}
 module _ (g : GivenModel) (moves : List Move) where
   pub whole_of : (wanted : Wanted) → IsTrue (is_scheduled wanted) → IsWhole g wanted moves → moves ≡ moves_of (events_of g.program)
   whole_of Report is h = h
-  whole_of Run is h = absurd (false≢true is)
+  whole_of (Run x) is h = absurd (false≢true is)
   whole_of (View nodes seen part) is h = h
 
   pub whole_by : (wanted : Wanted) → IsTrue (is_scheduled wanted) → moves ≡ moves_of (events_of g.program) → IsWhole g wanted moves
   whole_by Report is h = h
-  whole_by Run is h = absurd (false≢true is)
+  whole_by (Run x) is h = absurd (false≢true is)
   whole_by (View nodes seen part) is h = h
 
   pub faulty_by : (wanted : Wanted) (node : ℕ) → IsTrue (is_scheduled wanted) → StopsIn g moves node → IsFaulty g wanted moves node
   faulty_by Report node is h = h
-  faulty_by Run node is h = absurd (false≢true is)
+  faulty_by (Run x) node is h = absurd (false≢true is)
   faulty_by (View nodes seen part) node is h = h
 
   pub stopped_of : (wanted : Wanted) (number : ℕ) → IsStopped g wanted moves number → StopsBefore g moves number
   stopped_of Report number h = h
-  stopped_of Run number h = absurd h
+  stopped_of (Run x) number h = absurd h
   stopped_of (View nodes seen part) number h = h
 
   pub stopped_by : (wanted : Wanted) (number : ℕ) → IsTrue (is_scheduled wanted) → StopsBefore g moves number → IsStopped g wanted moves number
   stopped_by Report number is h = h
-  stopped_by Run number is h = absurd (false≢true is)
+  stopped_by (Run x) number is h = absurd (false≢true is)
   stopped_by (View nodes seen part) number is h = h
 
   -- ---- marks
@@ -49,7 +49,7 @@ module _ (g : GivenModel) (moves : List Move) where
 
   pub whole_unmarked : (wanted : Wanted) → IsWhole g wanted moves → first_mark moves ≡ None
   whole_unmarked Report h = unmarked_whole h
-  whole_unmarked Run h = h.1
+  whole_unmarked (Run x) h = h.1
   whole_unmarked (View nodes seen part) h = unmarked_whole h
 
   pub stopped_unmarked : (wanted : Wanted) (number : ℕ) → IsStopped g wanted moves number → first_mark moves ≡ None
@@ -60,7 +60,7 @@ module _ (g : GivenModel) (moves : List Move) where
 
   pub faulty_marked : (wanted : Wanted) (node : ℕ) → IsFaulty g wanted moves node → first_mark moves ≡ Some node
   faulty_marked Report node h = marked_in node h
-  faulty_marked Run node h = h.1
+  faulty_marked (Run x) node h = h.1
   faulty_marked (View nodes seen part) node h = marked_in node h
 
   pub faulty_has : (wanted : Wanted) (node : ℕ) → IsFaulty g wanted moves node → has_mark moves node ≡ true
@@ -83,7 +83,7 @@ module _ (g : GivenModel) (moves : List Move) where
 
   whole_stopped : (wanted : Wanted) (number : ℕ) → IsWhole g wanted moves → IsStopped g wanted moves number → ⊥
   whole_stopped Report number h k = stopped_parts number k h
-  whole_stopped Run number h k = k
+  whole_stopped (Run x) number h k = k
   whole_stopped (View nodes seen part) number h k = stopped_parts number k h
 
   -- its number says how many moves there are

@@ -1,5 +1,6 @@
 -- What is asked of whoever makes runs that nodes make by themselves.
 use Rattle.std.specs.Prelude.{◌≡◌, ℕ, Bool, IsTrue, [], Result, IfOk}
+use Rattle.fab_command.specs.declared.command.Telling.{Telling}
 use Rattle.fab_core.specs.Cores.{CoreModel, slot}
 use Rattle.fab_core.specs.Moved.{faults_in, sure_in}
 use Rattle.fab_replay.specs.Replays.{IsRunOver}
@@ -22,5 +23,5 @@ pub record HasRun (first last : CoreModel) : Type 0 where
 
 -- Who makes such runs goes on from each start, and comes to the end of one, unless memory runs out.
 abbrev pub IsCourse : {E : Type 0} → (Wanted → Bool) → (CoreModel → Type 0) → (CoreModel → Result CoreModel E → Type 0) → Type 0
-IsCourse {E} makes may comes = IsTrue (makes Run) → (first : CoreModel) → IsAtStart first
+IsCourse {E} makes may comes = (x : Telling) → IsTrue (makes (Run x)) → (first : CoreModel) → IsAtStart first
     → may first × ((result : Result CoreModel E) → comes first result → IfOk result (HasRun first))

@@ -60,13 +60,15 @@ pub record KeepsFront (g : GivenModel) (P : ℕ → Entry → Type 0) (old new :
 
 -- ---- answers
 
--- There are moves of a run of which the answer tells, and the journals are as these left them. Whichever nodes are distrusted, what the
--- others then hold is what their commits give, and what they have sent to those is the public replay of what the run released.
-pub record IsOfRun (g : GivenModel) (wanted : Wanted) (answer : Replayed) (old new : Option (List Entry)) : Type 0 where
+-- There are moves of a run of which the answer tells, and the journals are as these left them; none failed of which it is told that it can't.
+-- Whichever nodes are distrusted, what the others then hold is what their commits give, and what they have sent to those is the public replay of
+-- what the run released.
+pub record IsOfRun (may_fail : Option (List (List ℕ))) (g : GivenModel) (wanted : Wanted) (answer : Replayed) (old new : Option (List Entry)) : Type 0 where
   pub moves : List Move
   pub run : IsRun (setting g) moves
   pub told : Tells g wanted moves answer
   pub kept : Keeps g (IsEntryAt g moves) old new
+  pub sure : (n : ℕ) → CannotFail may_fail (node_text g.program n) → has_mark moves n ≡ false
   pub integral : (nodes : ℕ) (ex : ℕ → Bool) → IsExcluded g nodes ex → IsIntegral g moves (has_bit nodes) ex
   pub isolated : IsIsolated g moves
 
@@ -76,9 +78,9 @@ pub data IsUnmade (g : GivenModel) (node : ℕ) (old new : Option (List Entry)) 
   Unwritten : Keeps g (IsEntryBehind g node) old new → now ≡ before → IsUnmade g node old new before now
 
 -- What is kept of old is new, and the makers of journals have failed so often before and now: no more often, unless a journal couldn't be made.
-abbrev pub IsReplayed : GivenModel → Wanted → Replayed → Option (List Entry) → Option (List Entry) → ℕ → ℕ → Type 0
-IsReplayed g wanted (r.JournalFault node None) old new before now = IsTrue (is_honest g node) × IsUnmade g node old new before now
-IsReplayed g wanted answer old new before now = IsOfRun g wanted answer old new × (now ≡ before)
+abbrev pub IsReplayed : Option (List (List ℕ)) → GivenModel → Wanted → Replayed → Option (List Entry) → Option (List Entry) → ℕ → ℕ → Type 0
+IsReplayed may_fail g wanted (r.JournalFault node None) old new before now = IsTrue (is_honest g node) × IsUnmade g node old new before now
+IsReplayed may_fail g wanted answer old new before now = IsOfRun may_fail g wanted answer old new × (now ≡ before)
 
 -- Memory ran out: no journal was kept, or the first of those that a run of which some answer tells had left, or that were left where the header
 -- of one couldn't be written.
@@ -88,7 +90,7 @@ pub data IsCutShort (g : GivenModel) (wanted : Wanted) (old new : Option (List E
       → KeepsFront g (IsEntryAt g moves) old new → IsCutShort g wanted old new
   OfStart : (node : ℕ) → IsTrue (is_honest g node) → KeepsFront g (IsEntryBehind g node) old new → IsCutShort g wanted old new
 
--- no journal fails of which it is told that it can't
+-- the node of which a fault is told isn't one of which it is told that its journal can't fail
 abbrev pub IsPossible : Option (List (List ℕ)) → Resolved → Replayed → Type 0
 IsPossible told program (r.JournalFault node report) = CannotFail told (node_text program node) → ⊥
 IsPossible told program (r.Done bytes) = Unit {0}

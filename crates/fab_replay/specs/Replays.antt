@@ -9,6 +9,9 @@ use Rattle.fab_net.specs.declared.event.Event.{Event}
 use Rattle.fab_net.specs.declared.event.Event.TheVariants as e
 use Rattle.fab_net.specs.declared.event.Inner.{Inner}
 use Rattle.fab_net.specs.declared.event.Inner.TheVariants as i
+use Rattle.fab_command.specs.declared.command.Telling.{Telling}
+use Rattle.fab_command.specs.declared.command.Telling.TheVariants as telling
+use Rattle.fab_drill.specs.Summary.{summary_of}
 use Rattle.fab_trace.specs.Report.{report}
 use Rattle.fab_rights.specs.Computed.{has_bit}
 use Rattle.fab_world.specs.Machine.{Move, Enabled, at_start, enabled, form_of, logs}
@@ -55,13 +58,22 @@ moves_of events = map unmarked events
 abbrev pub report_of : GivenModel → List Move → List ℕ
 report_of g moves = report g.program (logs (setting g) (at_start (setting g)) moves) (all_held g (world_by g moves)) (all_outcomes g (world_by g moves))
 
+-- its summary: how many requests there were and were committed, how many objects are held, and what the numbers in them come to
+abbrev pub summary_of_run : GivenModel → List Move → List ℕ
+summary_of_run g moves = summary_of (all_held g (world_by g moves)) (all_outcomes g (world_by g moves))
+
+-- what is to be told of a run that nodes make by themselves
+abbrev pub told_of : Telling → GivenModel → List Move → List ℕ
+told_of telling.Report g moves = report_of g moves
+told_of telling.Summary g moves = summary_of_run g moves
+
 -- what those outside a set of nodes have sent into it
 abbrev pub view_of : GivenModel → ℕ → List Move → List ℕ
 view_of g nodes moves = listing g.program (has_bit nodes) (world_by g moves).sent
 
 abbrev pub text_of : GivenModel → Wanted → List Move → List ℕ
 text_of g Report moves = report_of g moves
-text_of g Run moves = report_of g moves
+text_of g (Run x) moves = told_of x g moves
 text_of g (View nodes seen part) moves = view_of g nodes moves
 
 -- the hostile nodes are in the set, this is what it sees, and this is what everybody may know
@@ -71,7 +83,7 @@ pub record IsReadyToView (g : GivenModel) (nodes : ℕ) (seen : Seen) (part : Re
 
 abbrev pub IsReady : GivenModel → Wanted → Type 0
 IsReady g Report = Unit {0}
-IsReady g Run = Unit {0}
+IsReady g (Run x) = Unit {0}
 IsReady g (View nodes seen part) = IsReadyToView g nodes seen part
 
 -- ---- how far a replay comes
@@ -110,25 +122,25 @@ first_mark moves = option_map (λ move. node_at move.event) (find (λ move. move
 -- what is wanted is of the schedule's run, and not of such a one
 abbrev pub is_scheduled : Wanted → Bool
 is_scheduled Report = true
-is_scheduled Run = false
+is_scheduled (Run x) = false
 is_scheduled (View nodes seen part) = true
 
 -- ---- answers
 
 -- These are the moves of a whole run, in which no journal failed: of the schedule's events, or of one that nodes made by themselves.
 abbrev pub IsWhole : GivenModel → Wanted → List Move → Type 0
-IsWhole g Run moves = IsRunOver g moves × (first_mark moves ≡ None)
+IsWhole g (Run x) moves = IsRunOver g moves × (first_mark moves ≡ None)
 IsWhole g _ moves = moves ≡ moves_of (events_of g.program)
 
 -- This node's journal failed in them: the schedule's run ends there, and where nodes make the run by themselves it is the first of which that
 -- holds, and the others go on.
 abbrev pub IsFaulty : GivenModel → Wanted → List Move → ℕ → Type 0
-IsFaulty g Run moves node = IsRunOver g moves × (first_mark moves ≡ Some node)
+IsFaulty g (Run x) moves node = IsRunOver g moves × (first_mark moves ≡ Some node)
 IsFaulty g _ moves node = StopsIn g moves node
 
 -- the event of this number in the schedule may not come behind them
 abbrev pub IsStopped : GivenModel → Wanted → List Move → ℕ → Type 0
-IsStopped g Run moves number = ⊥
+IsStopped g (Run x) moves number = ⊥
 IsStopped g _ moves number = StopsBefore g moves number
 
 -- what an answer tells of the moves, with the text that is wanted of a run

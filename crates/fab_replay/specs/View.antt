@@ -25,5 +25,5 @@ pub record IsViewOf (r : Resolved) (nodes mask : ℕ) (seen : Seen) (part : Reso
 
 abbrev pub IsViewInto : Resolved → ℕ → Wanted → Type 0
 IsViewInto r nodes Report = ⊥
-IsViewInto r nodes Run = ⊥
+IsViewInto r nodes (Run x) = ⊥
 IsViewInto r nodes (View mask seen part) = IsViewOf r nodes mask seen part

@@ -4,7 +4,7 @@ ghost use Rattle.std.specs.Prelude.{◌≡◌, find, IfOk, IsTrue};
 ghost use Rattle.std.specs.Option.{option_map};
 ghost use Rattle.fab_lines.specs.Numbered.{AreNumbered};
 ghost use Rattle.fab_core.specs.Moved.{node_at as node_in};
-ghost use Rattle.fab_replay.specs.Replays.{IsReady, IsRunOver, IsTold, is_scheduled, report_of, text_of};
+ghost use Rattle.fab_replay.specs.Replays.{IsReady, IsRunOver, IsTold, is_scheduled, report_of, summary_of_run, text_of, told_of};
 ghost use Rattle.fab_replay.specs.Running.{ComesTo};
 ghost use Rattle.fab_replay.specs.declared.replayed.Wanted.TheVariants as wants;
 
@@ -13,8 +13,10 @@ use crate::replayed::{Replayed, Wanted};
 use crate::running::Ran;
 use crate::view::view_of;
 use fab_base::{NoMemory, Seq};
+use fab_command::Telling;
 use fab_core::Core;
 use fab_device::Journal;
+use fab_drill::print_summary;
 use fab_net::Logged;
 use fab_trace::print_report;
 use fab_tree::resolved::Resolved;
@@ -35,6 +37,32 @@ fn report_of<J: Journal>(
     print_report(alloc, program, core.log(), &held, &outcomes)
 }
 
+/// Its summary.
+fn summary_of<J: Journal>(alloc: Global, core: &Core<J>) -> Result<Seq<u8>, NoMemory>
+    ensures { IfOk result (λ bytes. bytes ≡ summary_of_run core.now.given core.now.moves) }
+{
+    let held = core.held_all()?;
+    let outcomes = core.outcomes()?;
+    print_summary(alloc, &held, &outcomes)
+}
+
+/// What is to be told of the run so far.
+fn told_of<J: Journal>(
+    alloc: Global,
+    core: &Core<J>,
+    program: &Resolved,
+    telling: Telling,
+) -> Result<Seq<u8>, NoMemory>
+    requires program { program.now ≡ core.now.given.program }
+    requires numbered { AreNumbered program.now.roots }
+    ensures { IfOk result (λ bytes. bytes ≡ told_of telling core.now.given core.now.moves) }
+{
+    match telling {
+        Telling::Report => report_of(alloc, core, program),
+        Telling::Summary => summary_of(alloc, core),
+    }
+}
+
 /// The text that is wanted of the run so far.
 fn text_of<J: Journal>(
     alloc: Global,
@@ -48,7 +76,8 @@ fn text_of<J: Journal>(
     ensures { IfOk result (λ bytes. bytes ≡ text_of core.now.given wanted.now core.now.moves) }
 {
     match wanted {
-        Wanted::Report | Wanted::Run => report_of(alloc, core, program),
+        Wanted::Report => report_of(alloc, core, program),
+        Wanted::Run(telling) => told_of(alloc, core, program, *telling),
         Wanted::View { nodes, seen, part } => view_of(alloc, core, program, *nodes, seen, part),
     }
 }
@@ -92,12 +121,16 @@ fn first_mark(log: &[Logged]) -> Option<u16>
 }
 
 /// What is answered to a run that nodes made by themselves.
-pub fn answer_of_run<J: Journal>(alloc: Global, core: &Core<J>) -> Result<Replayed, NoMemory>
+pub fn answer_of_run<J: Journal>(
+    alloc: Global,
+    core: &Core<J>,
+    telling: Telling,
+) -> Result<Replayed, NoMemory>
     requires { IsRunOver core.now.given core.now.moves }
-    ensures { IfOk result (IsTold core.now.given wants.Run core.now.moves) }
+    ensures { IfOk result (IsTold core.now.given (wants.Run telling) core.now.moves) }
 {
     core.is_a_run();
-    let report = report_of(alloc, core, core.start())?;
+    let report = told_of(alloc, core, core.start(), telling)?;
     match first_mark(core.log()) {
         Some(node) => Ok(Replayed::JournalFault {
             node,

@@ -17,6 +17,7 @@ use crate::journals::Unstarted;
 use crate::replayed::{Replayed, Wanted};
 use crate::whole::replay;
 use fab_base::NoMemory;
+use fab_command::Telling;
 use fab_core::Core;
 use fab_device::{Journal, Journals};
 use fab_rights::Rights;
@@ -90,13 +91,14 @@ fn by_themselves<C: Course<Core<M::Item>>, M: Journals>(
     program: Arc<Resolved>,
     rights: Rights,
     wanted: &Wanted,
+    telling: Telling,
     journals: &mut M,
 ) -> Result<Replayed, NoMemory>
-    requires run { wanted.now ≡ wants.Run }
+    requires run { wanted.now ≡ wants.Run telling }
     requires made { IsTrue (C.makes wanted.now) }
     requires course { IsCourse C.makes (C.may course.now) (C.comes course.now) }
     requires accepted { (s : Start) × (resolved s ≡ program.value) × IsAcceptedWith s rights }
-    ensures answer { IfOk result (λ answer. IsReplayed (given_by program.value rights) wanted.now answer (M.kept journals.old) (M.kept journals.new) (M.faults journals.old) (M.faults journals.new)) }
+    ensures answer { IfOk result (λ answer. IsReplayed (M.may_fail journals.old) (given_by program.value rights) wanted.now answer (M.kept journals.old) (M.kept journals.new) (M.faults journals.old) (M.faults journals.new)) }
     ensures possible { IfOk result (IsPossible (M.may_fail journals.old) program.value) }
     ensures later { M.faults journals.old ≤ M.faults journals.new }
     ensures memory { OnErr result (IsCutShort (given_by program.value rights) wanted.now (M.kept journals.old) (M.kept journals.new)) }
@@ -111,7 +113,7 @@ fn by_themselves<C: Course<Core<M::Item>>, M: Journals>(
         Err(Unstarted::Memory) => return Err(AllocError),
     };
     let core = course.come(core)?;
-    let answer = answer_of_run(alloc, &core)?;
+    let answer = answer_of_run(alloc, &core, telling)?;
     finished(alloc, core, wanted, answer, journals)
 }
 
@@ -131,7 +133,7 @@ pub fn make_run<C: Course<Core<M::Item>>, M: Journals>(
     requires course { IsCourse C.makes (C.may course.now) (C.comes course.now) }
     requires accepted { (s : Start) × (resolved s ≡ program.value) × IsAcceptedWith s rights }
     requires ready { IsReady (given_by program.value rights) wanted.now }
-    ensures answer { IfOk result (λ answer. IsReplayed (given_by program.value rights) wanted.now answer (M.kept journals.old) (M.kept journals.new) (M.faults journals.old) (M.faults journals.new)) }
+    ensures answer { IfOk result (λ answer. IsReplayed (M.may_fail journals.old) (given_by program.value rights) wanted.now answer (M.kept journals.old) (M.kept journals.new) (M.faults journals.old) (M.faults journals.new)) }
     ensures possible { IfOk result (IsPossible (M.may_fail journals.old) program.value) }
     ensures later { M.faults journals.old ≤ M.faults journals.new }
     ensures memory { OnErr result (IsCutShort (given_by program.value rights) wanted.now (M.kept journals.old) (M.kept journals.new)) }
@@ -139,7 +141,9 @@ pub fn make_run<C: Course<Core<M::Item>>, M: Journals>(
     ensures told { M.may_fail journals.new ≡ M.may_fail journals.old }
 {
     match wanted {
-        Wanted::Run => by_themselves(alloc, course, program, rights, wanted, journals),
+        Wanted::Run(telling) => {
+            by_themselves(alloc, course, program, rights, wanted, *telling, journals)
+        }
         Wanted::Report | Wanted::View { .. } => replay(alloc, program, rights, wanted, journals),
     }
 }

@@ -27,7 +27,7 @@ pub fn finished<M: Journals>(
     requires answer { IsTold core.given wanted.now core.moves answer }
     requires marked { AreMarked core.moves core.journals }
     requires sure { AreSure (M.may_fail journals.old) core.given core.journals }
-    ensures answer { IfOk result (λ answer. IsOfRun core.given wanted.now answer (M.kept journals.old) (M.kept journals.new)) }
+    ensures answer { IfOk result (λ answer. IsOfRun (M.may_fail journals.old) core.given wanted.now answer (M.kept journals.old) (M.kept journals.new)) }
     ensures possible { IfOk result (IsPossible (M.may_fail journals.old) core.given.program) }
     ensures memory { OnErr result (IsCutShort core.given wanted.now (M.kept journals.old) (M.kept journals.new)) }
     ensures faults { M.faults journals.new ≡ M.faults journals.old }

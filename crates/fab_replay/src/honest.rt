@@ -42,7 +42,7 @@ fn is_honest(program: &Resolved, rights: &Rights, number: u16) -> bool
 }
 
 /// The nodes that aren't hostile, in order.
-pub(crate) fn honest_nodes(
+pub fn honest_nodes(
     alloc: Global,
     program: &Resolved,
     rights: &Rights,

@@ -21,6 +21,7 @@ pub use answers::answer_of_run;
 pub use beginning::started;
 pub use course::{ByCall, ByHand, Course, make_run};
 pub use ending::finished;
+pub use honest::honest_nodes;
 pub use integral::is_integral;
 pub use isolated::is_isolated;
 pub use journals::Unstarted;

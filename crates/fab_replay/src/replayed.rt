@@ -1,16 +1,17 @@
 //! What is wanted of a replay, and what it comes to.
 
 use fab_base::Seq;
+use fab_command::Telling;
 use fab_places::Seen;
 use fab_tree::resolved::Resolved;
 
-/// What is wanted: the report of the schedule's run; the report of a run that the nodes make by themselves;
+/// What is wanted: the report of the schedule's run; what is to be told of a run that the nodes make by themselves;
 /// or what was sent in the schedule's run into a set of nodes, as a mask, by those outside it, for which what
 /// the set sees is kept and what everybody may know of the bundle.
 #[derive(Debug, Drop)]
 pub enum Wanted {
     Report,
-    Run,
+    Run(Telling),
     View {
         nodes: u64,
         seen: Seen,

@@ -34,7 +34,7 @@ fn over<M: Journals>(
     requires scheduled { IsTrue (is_scheduled wanted.now) }
     requires ready { IsReady core.given wanted.now }
     requires unfailed { AreUnfailed (M.may_fail journals.old) core.given core.journals }
-    ensures answer { IfOk result (λ answer. IsOfRun core.given wanted.now answer (M.kept journals.old) (M.kept journals.new)) }
+    ensures answer { IfOk result (λ answer. IsOfRun (M.may_fail journals.old) core.given wanted.now answer (M.kept journals.old) (M.kept journals.new)) }
     ensures possible { IfOk result (IsPossible (M.may_fail journals.old) core.given.program) }
     ensures memory { OnErr result (IsCutShort core.given wanted.now (M.kept journals.old) (M.kept journals.new)) }
     ensures faults { M.faults journals.new ≡ M.faults journals.old }
@@ -63,7 +63,7 @@ pub fn replay<M: Journals>(
     requires scheduled { IsTrue (is_scheduled wanted.now) }
     requires accepted { (s : Start) × (resolved s ≡ program.value) × IsAcceptedWith s rights }
     requires ready { IsReady (given_by program.value rights) wanted.now }
-    ensures answer { IfOk result (λ answer. IsReplayed (given_by program.value rights) wanted.now answer (M.kept journals.old) (M.kept journals.new) (M.faults journals.old) (M.faults journals.new)) }
+    ensures answer { IfOk result (λ answer. IsReplayed (M.may_fail journals.old) (given_by program.value rights) wanted.now answer (M.kept journals.old) (M.kept journals.new) (M.faults journals.old) (M.faults journals.new)) }
     ensures possible { IfOk result (IsPossible (M.may_fail journals.old) program.value) }
     ensures later { M.faults journals.old ≤ M.faults journals.new }
     ensures memory { OnErr result (IsCutShort (given_by program.value rights) wanted.now (M.kept journals.old) (M.kept journals.new)) }

@@ -76,8 +76,8 @@ short_run (faulty g h k) = short g.is
 
 -- its text has no reply, and so has the text that there was
 none_of_run : {command : Option Command} {text reply : List ℕ} {status : Status} → Ran command text status reply → (s : Status) (r : List ℕ) → Replies command text s r → ⊥
-none_of_run (sound g h k) = no_reply g h
-none_of_run (faulty g h k) = no_reply g h
+none_of_run (sound {x = x} g h k) = no_reply g x h
+none_of_run (faulty {x = x} g h k) = no_reply g x h
 
 read_run : {command : Command} (l l' : Option (List ℕ)) {text reply : List ℕ} {status : Status} → Consumes l l' text → IsAtEnd l' ⊎ (length text ≡ 4194305)
     → Ran (Some command) text status reply → IfSome l (λ xs. (s : Status) (r : List ℕ) → Replies (Some command) xs s r → ⊥)
@@ -94,11 +94,11 @@ no_other l l' (read t) by = read_run l l' t.taken t.whole by
 
 -- where the bundle of a text is accepted, its run has no reply
 refused_run : (command : Option Command) (xs reply : List ℕ) (status : Status) → IsReply command xs status reply → IsComplete command status xs
-refused_run command xs reply status k s rights is g accepted =
-    let r : IsReply (Some Run) xs status reply = subst (λ c. IsReply c xs status reply) is k in
+refused_run command xs reply status k s rights x is g accepted =
+    let r : IsReply (Some (Run x)) xs status reply = subst (λ c. IsReply c xs status reply) is k in
     let front = r.front in
     let f : IsFront xs (outcome.Bundle s) = subst (IsFront xs) (sym (front.1.only (outcome.Bundle s) g)) front.1 in
-    no_reply f accepted status reply r.is
+    no_reply f x accepted status reply r.is
 
 -- ---- the clauses
 
@@ -130,16 +130,16 @@ module _ (command : Option Command) (l l' w w' : Option (List ℕ)) (old new : M
   through {status = status} e =
       elim e.replies [
         | one_reply replies ↦ some_more l (λ xs k. refused_run command xs e.reply status k) (told l l' e.input replies)
-        | interrupted by ↦ all_some l (λ xs s rights is g k. fault_refuses_not by)
-        | ran by ↦ all_some l (λ xs s rights is g k. run_refuses_not by)
+        | interrupted by ↦ all_some l (λ xs s rights x is g k. fault_refuses_not by)
+        | ran by ↦ all_some l (λ xs s rights x is g k. run_refuses_not by)
       ]
 
   pub completely : (status : Status) → Ends command status l l' w w' old new → status ≢ ReadFault → IfSome l (IsComplete command status)
   completely Ok e f = through e
   completely Usage e f = through e
   completely ReadFault e f = absurd (f refl)
-  completely WriteFault e f = all_some l (λ xs s rights is g k. tt)
-  completely Memory e f = all_some l (λ xs s rights is g k. tt)
+  completely WriteFault e f = all_some l (λ xs s rights x is g k. tt)
+  completely Memory e f = all_some l (λ xs s rights x is g k. tt)
   completely (Syntax at) e f = through e
   completely (Limit what) e f = through e
   completely (Name x at) e f = through e
@@ -288,7 +288,7 @@ module _ (command : Option Command) (l l' w w' : Option (List ℕ)) (old new : M
   -- the journals of such a command are as a replay left them
   is_left : (c : Command) (text reply : List ℕ) (status : Status) → MakesRuns (Some c) → JournalsAre (Some c) text old new status reply → AreLeft c text old new status reply
   is_left Replay text reply status runs h = h
-  is_left Run text reply status runs h = h
+  is_left (Run x) text reply status runs h = h
   is_left (View names) text reply status runs h = h
   is_left Check text reply status runs h = absurd runs
   is_left Evaluate text reply status runs h = absurd runs
@@ -341,7 +341,7 @@ module _ (command : Option Command) (l l' w w' : Option (List ℕ)) (old new : M
   are_unfailed : (asked : Option Command) (text reply : List ℕ) (status : Status) → JournalsAre asked text old new status reply
       → (reply ≢ []) ⊎ (IsJournalFault status → ⊥) → new.faults ≡ old.faults
   are_unfailed (Some Replay) text reply status h k = left_unfailed Replay text reply status h k
-  are_unfailed (Some Run) text reply status h k = left_unfailed Run text reply status h k
+  are_unfailed (Some (Run x)) text reply status h k = left_unfailed (Run x) text reply status h k
   are_unfailed (Some (View names)) text reply status h k = left_unfailed (View names) text reply status h k
   are_unfailed (Some Check) text reply status h k = ap (λ (m : Makers). m.faults) h
   are_unfailed (Some Evaluate) text reply status h k = ap (λ (m : Makers). m.faults) h

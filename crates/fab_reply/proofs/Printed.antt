@@ -1,5 +1,5 @@
 -- The report that was written is read back.
-use Rattle.std.proofs.Common.{◌≡◌, ℕ, List, Some, refl, subst}
+use Rattle.std.proofs.Common.{◌≡◌, ℕ, List, Some, refl, ap, subst}
 use Rattle.std.specs.Io.KnownBytes.{Appends}
 use Rattle.fab_base.specs.declared.token.Token.{Token}
 use Rattle.fab_base.specs.Tokens.{Lexes}
@@ -10,8 +10,9 @@ use Rattle.fab_rights.specs.declared.rights.Rights.{Rights}
 use Rattle.fab_world.specs.Machine.{Move}
 use Rattle.fab_node.specs.Standing.{GivenModel}
 use Rattle.fab_command.specs.declared.command.Command.{Command}
+use Rattle.fab_command.specs.declared.command.Telling.TheVariants as telling
 use Rattle.fab_command.specs.declared.command.Command.TheVariants.{Replay, Run}
-use Rattle.fab_replay.specs.Replays.{text_of}
+use Rattle.fab_replay.specs.Replays.{text_of, told_of}
 use Rattle.fab_replay.specs.declared.replayed.Wanted.{Wanted}
 use Rattle.fab_replay.specs.declared.replayed.Wanted.TheVariants.{Report, Run as ByNodes, View as Viewed}
 use Rattle.fab_shown.specs.Shown.{report_of}
@@ -38,11 +39,11 @@ WantsReport c =
 
 of_replay : WantsReport Replay
 of_replay s rights moves Report h = refl
-of_replay s rights moves ByNodes h = absurd h
+of_replay s rights moves (ByNodes x) h = absurd h
 of_replay s rights moves (Viewed nodes seen part) h = absurd h
 
-of_run : WantsReport Run
-of_run s rights moves ByNodes h = refl
+of_run : WantsReport (Run telling.Report)
+of_run s rights moves (ByNodes x) h = ap (λ y. told_of y (given_of s rights) moves) h
 of_run s rights moves Report h = absurd h
 of_run s rights moves (Viewed nodes seen part) h = absurd h
 
@@ -61,6 +62,6 @@ pub are_read_back : AreReadBack
 are_read_back = record {
   whole = are_read_back_of Replay IsOfSchedule of_replay;
   in_part = λ node. are_read_back_of Replay (IsOfFault node) of_replay;
-  ran = are_read_back_of Run (IsWholeFor (Some Run)) of_run;
-  ran_on = λ node. are_read_back_of Run (IsPartFor (Some Run) node) of_run;
+  ran = are_read_back_of (Run telling.Report) (IsWholeFor (Some (Run telling.Report))) of_run;
+  ran_on = λ node. are_read_back_of (Run telling.Report) (IsPartFor (Some (Run telling.Report)) node) of_run;
 }

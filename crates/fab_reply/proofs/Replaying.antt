@@ -3,6 +3,7 @@ use Rattle.std.proofs.Common.{◌≡◌, ◌≢◌, ◌⊎◌, inl, inr, ℕ, Is
 use Rattle.std.proofs.lemmas.List.{take_all}
 use Rattle.std.specs.Io.KnownBytes.{Appends, Keeps}
 use Rattle.fab_command.specs.declared.command.Command.{Command}
+use Rattle.fab_command.specs.declared.command.Telling.{Telling}
 use Rattle.fab_command.specs.declared.command.Command.TheVariants.{Replay, Run, View}
 use Rattle.fab_tree.specs.declared.start.Start.{Start}
 use Rattle.fab_language.specs.Numbers.{resolved}
@@ -43,7 +44,7 @@ unless_told (Err e) f h k = f h k
 module _ {text : List ℕ} {start : Start} (f : IsFront text (outcome.Bundle start)) (rights : Rights) (accepted : IsAcceptedWith start rights) where
   -- a run of the schedule answers the text
   replay_answered : (command : Command) (wanted : Wanted) → Wants start command wanted → IsTrue (is_scheduled wanted) → (answer : Replayed) (old new : Makers)
-      → IsReplayed (given_of start rights) wanted answer old.kept new.kept old.faults new.faults → Answers (Some command) text (status_of answer) (text_of answer)
+      → IsReplayed old.may_fail (given_of start rights) wanted answer old.kept new.kept old.faults new.faults → Answers (Some command) text (status_of answer) (text_of answer)
   replay_answered command wanted wants s (replays.Done reply) old new (h, e) =
       one_reply (replay_reply f rights accepted command wanted wants reply (record { moves = h.moves; run = h.run; told = h.told; scheduled = s }))
   replay_answered command wanted wants s (replays.NotEnabled event) old new (h, e) =
@@ -53,25 +54,25 @@ module _ {text : List ℕ} {start : Start} (f : IsFront text (outcome.Bundle sta
   replay_answered command wanted wants s (replays.JournalFault node None) old new h = interrupted (before wanted wants f.is accepted h.0)
 
   -- so does one that the nodes make by themselves
-  run_answered : (answer : Replayed) (old new : Makers) → IsReplayed (given_of start rights) ByNodes answer old.kept new.kept old.faults new.faults
-      → Answers (Some Run) text (status_of answer) (text_of answer)
-  run_answered (replays.Done reply) old new (h, e) = ran (sound f accepted (record { moves = h.moves; run = h.run; told = h.told }))
-  run_answered (replays.NotEnabled event) old new (h, e) = absurd h.told
-  run_answered (replays.JournalFault node (Some reply)) old new (h, e) = ran (faulty f accepted (record { moves = h.moves; run = h.run; told = h.told }))
-  run_answered (replays.JournalFault node None) old new h = interrupted (before ByNodes tt f.is accepted h.0)
+  run_answered : (x : Telling) (answer : Replayed) (old new : Makers) → IsReplayed old.may_fail (given_of start rights) (ByNodes x) answer old.kept new.kept old.faults new.faults
+      → Answers (Some (Run x)) text (status_of answer) (text_of answer)
+  run_answered x (replays.Done reply) old new (h, e) = ran (sound f accepted (record { moves = h.moves; run = h.run; told = h.told }))
+  run_answered x (replays.NotEnabled event) old new (h, e) = absurd h.told
+  run_answered x (replays.JournalFault node (Some reply)) old new (h, e) = ran (faulty f accepted (record { moves = h.moves; run = h.run; told = h.told }))
+  run_answered x (replays.JournalFault node None) old new h = interrupted (before (ByNodes x) refl f.is accepted h.0)
 
   pub answered : (command : Command) (wanted : Wanted) → Wants start command wanted → (answer : Replayed) (old new : Makers)
-      → IsReplayed (given_of start rights) wanted answer old.kept new.kept old.faults new.faults → Answers (Some command) text (status_of answer) (text_of answer)
+      → IsReplayed old.may_fail (given_of start rights) wanted answer old.kept new.kept old.faults new.faults → Answers (Some command) text (status_of answer) (text_of answer)
   answered command wanted wants =
       wished
-      (λ c u. (answer : Replayed) (old new : Makers) → IsReplayed (given_of start rights) u answer old.kept new.kept old.faults new.faults
+      (λ c u. (answer : Replayed) (old new : Makers) → IsReplayed old.may_fail (given_of start rights) u answer old.kept new.kept old.faults new.faults
       → Answers (Some c) text (status_of answer) (text_of answer))
       (replay_answered Replay Report tt refl) run_answered (λ names nodes seen part named. replay_answered (View names) (Viewed nodes seen part) named refl) command wanted wants
 
 module _ {text : List ℕ} {start : Start} (f : IsFront text (outcome.Bundle start)) (rights : Rights) (accepted : IsAcceptedWith start rights)
     (command : Command) (wanted : Wanted) (wants : Wants start command wanted) where
   -- and the journals are as it left them
-  is_replay : (answer : Replayed) (old new : Makers) → IsReplayed (given_of start rights) wanted answer old.kept new.kept old.faults new.faults
+  is_replay : (answer : Replayed) (old new : Makers) → IsReplayed old.may_fail (given_of start rights) wanted answer old.kept new.kept old.faults new.faults
       → IsPossible old.may_fail (resolved start) answer → IsReplay command text old new (status_of answer) (text_of answer)
   is_replay answer old new h p = record {
     start = start;
@@ -87,7 +88,7 @@ module _ {text : List ℕ} {start : Start} (f : IsFront text (outcome.Bundle sta
     reply_is = refl;
   }
 
-  pub left_behind : (answer : Replayed) (old new : Makers) → IsReplayed (given_of start rights) wanted answer old.kept new.kept old.faults new.faults
+  pub left_behind : (answer : Replayed) (old new : Makers) → IsReplayed old.may_fail (given_of start rights) wanted answer old.kept new.kept old.faults new.faults
       → IsPossible old.may_fail (resolved start) answer → AreLeft command text old new (status_of answer) (text_of answer)
   left_behind (replays.Done reply) old new h p = is_replay (replays.Done reply) old new h p
   left_behind (replays.NotEnabled event) old new h p = is_replay (replays.NotEnabled event) old new h p
@@ -108,7 +109,7 @@ module _ {text : List ℕ} {start : Start} (f : IsFront text (outcome.Bundle sta
     same = same;
   })
 
-  pub cut_answer : (answer : Replayed) (old new : Makers) → IsReplayed (given_of start rights) wanted answer old.kept new.kept old.faults new.faults
+  pub cut_answer : (answer : Replayed) (old new : Makers) → IsReplayed old.may_fail (given_of start rights) wanted answer old.kept new.kept old.faults new.faults
       → IsNotEnabled answer → new.may_fail ≡ old.may_fail → IsCut command text old new
   cut_answer (replays.NotEnabled event) old new (h, e) is same =
       cut_replay old new
@@ -130,7 +131,7 @@ text_read (read t) = t
 
 module _ (l l' w w' : Option (List ℕ)) (old new : Makers) (command : Command) where
   headlined : (P : GivenModel → List Move → Type 0) (start : Start) (rights : Rights) (wanted : Wanted) (answer : Replayed) (text reply report : List ℕ)
-      (h : IsOfRun (given_of start rights) wanted answer old.kept new.kept) → Wants start command wanted
+      (h : IsOfRun old.may_fail (given_of start rights) wanted answer old.kept new.kept) → Wants start command wanted
       → ReadsText l l' text → Front text (outcome.Bundle start) → IsAcceptedWith start rights → P (given_of start rights) h.moves
       → report ≡ text_by (given_of start rights) wanted h.moves → reply ≡ report → Appends w w' reply → Headline (Some command) P l l' w w'
   headlined P start rights wanted answer text reply report h wants input front accepted events of is all = record {
@@ -154,7 +155,7 @@ module _ (l l' w w' : Option (List ℕ)) (old new : Makers) (command : Command) 
 
   done_headlined : (start : Start) (rights : Rights) (wanted : Wanted) (answer : Replayed) (text reply : List ℕ) → Wants start command wanted → ReadsText l l' text
       → Front text (outcome.Bundle start) → IsAcceptedWith start rights
-      → IsReplayed (given_of start rights) wanted answer old.kept new.kept old.faults new.faults → Ok ≡ status_of answer
+      → IsReplayed old.may_fail (given_of start rights) wanted answer old.kept new.kept old.faults new.faults → Ok ≡ status_of answer
       → reply ≡ text_of answer → Appends w w' reply → Headline (Some command) (IsWholeFor (Some command)) l l' w w'
   done_headlined start rights wanted (replays.Done report) text reply wants input front accepted (h, n) e is all =
       headlined (IsWholeFor (Some command)) start rights wanted (replays.Done report) text reply report h wants input front accepted
@@ -170,7 +171,7 @@ module _ (l l' w w' : Option (List ℕ)) (old new : Makers) (command : Command) 
 
   fault_headlined : (start : Start) (rights : Rights) (wanted : Wanted) (answer : Replayed) (node : ℕ) (text reply : List ℕ) → Wants start command wanted
       → ReadsText l l' text → Front text (outcome.Bundle start) → IsAcceptedWith start rights
-      → IsReplayed (given_of start rights) wanted answer old.kept new.kept old.faults new.faults → JournalFault node ≡ status_of answer
+      → IsReplayed old.may_fail (given_of start rights) wanted answer old.kept new.kept old.faults new.faults → JournalFault node ≡ status_of answer
       → reply ≡ text_of answer → Appends w w' reply → Keeps w w' ⊎ Headline (Some command) (IsPartFor (Some command) node) l l' w w'
   fault_headlined start rights wanted (replays.Done report) node text reply wants input front accepted h e is all = absurd (cc)
   fault_headlined start rights wanted (replays.NotEnabled event) node text reply wants input front accepted h e is all = absurd (cc)
@@ -204,7 +205,7 @@ module _ (l l' w w' : Option (List ℕ)) (old new : Makers) (command : Command) 
 -- ---- the makers of journals
 
 -- with an answer that has bytes, or no journal's fault, they have failed no more often
-unfailed_by : (g : GivenModel) (wanted : Wanted) (answer : Replayed) (old new : Makers) → IsReplayed g wanted answer old.kept new.kept old.faults new.faults
+unfailed_by : (g : GivenModel) (wanted : Wanted) (answer : Replayed) (old new : Makers) → IsReplayed old.may_fail g wanted answer old.kept new.kept old.faults new.faults
     → (text_of answer ≢ []) ⊎ (IsJournalFault (status_of answer) → ⊥) → new.faults ≡ old.faults
 unfailed_by g wanted (replays.Done report) old new h k = h.1
 unfailed_by g wanted (replays.NotEnabled event) old new h k = h.1

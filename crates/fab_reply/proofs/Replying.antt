@@ -13,6 +13,7 @@ use Rattle.fab_language.specs.Faults.{faults, IsFirst}
 use Rattle.fab_language.specs.Flows.{FlowReply, IsFlowReply}
 use Rattle.fab_language.specs.Numbers.{resolved}
 use Rattle.fab_command.specs.declared.command.Command.{Command}
+use Rattle.fab_command.specs.declared.command.Telling.{Telling}
 use Rattle.fab_command.specs.declared.command.Command.TheVariants.{Check, Evaluate, Flows, Format, Replay, Run, View}
 use Rattle.fab_reply.specs.declared.front.Outcome.TheVariants as outcome
 use Rattle.fab_reply.specs.declared.status.Status.{Status}
@@ -229,7 +230,7 @@ module _ {text : List ℕ} {start : Start} (f : IsFront text (outcome.Bundle sta
           go w m s r (unlabelled g k l) = absurd w
           go w m s r (flow g k l n o) = absurd w
           go {u = Report} w m s r (unnamed {names = names} g k l) = absurd w
-          go {u = ByNodes} w m s r (unnamed {names = names} g k l) = absurd w
+          go {u = ByNodes x} w m s r (unnamed {names = names} g k l) = absurd w
           go {u = Viewed nodes seen part} w m s r (unnamed {names = names} g k l) = no_names names (ap (λ z. are_node_names (resolved z) names) (sym (same g)) ∙ l) w.names_are
           go {c} {u} w m s r (replayed {wanted = z} {reply = t} v g k l) = let e = one_replay c z u (replays.Done t) (replays.Done reply) v w g k l m tt tt in (refl, ap text_of e)
           go {c} {u} w m s r (barred {wanted = z} {event = n} v g k l) = let e = one_replay c z u (replays.NotEnabled n) (replays.Done reply) v w g k l m tt tt in (ap status_of e, ap text_of e)
@@ -249,24 +250,24 @@ module _ {text : List ℕ} {start : Start} (f : IsFront text (outcome.Bundle sta
           go w m s r (unlabelled g k l) = absurd w
           go w m s r (flow g k l n o) = absurd w
           go {u = Report} w m s r (unnamed {names = names} g k l) = absurd w
-          go {u = ByNodes} w m s r (unnamed {names = names} g k l) = absurd w
+          go {u = ByNodes x} w m s r (unnamed {names = names} g k l) = absurd w
           go {u = Viewed nodes seen part} w m s r (unnamed {names = names} g k l) = no_names names (ap (λ z. are_node_names (resolved z) names) (sym (same g)) ∙ l) w.names_are
           go {c} {u} w m s r (replayed {wanted = z} {reply = t} v g k l) = let e = one_replay c z u (replays.Done t) (replays.NotEnabled event) v w g k l m tt tt in (ap status_of e, ap text_of e)
           go {c} {u} w m s r (barred {wanted = z} {event = n} v g k l) = let e = one_replay c z u (replays.NotEnabled n) (replays.NotEnabled event) v w g k l m tt tt in (ap status_of e, ap text_of e)
 
   -- a text whose bundle is accepted has no reply for `run`
-  unscheduled : (b : Start) {A : Type 0} (u : Wanted) → Wants b Run u → IsTrue (is_scheduled u) → A
-  unscheduled b ByNodes w e = absurd (cc)
-  unscheduled b Report w e = absurd w
-  unscheduled b (Viewed nodes seen part) w e = absurd w
+  unscheduled : (b : Start) (x : Telling) {A : Type 0} (u : Wanted) → Wants b (Run x) u → IsTrue (is_scheduled u) → A
+  unscheduled b x (ByNodes y) w e = absurd (cc)
+  unscheduled b x Report w e = absurd w
+  unscheduled b x (Viewed nodes seen part) w e = absurd w
 
-  pub no_reply : {A : Type 0} {rights : Rights} → IsAcceptedWith start rights → (s : Status) (r : List ℕ) → Replies (Some Run) text s r → A
-  no_reply accepted s r (syntax {at = b} g) = not_bundle (f.only (outcome.Syntax b) g)
-  no_reply accepted s r (limit {what = b} g) = no_limit (f.only (outcome.Limit b) g)
-  no_reply accepted s r (misnamed c g k) = none_first (ap faults (same g) ∙ accepted.named) k
-  no_reply accepted s r (mislabelled {x = y} c g k l) = none_refused (resolved start) y accepted.labelled (here g l)
-  no_reply accepted s r (replayed {wanted = u} {s = b} w g k l) = unscheduled b u w l.scheduled
-  no_reply accepted s r (barred {wanted = u} {s = b} w g k l) = unscheduled b u w l.scheduled
+  pub no_reply : {A : Type 0} {rights : Rights} (x : Telling) → IsAcceptedWith start rights → (s : Status) (r : List ℕ) → Replies (Some (Run x)) text s r → A
+  no_reply x accepted s r (syntax {at = b} g) = not_bundle (f.only (outcome.Syntax b) g)
+  no_reply x accepted s r (limit {what = b} g) = no_limit (f.only (outcome.Limit b) g)
+  no_reply x accepted s r (misnamed c g k) = none_first (ap faults (same g) ∙ accepted.named) k
+  no_reply x accepted s r (mislabelled {x = y} c g k l) = none_refused (resolved start) y accepted.labelled (here g l)
+  no_reply x accepted s r (replayed {wanted = u} {s = b} w g k l) = unscheduled b x u w l.scheduled
+  no_reply x accepted s r (barred {wanted = u} {s = b} w g k l) = unscheduled b x u w l.scheduled
 
   -- a word of `view` that names no node
   module _ (names : List (List ℕ)) (right : faults start ≡ []) where
@@ -275,7 +276,7 @@ module _ {text : List ℕ} {start : Start} (f : IsFront text (outcome.Bundle sta
       where
         no_wish : {b : Start} {A : Type 0} (u : Wanted) → b ≡ start → Wants b (View names) u → A
         no_wish Report e w = absurd w
-        no_wish ByNodes e w = absurd w
+        no_wish (ByNodes x) e w = absurd w
         no_wish (Viewed nodes seen part) e w = no_names names l (ap (λ z. are_node_names (resolved z) names) (sym e) ∙ w.names_are)
 
         go : (s : Status) (r : List ℕ) → Replies (Some (View names)) text s r → (s ≡ Name rule.Unknown (length text)) × (r ≡ name_line rule.Unknown (length text))
@@ -291,7 +292,7 @@ module _ {text : List ℕ} {start : Start} (f : IsFront text (outcome.Bundle sta
   pub lacking_reply : (c : Command) → faults start ≡ [] → LacksNode start c → IsReply (Some c) text (Name rule.Unknown (length text)) (name_line rule.Unknown (length text))
   lacking_reply (View names) right h = unnamed_reply names right h
   lacking_reply Replay right h = absurd h
-  lacking_reply Run right h = absurd h
+  lacking_reply (Run x) right h = absurd h
   lacking_reply Check right h = absurd h
   lacking_reply Evaluate right h = absurd h
   lacking_reply (Flows a b) right h = absurd h

@@ -112,7 +112,7 @@ can_be_seen s r within right is =
 pub ready_view : (s : Start) (command : Command) (names : List (List ℕ)) (set : ℕ) (program : Resolved) (w : Wanted) → program ≡ resolved s → command ≡ View names → IsSetOf s command set
     → IsViewInto program set w → Wants s command w × ((rights : Rights) → IsAcceptedWith s rights → IsReady (given_of s rights) w)
 ready_view s command names set program Report is of h v = absurd v
-ready_view s command names set program ByNodes is of h v = absurd v
+ready_view s command names set program (ByNodes x) is of h v = absurd v
 ready_view s command names set program (Viewed nodes seen part) is of h v =
     let named : AreNamed s names nodes = subst (AreNamed s names) (sym v.nodes_are) (let k = subst (λ c. IsSetOf s c set) of h in k) in (
       subst (λ c. Wants s c (Viewed nodes seen part)) (sym of) named,

@@ -1,5 +1,5 @@
 -- What a command wants of runs is one text.
-use Rattle.std.proofs.Common.{◌≡◌, ◌≢◌, ℕ, zero, suc, ◌+◌, ◌<◌, ◌≤◌, Bool, IsTrue, not, if◌then◌else◌, List, ◌∷◌, filter, Option, Some, None, refl, sym, ap, ◌∙◌, arith}
+use Rattle.std.proofs.Common.{◌≡◌, ◌≢◌, ℕ, zero, suc, ◌+◌, ◌<◌, ◌≤◌, Bool, IsTrue, not, if◌then◌else◌, List, ◌∷◌, filter, Option, Some, None, refl, sym, ap, subst, ◌∙◌, arith}
 use Rattle.std.specs.List.{range_with_len}
 use Rattle.std.specs.Prelude.{is_some}
 use Rattle.std.proofs.lemmas.List.Sums.{count_by-le-length}
@@ -8,6 +8,7 @@ use Rattle.fab_tree.specs.declared.start.Start.{Start}
 use Rattle.fab_tree.specs.declared.resolved.Resolved.{Resolved}
 use Rattle.fab_language.specs.Numbers.{resolved}
 use Rattle.fab_command.specs.declared.command.Command.{Command}
+use Rattle.fab_command.specs.declared.command.Telling.{Telling}
 use Rattle.fab_command.specs.declared.command.Command.TheVariants.{Check, Evaluate, Flows, Format, Replay, Run, View}
 use Rattle.fab_listing.specs.Listing.{listing, node_count, nodes_where, sent_text}
 use Rattle.fab_places.specs.declared.masks.Seen.{Seen}
@@ -20,7 +21,7 @@ use Rattle.fab_replay.specs.declared.replayed.Replayed.{Replayed}
 use Rattle.fab_replay.specs.declared.replayed.Replayed.TheVariants as r
 use Rattle.fab_replay.specs.declared.replayed.Wanted.{Wanted}
 use Rattle.fab_replay.specs.declared.replayed.Wanted.TheVariants.{Report, Run as ByNodes, View as Viewed}
-use Rattle.fab_replay.specs.Replays.{HasNoFault, IsFaulty, IsWhole, Tells, is_scheduled, text_of}
+use Rattle.fab_replay.specs.Replays.{HasNoFault, IsFaulty, IsWhole, Tells, is_scheduled, text_of, told_of}
 use Rattle.fab_replay.proofs.Told.{stopped_by, stopped_of, whole_by, whole_of}
 use Rattle.fab_reply.specs.Headline.{IsPartFor, IsWholeFor}
 use Rattle.fab_reply.specs.Replays.{AreNamed, CanMake, IsSetOf, MakesRuns, Wants, given_of}
@@ -49,22 +50,22 @@ few_nodes s rights accepted =
 pub same_text : (s : Start) (rights : Rights) (c : Command) (u w : Wanted) → IsAcceptedWith s rights → Wants s c u → Wants s c w
     → (moves : List Move) → text_of (given_of s rights) u moves ≡ text_of (given_of s rights) w moves
 same_text s rights Replay Report Report accepted h k moves = refl
-same_text s rights Run ByNodes ByNodes accepted h k moves = refl
+same_text s rights (Run x) (ByNodes y) (ByNodes z) accepted h k moves = ap (λ v. told_of v (given_of s rights) moves) (h ∙ sym k)
 same_text s rights (View names) (Viewed m seen part) (Viewed n other known) accepted h k moves =
     let few = few_nodes s rights accepted in
     listed_alike (resolved s) (has_bit m) (has_bit n) _ (λ i l. h.nodes_are i (omega (arith, l, few)) ∙ sym (k.nodes_are i (omega (arith, l, few))))
-same_text s rights Replay ByNodes w accepted h k moves = absurd h
+same_text s rights Replay (ByNodes y) w accepted h k moves = absurd h
 same_text s rights Replay (Viewed m seen part) w accepted h k moves = absurd h
-same_text s rights Replay Report ByNodes accepted h k moves = absurd k
+same_text s rights Replay Report (ByNodes z) accepted h k moves = absurd k
 same_text s rights Replay Report (Viewed n seen part) accepted h k moves = absurd k
-same_text s rights Run Report w accepted h k moves = absurd h
-same_text s rights Run (Viewed m seen part) w accepted h k moves = absurd h
-same_text s rights Run ByNodes Report accepted h k moves = absurd k
-same_text s rights Run ByNodes (Viewed n seen part) accepted h k moves = absurd k
+same_text s rights (Run x) Report w accepted h k moves = absurd h
+same_text s rights (Run x) (Viewed m seen part) w accepted h k moves = absurd h
+same_text s rights (Run x) (ByNodes y) Report accepted h k moves = absurd k
+same_text s rights (Run x) (ByNodes y) (Viewed n seen part) accepted h k moves = absurd k
 same_text s rights (View names) Report w accepted h k moves = absurd h
-same_text s rights (View names) ByNodes w accepted h k moves = absurd h
+same_text s rights (View names) (ByNodes y) w accepted h k moves = absurd h
 same_text s rights (View names) (Viewed m seen part) Report accepted h k moves = absurd k
-same_text s rights (View names) (Viewed m seen part) ByNodes accepted h k moves = absurd k
+same_text s rights (View names) (Viewed m seen part) (ByNodes z) accepted h k moves = absurd k
 same_text s rights Check u w accepted h k moves = absurd h
 same_text s rights Evaluate u w accepted h k moves = absurd h
 same_text s rights (Flows a b) u w accepted h k moves = absurd h
@@ -80,18 +81,18 @@ tells_alike g u w moves (r.JournalFault node report) noted p q e h = absurd note
 -- ---- what a command that makes a run asks for
 
 -- what is so of each command with what it wants
-pub wished : {s : Start} (P : Command → Wanted → Type 0) → P Replay Report → P Run ByNodes
+pub wished : {s : Start} (P : Command → Wanted → Type 0) → P Replay Report → ((x : Telling) → P (Run x) (ByNodes x))
     → ((names : List (List ℕ)) (nodes : ℕ) (seen : Seen) (part : Resolved) → AreNamed s names nodes → P (View names) (Viewed nodes seen part))
     → (c : Command) (u : Wanted) → Wants s c u → P c u
 wished P replay run view Replay Report h = replay
-wished P replay run view Run ByNodes h = run
+wished P replay run view (Run x) (ByNodes y) h = subst (λ z. P (Run x) (ByNodes z)) (sym h) (run x)
 wished P replay run view (View names) (Viewed nodes seen part) h = view names nodes seen part h
-wished P replay run view Replay ByNodes h = absurd h
+wished P replay run view Replay (ByNodes y) h = absurd h
 wished P replay run view Replay (Viewed nodes seen part) h = absurd h
-wished P replay run view Run Report h = absurd h
-wished P replay run view Run (Viewed nodes seen part) h = absurd h
+wished P replay run view (Run x) Report h = absurd h
+wished P replay run view (Run x) (Viewed nodes seen part) h = absurd h
 wished P replay run view (View names) Report h = absurd h
-wished P replay run view (View names) ByNodes h = absurd h
+wished P replay run view (View names) (ByNodes y) h = absurd h
 wished P replay run view Check u h = absurd h
 wished P replay run view Evaluate u h = absurd h
 wished P replay run view (Flows a b) u h = absurd h
@@ -99,12 +100,12 @@ wished P replay run view Format u h = absurd h
 
 -- it makes runs
 pub runs_by : (s : Start) (c : Command) (u : Wanted) → Wants s c u → MakesRuns (Some c)
-runs_by s c u h = wished (λ d v. MakesRuns (Some d)) tt tt (λ names nodes seen part named. tt) c u h
+runs_by s c u h = wished (λ d v. MakesRuns (Some d)) tt (λ x. tt) (λ names nodes seen part named. tt) c u h
 
 -- without `run` all that is wanted is of the schedule's run
-pub by_hand : (asked : Option Command) → asked ≢ Some Run → CanMake is_scheduled asked
+pub by_hand : (asked : Option Command) → ((x : Telling) → asked ≢ Some (Run x)) → CanMake is_scheduled asked
 by_hand None other = tt
-by_hand (Some c) other = λ s u h. wished (λ d v. Some d ≢ Some Run → IsTrue (is_scheduled v)) (λ k. refl) (λ k. absurd (k refl)) (λ names nodes seen part named k. refl) c u h other
+by_hand (Some c) other = λ s u h. wished (λ d v. ((x : Telling) → Some d ≢ Some (Run x)) → IsTrue (is_scheduled v)) (λ k. refl) (λ x k. absurd (k x refl)) (λ names nodes seen part named k. refl) c u h other
 
 -- who makes all runs makes what is wanted
 pub by_all : (makes : Wanted → Bool) (asked : Option Command) → ((u : Wanted) → IsTrue (makes u)) → CanMake makes asked
@@ -113,14 +114,14 @@ by_all makes (Some c) all = λ s u h. all u
 
 -- and those that are wanted are of the kind that it asks for
 pub whole_for : (s : Start) (g : GivenModel) (moves : List Move) (c : Command) (u : Wanted) → Wants s c u → IsWhole g u moves → IsWholeFor (Some c) g moves
-whole_for s g moves c u h = wished (λ d v. IsWhole g v moves → IsWholeFor (Some d) g moves) (λ k. k) (λ k. k) (λ names nodes seen part named k. k) c u h
+whole_for s g moves c u h = wished (λ d v. IsWhole g v moves → IsWholeFor (Some d) g moves) (λ k. k) (λ x k. k) (λ names nodes seen part named k. k) c u h
 
 pub part_for : (s : Start) (g : GivenModel) (moves : List Move) (node : ℕ) (c : Command) (u : Wanted) → Wants s c u → IsFaulty g u moves node → IsPartFor (Some c) node g moves
-part_for s g moves node c u h = wished (λ d v. IsFaulty g v moves node → IsPartFor (Some d) node g moves) (λ k. k) (λ k. k) (λ names nodes seen part named k. k) c u h
+part_for s g moves node c u h = wished (λ d v. IsFaulty g v moves node → IsPartFor (Some d) node g moves) (λ k. k) (λ x k. k) (λ names nodes seen part named k. k) c u h
 
 pub asks_names : (c : Command) → MakesRuns (Some c) → AsksNames c
 asks_names Replay h = tt
-asks_names Run h = tt
+asks_names (Run x) h = tt
 asks_names (View names) h = tt
 asks_names Check h = tt
 asks_names Evaluate h = tt
@@ -129,7 +130,7 @@ asks_names Format h = absurd h
 
 pub asks_labels : (s : Start) (c : Command) (set : ℕ) → MakesRuns (Some c) → IsSetOf s c set → AsksLabels c s
 asks_labels s Replay set runs h = tt
-asks_labels s Run set runs h = tt
+asks_labels s (Run x) set runs h = tt
 asks_labels s (View names) set runs h = h.names_are
 asks_labels s Check set runs h = absurd runs
 asks_labels s Evaluate set runs h = absurd runs

@@ -22,9 +22,9 @@ place_among (t ∷ ts) end = t.at
 abbrev pub IsTooLong : List ℕ → Type 0
 IsTooLong text = limit_of Bytes < length text
 
--- Front text outcome: a text is refused for its length, then by what comes first in it, a place that no text of the
--- language has or a bracket too deep, and then for the first limit that its bundle passes. Else it comes to its
--- bundle.
+-- Front text outcome: a text is refused for its length; then at the first place from which its bytes can't be cut into
+-- tokens, whatever stands before it, else by what comes first of a token with which it begins no text of the language and
+-- a bracket too deep; and then for the first limit that its bundle passes. Else it comes to its bundle.
 pub data Front (text : List ℕ) : Outcome → Type 0 where
   too_long : IsTooLong text → Front text (Limit Bytes)
   uncut : {at : ℕ} → length text ≤ limit_of Bytes → IsUncut text at → Front text (Syntax at)

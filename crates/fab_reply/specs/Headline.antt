@@ -30,13 +30,13 @@ IsOfFault node g moves = StopsIn g moves node
 -- The run of which a command's whole text tells: the schedule's. Of `run` it is one that the nodes made by themselves, which keeps the crash lines,
 -- behind which nothing is due, and in which no journal failed.
 abbrev pub IsWholeFor : Option Command → GivenModel → List Move → Type 0
-IsWholeFor (Some Run) g moves = IsRunOver g moves × (first_mark moves ≡ None)
+IsWholeFor (Some (Run x)) g moves = IsRunOver g moves × (first_mark moves ≡ None)
 IsWholeFor _ g moves = IsOfSchedule g moves
 
 -- The run of which it tells where this node's journal failed: the schedule's up to there. Of `run` it is such a run, too, to its end, in which this
 -- node's is the first journal that failed.
 abbrev pub IsPartFor : Option Command → ℕ → GivenModel → List Move → Type 0
-IsPartFor (Some Run) node g moves = IsRunOver g moves × (first_mark moves ≡ Some node)
+IsPartFor (Some (Run x)) node g moves = IsRunOver g moves × (first_mark moves ≡ Some node)
 IsPartFor _ node g moves = IsOfFault node g moves
 
 -- A text was read that spells an accepted bundle, and what was written is the text that the command wants of one run from its start, of which P

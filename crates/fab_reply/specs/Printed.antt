@@ -5,6 +5,7 @@ use Rattle.fab_language.specs.Numbers.{resolved}
 use Rattle.fab_world.specs.Machine.{Move}
 use Rattle.fab_node.specs.Standing.{GivenModel}
 use Rattle.fab_command.specs.declared.command.Command.{Command}
+use Rattle.fab_command.specs.declared.command.Telling.TheVariants as telling
 use Rattle.fab_command.specs.declared.command.Command.TheVariants.{Replay, Run}
 use Rattle.fab_reports.specs.Reports.{IsReport}
 use Rattle.fab_shown.specs.Shown.{lines_of, report_of}
@@ -21,5 +22,5 @@ AreReadBackOf command P =
 pub record AreReadBack : Type 0 where
   pub whole : AreReadBackOf Replay IsOfSchedule
   pub in_part : (node : ℕ) → AreReadBackOf Replay (IsOfFault node)
-  pub ran : AreReadBackOf Run (IsWholeFor (Some Run))
-  pub ran_on : (node : ℕ) → AreReadBackOf Run (IsPartFor (Some Run) node)
+  pub ran : AreReadBackOf (Run telling.Report) (IsWholeFor (Some (Run telling.Report)))
+  pub ran_on : (node : ℕ) → AreReadBackOf (Run telling.Report) (IsPartFor (Some (Run telling.Report)) node)

@@ -12,6 +12,7 @@ use Rattle.fab_node.specs.Standing.{GivenModel}
 use Rattle.fab_core.specs.Cores.{setting}
 use Rattle.fab_core.specs.Starts.{given_by}
 use Rattle.fab_command.specs.declared.command.Command.{Command}
+use Rattle.fab_command.specs.declared.command.Telling.{Telling}
 use Rattle.fab_command.specs.declared.command.Command.TheVariants.{Check, Evaluate, Flows, Format, Replay, Run, View}
 use Rattle.fab_listing.specs.Named.{are_node_names, is_named}
 use Rattle.fab_replay.specs.declared.replayed.Replayed.{Replayed}
@@ -30,28 +31,28 @@ pub record ReplaysTo (s : Start) (rights : Rights) (wanted : Wanted) (answer : R
   pub told : Tells (given_of s rights) wanted moves answer
   pub scheduled : IsTrue (is_scheduled wanted)
 
--- there are moves of a run that the bundle's nodes make by themselves of which the answer tells
-pub record RunsTo (s : Start) (rights : Rights) (answer : Replayed) : Type 0 where
+-- there are moves of a run that the bundle's nodes make by themselves of which the answer tells so
+pub record RunsTo (s : Start) (rights : Rights) (x : Telling) (answer : Replayed) : Type 0 where
   pub moves : List Move
   pub run : IsRun (setting (given_of s rights)) moves
-  pub told : Tells (given_of s rights) ByNodes moves answer
+  pub told : Tells (given_of s rights) (ByNodes x) moves answer
 
 -- the words are names of nodes, and these are those nodes and the hostile ones
 pub record AreNamed (s : Start) (names : List (List ℕ)) (nodes : ℕ) : Type 0 where
   pub names_are : are_node_names (resolved s) names ≡ true
   pub nodes_are : (n : ℕ) → n < 64 → has_bit nodes n ≡ (is_named (resolved s) names n || is_hostile_node (resolved s) n)
 
--- what a command wants: `replay` the report of the schedule's run, `run` that of a run that the nodes make by themselves, and `view` what was sent
+-- what a command wants: `replay` the report of the schedule's run, `run` what it tells of a run that the nodes make by themselves, and `view` what was sent
 -- in the schedule's run into the set of the nodes that it names and of the hostile ones
 abbrev pub Wants : Start → Command → Wanted → Type 0
 Wants s Replay Report = Unit {0}
-Wants s Replay ByNodes = ⊥
+Wants s Replay (ByNodes x) = ⊥
 Wants s Replay (Viewed nodes seen part) = ⊥
-Wants s Run Report = ⊥
-Wants s Run ByNodes = Unit {0}
-Wants s Run (Viewed nodes seen part) = ⊥
+Wants s (Run x) Report = ⊥
+Wants s (Run x) (ByNodes y) = y ≡ x
+Wants s (Run x) (Viewed nodes seen part) = ⊥
 Wants s (View names) Report = ⊥
-Wants s (View names) ByNodes = ⊥
+Wants s (View names) (ByNodes x) = ⊥
 Wants s (View names) (Viewed nodes seen part) = AreNamed s names nodes
 Wants s Check wanted = ⊥
 Wants s Evaluate wanted = ⊥
@@ -76,7 +77,7 @@ LacksNode s _ = ⊥
 -- `replay`, `run` and `view` make runs
 abbrev pub MakesRuns : Option Command → Type 0
 MakesRuns (Some Replay) = Unit {0}
-MakesRuns (Some Run) = Unit {0}
+MakesRuns (Some (Run x)) = Unit {0}
 MakesRuns (Some (View names)) = Unit {0}
 MakesRuns _ = ⊥
 

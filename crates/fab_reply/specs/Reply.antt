@@ -40,6 +40,7 @@ use Rattle.fab_replay.specs.Kept.{IsCutShort, IsReplayed, IsPossible}
 use Rattle.fab_reply.specs.declared.status.Status.{Status}
 use Rattle.fab_reply.specs.declared.status.Status.TheVariants.{Ok, Usage, ReadFault, WriteFault, Memory, Syntax, Name, Label as Labelled, Limit, NotEnabled, JournalFault}
 use Rattle.fab_command.specs.declared.command.Command.{Command}
+use Rattle.fab_command.specs.declared.command.Telling.{Telling}
 use Rattle.fab_command.specs.declared.command.Command.TheVariants.{Check, Evaluate, Flows, Format, Replay, Run, View}
 
 -- a line of a text
@@ -107,7 +108,7 @@ abbrev pub AsksNames : Command → Type 0
 AsksNames Check = Unit {0}
 AsksNames Evaluate = Unit {0}
 AsksNames Replay = Unit {0}
-AsksNames Run = Unit {0}
+AsksNames (Run x) = Unit {0}
 AsksNames (View names) = Unit {0}
 AsksNames (Flows a b) = Unit {0}
 AsksNames Format = ⊥
@@ -117,7 +118,7 @@ abbrev pub AsksLabels : Command → Start → Type 0
 AsksLabels Check s = Unit {0}
 AsksLabels Evaluate s = Unit {0}
 AsksLabels Replay s = Unit {0}
-AsksLabels Run s = Unit {0}
+AsksLabels (Run x) s = Unit {0}
 AsksLabels (View names) s = are_node_names (resolved s) names ≡ true
 AsksLabels (Flows a b) s = ⊥
 AsksLabels Format s = ⊥
@@ -180,14 +181,14 @@ pub data Interrupted : Option Command → List ℕ → Status → List ℕ → T
       → Wants s command wanted → Front text (outcome.Bundle s) → IsAcceptedWith s rights → IsTrue (is_honest (given_of s rights) node)
       → Interrupted (Some command) text (JournalFault node) []
 
--- Ran command text status written: the report of a run that the nodes of the text's bundle make by themselves. A text may have many of them, so
+-- Ran command text status written: what is to be told of a run that the nodes of the text's bundle make by themselves. A text may have many of them, so
 -- it is no reply. Where a node's journal failed in it, the others went on, and this is the first.
 pub data Ran : Option Command → List ℕ → Status → List ℕ → Type 0 where
-  sound : {text reply : List ℕ} {s : Start} {rights : Rights}
-      → IsFront text (outcome.Bundle s) → IsAcceptedWith s rights → RunsTo s rights (replays.Done reply) → Ran (Some Run) text Ok reply
-  faulty : {text reply : List ℕ} {s : Start} {rights : Rights} {node : ℕ}
-      → IsFront text (outcome.Bundle s) → IsAcceptedWith s rights → RunsTo s rights (replays.JournalFault node (Some reply))
-      → Ran (Some Run) text (JournalFault node) reply
+  sound : {x : Telling} {text reply : List ℕ} {s : Start} {rights : Rights}
+      → IsFront text (outcome.Bundle s) → IsAcceptedWith s rights → RunsTo s rights x (replays.Done reply) → Ran (Some (Run x)) text Ok reply
+  faulty : {x : Telling} {text reply : List ℕ} {s : Start} {rights : Rights} {node : ℕ}
+      → IsFront text (outcome.Bundle s) → IsAcceptedWith s rights → RunsTo s rights x (replays.JournalFault node (Some reply))
+      → Ran (Some (Run x)) text (JournalFault node) reply
 
 -- a text of which something is asked comes to one outcome
 abbrev pub HasOutcome : Option Command → List ℕ → Type 0
@@ -200,7 +201,7 @@ pub record IsReply (command : Option Command) (text : List ℕ) (status : Status
   pub only : (s : Status) (r : List ℕ) → Replies command text s r → (s ≡ status) × (r ≡ reply)
   pub front : HasOutcome command text
 
--- what comes of a text: its one reply, unless a journal failed; or the report of a run
+-- what comes of a text: its one reply, unless a journal failed; or what is to be told of a run
 pub data Answers (command : Option Command) (text : List ℕ) (status : Status) (reply : List ℕ) : Type 0 where
   one_reply : IsReply command text status reply → Answers command text status reply
   interrupted : Interrupted command text status reply → Answers command text status reply
@@ -231,7 +232,7 @@ pub record IsReplay (command : Command) (text : List ℕ) (old new : Makers) (st
   pub asked : Wants start command wanted
   pub front : Front text (outcome.Bundle start)
   pub accepted : IsAcceptedWith start rights
-  pub is : IsReplayed (given_of start rights) wanted answer old.kept new.kept old.faults new.faults
+  pub is : IsReplayed old.may_fail (given_of start rights) wanted answer old.kept new.kept old.faults new.faults
   pub possible : IsPossible old.may_fail (resolved start) answer
   pub status_is : status ≡ status_of answer
   pub reply_is : reply ≡ text_of answer
@@ -245,7 +246,7 @@ AreLeft command text old new status reply = new ≡ old
 
 abbrev pub JournalsAre : Option Command → List ℕ → Makers → Makers → Status → List ℕ → Type 0
 JournalsAre (Some Replay) text old new status reply = AreLeft Replay text old new status reply
-JournalsAre (Some Run) text old new status reply = AreLeft Run text old new status reply
+JournalsAre (Some (Run x)) text old new status reply = AreLeft (Run x) text old new status reply
 JournalsAre (Some (View names)) text old new status reply = AreLeft (View names) text old new status reply
 JournalsAre command text old new status reply = new ≡ old
 
@@ -332,7 +333,7 @@ IsNoRefusal _ = ⊥
 -- where `run` is asked of a text that has an accepted bundle, it isn't refused
 abbrev pub IsComplete : Option Command → Status → List ℕ → Type 0
 IsComplete command status text =
-    (s : Start) (rights : Rights) → command ≡ Some Run → Front text (outcome.Bundle s) → IsAcceptedWith s rights → IsNoRefusal status
+    (s : Start) (rights : Rights) (x : Telling) → command ≡ Some (Run x) → Front text (outcome.Bundle s) → IsAcceptedWith s rights → IsNoRefusal status
 
 -- this status and the whole reply, or memory ran out, or the sink or a journal failed
 abbrev pub ComesTo : Status → Status → Option (List ℕ) → Option (List ℕ) → List ℕ → Type 0

@@ -167,7 +167,7 @@ fn wanted_of(alloc: Global, start: &Start, command: &Command, set: u64) -> Resul
             Ok(program) => view_into(alloc, program, set),
             Err(_) => unreachable!(),
         },
-        Command::Run => Ok(Wanted::Run),
+        Command::Run(telling) => Ok(Wanted::Run(*telling)),
         _ => Ok(Wanted::Report),
     }
 }

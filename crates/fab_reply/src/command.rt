@@ -26,7 +26,7 @@ use fab_replay::Course;
 use std::alloc::Global;
 
 /// What a command replies to a text.
-fn replied<C: Course<Core<M::Item>>, M: Journals>(
+pub(crate) fn replied<C: Course<Core<M::Item>>, M: Journals>(
     alloc: Global,
     course: &C,
     command: &Command,
@@ -60,7 +60,7 @@ fn replied<C: Course<Core<M::Item>>, M: Journals>(
             Command::Evaluate => evaluate(alloc, text, &start),
             Command::Flows { from, to } => flows(alloc, text, &start, from, to),
             Command::Format => format(alloc, text, &start),
-            Command::Replay | Command::Run | Command::View { .. } => {
+            Command::Replay | Command::Run(_) | Command::View { .. } => {
                 replayed(alloc, course, text, &start, command, journals)
             }
         },
@@ -150,7 +150,7 @@ fn run<C: Course<Core<M::Item>>, S: Source, K: Sink, M: Journals>(
 /// `check` asks whether the bundle that the source has keeps the rules of labels, `eval` for its
 /// evaluation, `flows A B` whether its label A
 /// flows to its label B, with the reasons, `fmt` for its canonical text, `replay` for the report of its
-/// schedule's run, `run` for that of a run that its nodes make by themselves, and `view NODE ..` for what was
+/// schedule's run, `run` for that, or the summary, of a run that its nodes make by themselves, and `view NODE ..` for what was
 /// sent in the schedule's run into the set of these nodes and the hostile ones, by those outside it. A text has
 /// at most 4,194,304 bytes. Of what the source has left, what the sink holds and which journals were kept, the
 /// clauses speak where these tell it.
@@ -214,7 +214,7 @@ pub fn answer<C: Course<Core<M::Item>>, S: Source, K: Sink, M: Journals>(
     ensures sink_unfailed { result ≢ WriteFault → K.faults sink.new ≡ K.faults sink.old }
 
     // With `Ok` of a command that makes a run, and where a journal failed in its run, the text that it wants of that
-    // run was written, for `replay` and `run` the report, and the headline holds of the run, integrity and isolation.
+    // run was written, for `replay` the report and for `run` what it tells, and the headline holds of the run, integrity and isolation.
     // Where a journal failed before there was a run, nothing was written.
     ensures headline { MakesRuns asked → result ≡ Done → Headline asked (IsWholeFor asked) (S.left source.old) (S.left source.new) (K.written sink.old) (K.written sink.new) }
     ensures headline_of_a_part { (node : ℕ) → result ≡ JournalFault node

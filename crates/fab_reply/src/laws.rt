@@ -10,8 +10,8 @@ pub fn calls_are_isolated_alike()
     ensures { AreCallsAlike }
 {}
 
-/// What a replay writes of its run, whole or up to the event in which a journal failed, is the report of the
-/// lines that the run shows.
+/// The report that `replay` writes of its run, whole or up to the event in which a journal failed, and the one that
+/// `run` writes of a run that nodes made by themselves, is the report of the lines that the run shows.
 pub fn written_reports_are_read_back()
     ensures { AreReadBack }
 {}

@@ -3,6 +3,7 @@
 
 mod accepted;
 mod answers;
+mod at_hand;
 mod command;
 mod front;
 mod laws;
@@ -11,6 +12,8 @@ mod reading;
 mod status;
 mod writing;
 
+pub use at_hand::answer_text;
 pub use command::answer;
 pub use laws::{calls_are_isolated_alike, written_reports_are_read_back};
 pub use status::Status;
+pub use writing::write_all;

@@ -9,25 +9,11 @@ use fab_core::Core;
 use fab_device::Journal;
 use fab_exchange::Exchange;
 use fab_gates::Gate;
-use fab_listing::hostile_nodes;
+use fab_replay::honest_nodes;
 use fab_threads::run_threads;
 use std::alloc::Global;
 use std::sync::Wait;
 use std::thread::Threads;
-
-/// The numbers of the nodes that aren't hostile.
-fn honest_nodes<J: Journal>(alloc: Global, core: &Core<J>) -> Result<Vec<u16>, NoMemory> {
-    let hostile = hostile_nodes(core.start());
-    let rights = core.rights();
-    let mut nodes = Vec::new(alloc);
-    for node in 0..64_u16 {
-        let is_node = rights.is_worker(node) || rights.is_store(node);
-        if is_node && hostile >> node & 1 == 0 {
-            nodes.push(node)?;
-        }
-    }
-    Ok(nodes)
-}
 
 /// The run that nodes make by themselves from a start at which no journal has failed: a thread for each that
 /// isn't hostile, with the gate around each evaluation. It goes on until nothing is due.
@@ -41,7 +27,7 @@ pub fn by_threads<J: Journal + Drop + Send, R: Threads + Wait + Sync, G: Gate + 
     requires unfailed { (n : ℕ) → faults_in (slot core.journals n) ≡ 0 }
     ensures { IfOk result (HasRun core) }
 {
-    let nodes = honest_nodes(alloc, &core)?;
+    let nodes = honest_nodes(alloc, core.start(), core.rights())?;
     let exchange = Exchange::make(alloc, core)?;
     let finished = run_threads(rt, alloc, exchange, nodes.as_slice(), gate)?;
     finished.exchange.marks();

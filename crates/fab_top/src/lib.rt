@@ -2,6 +2,7 @@
 #![tactic(auto)]
 
 mod command;
+mod tasks;
 
 pub use command::{fab, plain};
 pub use fab_reply::Status;

@@ -1,5 +1,5 @@
 -- What words ask for, by what `clap` finds in them.
-use Rattle.std.proofs.Common.{◌≡◌, ◌∙◌, ◌||◌, ◌&&◌, ◌⊎◌, inl, inr, Bool, true, false, refl, sym, ap, subst, map, List, [], ◌∷◌, None, eqb-true, String, string_bytes, codes, length, nat_le, ◌==◌}
+use Rattle.std.proofs.Common.{◌≡◌, ◌∙◌, ◌||◌, ◌&&◌, ◌⊎◌, inl, inr, Bool, true, false, refl, sym, ap, subst, map, List, [], ◌∷◌, ℕ, Option, Some, None, eqb-true, String, string_bytes, codes, length, nat_le, ◌==◌}
 use Rattle.std.specs.List.{list_all, list_any}
 use Rattle.std.specs.Str.{bytes_eq}
 use Rattle.std.specs.declared.alloc.Global.{Global}
@@ -7,8 +7,10 @@ use Rattle.std.proofs.lemmas.Bool.{cases_Bool}
 use Rattle.clap.specs.Words.{Text, matches_of, takes}
 use Rattle.clap.proofs.WalkLemmas.{list_any-map}
 use Rattle.fab_words.specs.Names.{is_name_word}
-use Rattle.fab_words.specs.Words.{asked, asked_by, command_among, command_of, command_with, view_of}
+use Rattle.fab_words.specs.Numbers.{number_of, numbers_of, paired}
+use Rattle.fab_words.specs.Words.{asked, asked_by, command_among, command_asked, command_of, command_with, view_of}
 use Rattle.fab_words.specs.Line.{asked_in, begins_with_dash, command_line}
+use Rattle.fab_words.proofs.Decimals.{dashed_number}
 use Rattle.fab_words.proofs.Taken.{found_rows, rows_for, words_taken}
 
 -- ---- a word that begins with `-` is no command and no name
@@ -82,10 +84,51 @@ behind_view (b ∷ bs) operands v e = elim (cases_Bool (b == 45)) [
   | inr other ↦ rw other at e
 ]
 
-nothing_asked : (word : Text) (operands : List Text) → list_any begins_with_dash (word ∷ operands) ≡ true → asked (word ∷ operands) ≡ None
-nothing_asked word operands e = elim (cases_Bool (bytes_eq word (codes "view"))) [
+no_command_asked : (word : Text) (operands : List Text) → list_any begins_with_dash (word ∷ operands) ≡ true → command_asked word operands ≡ None
+no_command_asked word operands e = elim (cases_Bool (bytes_eq word (codes "view"))) [
   | inl view ↦ rw view (no_view operands (behind_view word operands view e))
   | inr other ↦ rw other (not_among word operands e)
+]
+
+-- one of the words is no number
+no_pair : (number : Option ℕ) → paired number None ≡ None
+no_pair None = refl
+no_pair (Some n) = refl
+
+no_numbers : (words : List Text) → list_any begins_with_dash words ≡ true → numbers_of words ≡ None
+no_numbers [] e = cc
+no_numbers (n ∷ []) e = refl
+no_numbers (n ∷ s ∷ []) e = elim (either (begins_with_dash n) (begins_with_dash s || false) e) [
+  | inl first ↦ rw (dashed_number n first) refl
+  | inr rest ↦ elim (either (begins_with_dash s) false rest) [
+    | inl second ↦ rw (dashed_number s second) (no_pair (number_of n))
+    | inr never ↦ absurd (cc)
+  ]
+]
+no_numbers (n ∷ s ∷ w ∷ ws) e = refl
+
+-- a word that is another one doesn't begin with a dash
+behind_word : (word : Text) (operands : List Text) → (begins_with_dash word ≡ true → ⊥) → list_any begins_with_dash (word ∷ operands) ≡ true → list_any begins_with_dash operands ≡ true
+behind_word word operands none e = elim (either (begins_with_dash word) (list_any begins_with_dash operands) e) [
+  | inl dash ↦ absurd (none dash)
+  | inr later ↦ later
+]
+
+is_gen : (word : Text) → bytes_eq word (codes "gen") ≡ true → begins_with_dash word ≡ true → ⊥
+is_gen [] is e = cc
+is_gen (b ∷ bs) is e = let no : bytes_eq (45 ∷ bs) (codes "gen") ≡ true = subst (λ x. bytes_eq (x ∷ bs) (codes "gen") ≡ true) (eqb-true b 45 e) is in cc
+
+is_drill : (word : Text) → bytes_eq word (codes "drill") ≡ true → begins_with_dash word ≡ true → ⊥
+is_drill [] is e = cc
+is_drill (b ∷ bs) is e = let no : bytes_eq (45 ∷ bs) (codes "drill") ≡ true = subst (λ x. bytes_eq (x ∷ bs) (codes "drill") ≡ true) (eqb-true b 45 e) is in cc
+
+nothing_asked : (word : Text) (operands : List Text) → list_any begins_with_dash (word ∷ operands) ≡ true → asked (word ∷ operands) ≡ None
+nothing_asked word operands e = elim (cases_Bool (bytes_eq word (codes "gen"))) [
+  | inl gen ↦ rw (gen, no_numbers operands (behind_word word operands (is_gen word gen) e)) refl
+  | inr other ↦ elim (cases_Bool (bytes_eq word (codes "drill"))) [
+    | inl drill ↦ rw (other, drill, no_numbers operands (behind_word word operands (is_drill word drill) e)) refl
+    | inr last ↦ rw (other, last, no_command_asked word operands e) refl
+  ]
 ]
 
 pub dashed : (words : List (String Global)) → have_dash words ≡ true → asked_by words ≡ None

@@ -1,5 +1,7 @@
 mod Answering
+mod Decimals
 mod Examples
 mod Found
 mod NameLemmas
+pub mod Sizes
 mod Taken

@@ -1,11 +1,15 @@
 -- What words ask for.
-use Rattle.std.specs.Prelude.{ℕ, ◌&&◌, nat_le, List, [], ◌∷◌, length, map, Option, Some, None, if◌then◌else◌, codes, String, string_bytes}
+use Rattle.std.specs.Prelude.{ℕ, ◌&&◌, nat_le, List, [], ◌∷◌, length, map, Option, Some, None, if◌then◌else◌, option_map, codes, String, string_bytes}
 use Rattle.std.specs.List.{list_all}
 use Rattle.std.specs.Str.{bytes_eq}
 use Rattle.std.specs.declared.alloc.Global.{Global}
 use Rattle.fab_command.specs.declared.command.Command.{Command}
 use Rattle.fab_command.specs.declared.command.Command.TheVariants.{Check, Evaluate, Flows, Format, Replay, Run, View}
+use Rattle.fab_command.specs.declared.command.Telling.TheVariants.{Report}
+use Rattle.fab_command.specs.declared.task.Task.{Task}
+use Rattle.fab_command.specs.declared.task.Task.TheVariants.{Drill, Generate, Reply}
 use Rattle.fab_words.specs.Names.{is_name_word}
+use Rattle.fab_words.specs.Numbers.{numbers_of}
 
 -- the command of one word
 abbrev pub command_of : List ℕ → Option Command
@@ -14,7 +18,7 @@ command_of word =
     else (if bytes_eq word (codes "eval") then Some Evaluate
     else (if bytes_eq word (codes "fmt") then Some Format
     else (if bytes_eq word (codes "replay") then Some Replay
-    else (if bytes_eq word (codes "run") then Some Run else None))))
+    else (if bytes_eq word (codes "run") then Some (Run Report) else None))))
 
 -- the command of a word and two operands, which are names
 abbrev pub command_with : List ℕ → List ℕ → List ℕ → Option Command
@@ -31,11 +35,18 @@ command_among word (operand ∷ []) = None
 command_among word (from ∷ to ∷ []) = command_with word from to
 command_among word (from ∷ to ∷ other ∷ others) = None
 
--- the command of words: the command's own, and its operands
-abbrev pub asked : List (List ℕ) → Option Command
-asked [] = None
-asked (word ∷ operands) = if bytes_eq word (codes "view") then view_of operands else command_among word operands
+-- the command of a word and its operands
+abbrev pub command_asked : List ℕ → List (List ℕ) → Option Command
+command_asked word operands = if bytes_eq word (codes "view") then view_of operands else command_among word operands
 
--- the words of a command line ask for this command, or for nothing
-abbrev pub asked_by : List (String Global) → Option Command
+-- what words ask for: the first tells what, and the others are its operands
+abbrev pub asked : List (List ℕ) → Option Task
+asked [] = None
+asked (word ∷ operands) =
+    if bytes_eq word (codes "gen") then option_map (λ x. Generate x.0 x.1) (numbers_of operands)
+    else (if bytes_eq word (codes "drill") then option_map (λ x. Drill x.0 x.1) (numbers_of operands)
+    else option_map Reply (command_asked word operands))
+
+-- the words of a command line ask for this, or for nothing
+abbrev pub asked_by : List (String Global) → Option Task
 asked_by words = asked (map string_bytes words)

@@ -1,16 +1,18 @@
-//! The command that words ask for.
+//! What words ask for.
 ghost use Rattle.std.specs.Prelude.{◌≡◌, ◌∷◌, IfOk, Some, None, if◌then◌else◌, map, string_bytes};
 ghost use Rattle.std.specs.List.{list_all, list_any};
 ghost use Rattle.clap.specs.Words.{app_of, found_of, rows_of};
 ghost use Rattle.fab_words.specs.Names.{is_name_word};
-ghost use Rattle.fab_words.specs.Words.{asked, asked_by, command_among, command_of, command_with, view_of};
+ghost use Rattle.fab_words.specs.Numbers.{IsSized};
+ghost use Rattle.fab_words.specs.Words.{asked, asked_by, command_among, command_asked, command_of, command_with, view_of};
 ghost use Rattle.fab_words.specs.Line.{asked_in, begins_with_dash, command_line};
 
 use crate::names::is_name;
+use crate::numbers::numbers_of;
 use clap::error::ErrorKind;
 use clap::{Arg, ArgAction, ArgMatches};
 use fab_base::{NoMemory, Seq, Text};
-use fab_command::Command;
+use fab_command::{Command, Task, Telling};
 use std::alloc::{AllocError, Global};
 
 /// How many nodes `view` may name.
@@ -29,7 +31,7 @@ fn named(word: &str) -> Option<Command>
     } else if word == "replay" {
         Some(Command::Replay)
     } else if word == "run" {
-        Some(Command::Run)
+        Some(Command::Run(Telling::Report))
     } else {
         None
     }
@@ -88,13 +90,26 @@ fn view_of(alloc: Global, operands: &[&str]) -> Result<Option<Command>, NoMemory
 }
 
 /// The command of a word and its operands.
-fn asked_with(alloc: Global, word: &str, operands: &[&str]) -> Result<Option<Command>, NoMemory>
-    ensures { IfOk result (λ c. c ≡ asked (word.now ∷ map (λ v. v.now) operands.now)) }
+fn commanded(alloc: Global, word: &str, operands: &[&str]) -> Result<Option<Command>, NoMemory>
+    ensures { IfOk result (λ c. c ≡ command_asked word.now (map (λ v. v.now) operands.now)) }
 {
     if word == "view" {
         view_of(alloc, operands)
     } else {
         named_among(alloc, word, operands)
+    }
+}
+
+/// What a word asks for, with its operands.
+fn asked_with(alloc: Global, word: &str, operands: &[&str]) -> Result<Option<Task>, NoMemory>
+    ensures { IfOk result (λ t. t ≡ asked (word.now ∷ map (λ v. v.now) operands.now)) }
+{
+    if word == "gen" {
+        Ok(numbers_of(operands).map(|(number, size)| Task::Generate { number, size }))
+    } else if word == "drill" {
+        Ok(numbers_of(operands).map(|(number, size)| Task::Drill { number, size }))
+    } else {
+        Ok(commanded(alloc, word, operands)?.map(Task::Reply))
     }
 }
 
@@ -115,9 +130,9 @@ fn have_dash(words: &[String]) -> bool
     words.iter().any(|word| has_dash(word.as_str()))
 }
 
-/// The command that the matches ask for.
-fn asked_of(alloc: Global, matches: &ArgMatches) -> Result<Option<Command>, NoMemory>
-    ensures { IfOk result (λ c. c ≡ asked_in (rows_of (found_of matches.now))) }
+/// What the matches ask for.
+fn asked_of(alloc: Global, matches: &ArgMatches) -> Result<Option<Task>, NoMemory>
+    ensures { IfOk result (λ t. t ≡ asked_in (rows_of (found_of matches.now))) }
 {
     match matches.get_str("command") {
         None => Ok(None),
@@ -143,13 +158,14 @@ fn command_line<'a>(alloc: Global) -> Result<clap::Command<'a>, NoMemory>
         .arg(operands)
 }
 
-/// The command that the words ask for, or none.
+/// What the words ask for, or none.
 ///
 /// A word that begins with `-` asks for nothing. Of other words `clap` takes the first for the
 /// command's and those behind it for its operands: two names of the language for `flows`, up to 32
-/// for `view`, and none for the others.
-pub fn asked_command(alloc: Global, words: &[String]) -> Result<Option<Command>, NoMemory>
-    ensures asked { IfOk result (λ c. c ≡ asked_by words.now) }
+/// for `view`, a number and a size for `gen` and `drill`, and none for the others.
+pub fn asked_task(alloc: Global, words: &[String]) -> Result<Option<Task>, NoMemory>
+    ensures asked { IfOk result (λ t. t ≡ asked_by words.now) }
+    ensures sized { IfOk result IsSized }
 {
     if have_dash(words) {
         return Ok(None);

@@ -3,5 +3,6 @@
 
 mod asked;
 mod names;
+mod numbers;
 
-pub use asked::asked_command;
+pub use asked::asked_task;

@@ -3,8 +3,8 @@ use Rattle.fab_replay.proofs.Accepted.{are_numbered}
 use Rattle.fab_replay.proofs.Marks.{first_of_log}
 use Rattle.fab_replay.proofs.answers.answer_of_run.Goals as goal
 
-pub report_of-requires-clause-numbered : goal.report_of-requires-clause-numbered
-report_of-requires-clause-numbered g c = are_numbered c.args.core.now.given c.is_a_run.ensures.given c.deref.result.now (c.deref.ensures ∙ c.start.ensures)
+pub told_of-requires-clause-numbered : goal.told_of-requires-clause-numbered
+told_of-requires-clause-numbered g c = are_numbered c.args.core.now.given c.is_a_run.ensures.given c.deref.result.now (c.deref.ensures ∙ c.start.ensures)
 
 pub returns-in-Some : goal.returns-in-Some
 returns-in-Some g c =

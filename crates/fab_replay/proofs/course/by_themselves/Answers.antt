@@ -1,5 +1,5 @@
 use Rattle.std.proofs.Common.{◌≡◌, None, sym, ◌∙◌, subst}
-use Rattle.std.specs.Prelude.{IfOk}
+use Rattle.std.specs.Prelude.{IfOk, IsTrue}
 use Rattle.fab_device.specs.Kept.{CannotFail}
 use Rattle.fab_language.specs.Words.{node_text}
 use Rattle.fab_node.specs.Standing.{GivenModel}
@@ -19,7 +19,7 @@ returns-in-Err-Failed-clause-answer g c =
     let old = c.args.journals.now in
     let new = c.started.new.journals in
     let h : HasNoJournal given (M.may_fail old) (M.kept old) (M.kept new) (M.faults old) (M.faults new) c.in-Err-Failed.node = rw c.in-Err-Failed.field-0-is at c.in-Err-Failed.ensures.failed in
-    subst (λ n. IsReplayed given c.args.wanted.now (r.JournalFault n None) (M.kept old) (M.kept new) (M.faults old) (M.faults new)) (sym c.in-Err-Failed.node-is)
+    subst (λ n. IsReplayed (M.may_fail old) given c.args.wanted.now (r.JournalFault n None) (M.kept old) (M.kept new) (M.faults old) (M.faults new)) (sym c.in-Err-Failed.node-is)
     (no_start given (M.may_fail old) (M.kept old) (M.kept new) (M.faults old) (M.faults new) c.in-Err-Failed.node c.args.wanted.now h)
 
 pub returns-in-Err-Failed-clause-possible : goal.returns-in-Err-Failed-clause-possible
@@ -39,6 +39,12 @@ returns-in-Err-Memory-clause-memory g c =
     let new = c.started.new.journals in
     let h : IsStartCut given (M.kept old) (M.kept new) × (M.faults new ≡ M.faults old) = rw c.in-Err-Memory.field-0-is at c.in-Err-Memory.ensures.failed in
     cut_at_start given (M.kept old) (M.kept new) c.args.wanted.now h.0
+
+pub come-requires : goal.come-requires
+come-requires g c =
+    let C = g.C.Course in
+    (c.requires.course c.args.telling (subst (λ w. IsTrue (C.makes w)) c.requires.run c.requires.made) c.in-Ok.core
+    (record { moves = c.in-Ok.ensures.moves; unfailed = λ n. (c.in-Ok.ensures.unfailed n).faults })).0
 
 pub answer_of_run-requires : goal.answer_of_run-requires
 answer_of_run-requires g c =
@@ -75,7 +81,7 @@ returns-clause-answer g c =
     let ran = ran_on C.makes (C.may c.args.course.now) (C.comes c.args.course.now) c.args.wanted.now (M.may_fail old) c.in-Ok.core c.in_ok-core.core c.come.result
     c.requires.course c.requires.run c.requires.made c.in-Ok.ensures.moves c.in-Ok.ensures.unfailed c.come.ensures c.in_ok-core.was in
     ran_to (given_by c.args.program.value c.args.rights) c.in_ok-core.core.given (ran.given ∙ c.in-Ok.ensures.given) c.args.wanted.now c.finished.result (M.kept old) (M.kept mid) (M.kept new)
-    c.in-Ok.ensures.kept (M.faults old) (M.faults mid) (M.faults new) c.in-Ok.ensures.same c.finished.ensures.faults c.finished.ensures.answer
+    c.in-Ok.ensures.kept (M.may_fail old) (M.may_fail mid) (M.faults old) (M.faults mid) (M.faults new) c.in-Ok.ensures.told c.in-Ok.ensures.same c.finished.ensures.faults c.finished.ensures.answer
 
 pub returns-clause-possible : goal.returns-clause-possible
 returns-clause-possible g c =

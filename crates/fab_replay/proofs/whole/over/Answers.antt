@@ -34,7 +34,7 @@ finished-requires-clause-sure g c κs within =
 pub returns-clause-answer : goal.returns-clause-answer
 returns-clause-answer g c =
     let M = g.M.Journals in
-    subst (λ (x : GivenModel). IfOk c.finished.result (λ answer. IsOfRun x c.args.wanted.now answer (M.kept c.args.journals.now) (M.kept c.finished.new.journals))) c.in_ok-ran.ensures.given
+    subst (λ (x : GivenModel). IfOk c.finished.result (λ answer. IsOfRun (M.may_fail c.args.journals.now) x c.args.wanted.now answer (M.kept c.args.journals.now) (M.kept c.finished.new.journals))) c.in_ok-ran.ensures.given
     c.finished.ensures.answer
 
 pub returns-clause-possible : goal.returns-clause-possible

@@ -16,7 +16,7 @@ returns-in-Err-Failed-clause-answer g c =
     let old = c.args.journals.now in
     let new = c.started.new.journals in
     let h : HasNoJournal given (M.may_fail old) (M.kept old) (M.kept new) (M.faults old) (M.faults new) c.in-Err-Failed.node = rw c.in-Err-Failed.field-0-is at c.in-Err-Failed.ensures.failed in
-    subst (λ n. IsReplayed given c.args.wanted.now (r.JournalFault n None) (M.kept old) (M.kept new) (M.faults old) (M.faults new)) (sym c.in-Err-Failed.node-is)
+    subst (λ n. IsReplayed (M.may_fail old) given c.args.wanted.now (r.JournalFault n None) (M.kept old) (M.kept new) (M.faults old) (M.faults new)) (sym c.in-Err-Failed.node-is)
     (no_start given (M.may_fail old) (M.kept old) (M.kept new) (M.faults old) (M.faults new) c.in-Err-Failed.node c.args.wanted.now h)
 
 pub returns-in-Err-Failed-clause-possible : goal.returns-in-Err-Failed-clause-possible

@@ -58,7 +58,7 @@ returns-clause-replies g c =
     let old : Makers = record { may_fail = J.may_fail c.args.journals.now; kept = J.kept c.args.journals.now; faults = J.faults c.args.journals.now } in
     let new : Makers = record { may_fail = J.may_fail c.make_run.new.journals; kept = J.kept c.make_run.new.journals; faults = J.faults c.make_run.new.journals } in
     let answer = c.in_ok-answer.answer in
-    let there = subst (λ r. IsReplayed (given_by r rights) wanted answer old.kept new.kept old.faults new.faults) (e.program ∙ p.1) c.in_ok-answer.ensures.answer in
+    let there = subst (λ r. IsReplayed old.may_fail (given_by r rights) wanted answer old.kept new.kept old.faults new.faults) (e.program ∙ p.1) c.in_ok-answer.ensures.answer in
     if_told (Answers (Some c.args.command.now) c.args.text.now) (status_of answer) (text_of answer) c.told.result c.told.ensures.told
     (answered c.requires.front rights accepted c.args.command.now wanted c.in_ok-wanted.ensures.0 answer old new there)
 
@@ -73,7 +73,7 @@ returns-clause-journals g c =
     let old : Makers = record { may_fail = J.may_fail c.args.journals.now; kept = J.kept c.args.journals.now; faults = J.faults c.args.journals.now } in
     let new : Makers = record { may_fail = J.may_fail c.make_run.new.journals; kept = J.kept c.make_run.new.journals; faults = J.faults c.make_run.new.journals } in
     let answer = c.in_ok-answer.answer in
-    let there = subst (λ r. IsReplayed (given_by r rights) wanted answer old.kept new.kept old.faults new.faults) (e.program ∙ p.1) c.in_ok-answer.ensures.answer in
+    let there = subst (λ r. IsReplayed old.may_fail (given_by r rights) wanted answer old.kept new.kept old.faults new.faults) (e.program ∙ p.1) c.in_ok-answer.ensures.answer in
     let possible = subst (λ r. IsPossible old.may_fail r answer) (e.program ∙ p.1) c.in_ok-answer.ensures.possible in
     if_told (AreLeft c.args.command.now c.args.text.now old new) (status_of answer) (text_of answer) c.told.result c.told.ensures.told
     (left_behind c.requires.front rights accepted c.args.command.now wanted c.in_ok-wanted.ensures.0 answer old new there possible)
@@ -89,5 +89,5 @@ returns-clause-cut g c =
     let old : Makers = record { may_fail = J.may_fail c.args.journals.now; kept = J.kept c.args.journals.now; faults = J.faults c.args.journals.now } in
     let new : Makers = record { may_fail = J.may_fail c.make_run.new.journals; kept = J.kept c.make_run.new.journals; faults = J.faults c.make_run.new.journals } in
     let answer = c.in_ok-answer.answer in
-    let there = subst (λ r. IsReplayed (given_by r rights) wanted answer old.kept new.kept old.faults new.faults) (e.program ∙ p.1) c.in_ok-answer.ensures.answer in
+    let there = subst (λ r. IsReplayed old.may_fail (given_by r rights) wanted answer old.kept new.kept old.faults new.faults) (e.program ∙ p.1) c.in_ok-answer.ensures.answer in
     unless_told c.told.result (cut_answer c.requires.front rights accepted c.args.command.now wanted c.in_ok-wanted.ensures.0 answer old new there) c.told.ensures.failed c.in_ok-answer.ensures.told
