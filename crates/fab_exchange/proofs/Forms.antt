@@ -1,5 +1,5 @@
 -- The form that the lines give an event that comes, by the line and by the record; and of which node it is.
-use Rattle.std.proofs.Common.{◌≡◌, ℕ, List, true, Option, Some, None, length, min}
+use Rattle.std.proofs.Common.{◌≡◌, ℕ, List, true, false, Option, Some, None, length, min}
 use Rattle.std.proofs.Common.{refl, sym, ap, ◌∙◌, subst}
 use Rattle.std.specs.Prelude.{is_some, option_map, if◌then◌else◌}
 use Rattle.fab_base.specs.declared.entry.Entry.{Entry}
@@ -14,13 +14,15 @@ use Rattle.fab_world.specs.Machine.{World, Move, Form, Does, Cuts, act, form_of,
 use Rattle.fab_world.specs.Crashing.{CrashLine, goes_on, keeps_by, line_now, may_follow}
 use Rattle.fab_settings.specs.Settings.{lines_of}
 use Rattle.fab_node.specs.Standing.{GivenModel}
-use Rattle.fab_core.specs.Cores.{CoreModel, EventHasDone, InnerHasDone, setting, unmarked, world, world_by}
-use Rattle.fab_core.specs.Moved.{event_of}
+use Rattle.fab_core.specs.Cores.{CoreModel, EventHasDone, InnerHasDone, marked, setting, unmarked, world, world_by}
+use Rattle.fab_core.specs.Moved.{event_of, move_by}
 use Rattle.fab_core.specs.Telling.{length_in}
+use Rattle.fab_core.specs.declared.applied.Applied.{Applied}
+use Rattle.fab_core.specs.declared.applied.Applied.TheVariants as a
 use Rattle.fab_core.proofs.Tables.{form_is}
 use Rattle.fab_exchange.specs.Comings.{IsAsBefore, IsFormed, MayFollow, MayGoOn}
 use Rattle.fab_exchange.specs.Dues.{form_at, form_by, line_of}
-use Rattle.fab_exchange.specs.Turns.{IsOf, node_with}
+use Rattle.fab_exchange.specs.Turns.{IsOf, is_resume, node_with, resumes}
 use Rattle.fab_exchange.proofs.Following.{form_follows}
 
 module _ (g : GivenModel) (moves : List Move) (x : Inner) where
@@ -82,6 +84,30 @@ module _ (g : GivenModel) (moves : List Move) (x : Inner) where
       by : (kept : Option ℕ) → node_with w (form_by x kept (length (record_behind (w.node (node_of x)).entries (act (setting g) w x).entry))) ≡ node_of x
       by None = refl
       by (Some bytes) = refl
+
+  -- what an evaluation came to is taken in it where the event takes it
+  pub form_resume : is_resume (form_at g moves x) ≡ resumes x
+  unfolding form_at
+  form_resume = by (if is_some (act (setting g) w x).entry then keeps_by (setting g) (lines_of g.program) line else None)
+    where
+      by : (kept : Option ℕ) → is_resume (form_by x kept (length (record_behind (w.node (node_of x)).entries (act (setting g) w x).entry))) ≡ resumes x
+      by None = refl
+      by (Some bytes) = refl
+
+-- with its mark no event takes more
+pub marked_resume : (event : Event) → is_resume (form_of (unmarked event)) ≡ false → is_resume (form_of (marked event)) ≡ false
+marked_resume (e.Begin n) h = refl
+marked_resume (e.Resume n) h = h
+marked_resume (e.Deliver a b) h = refl
+marked_resume (e.Idle n s) h = refl
+marked_resume (e.Recover n) h = refl
+marked_resume (e.CrashIn keep x) h = h
+marked_resume (e.Post n) h = refl
+marked_resume (e.Crash n) h = refl
+
+pub came_resume : (applied : Applied) (event : Event) → is_resume (form_of (unmarked event)) ≡ false → is_resume (form_of (move_by applied event)) ≡ false
+came_resume a.Whole event h = h
+came_resume a.Cut event h = marked_resume event h
 
 -- ---- an event that is done whole
 

@@ -22,26 +22,31 @@ use Rattle.fab_core.specs.declared.applied.Applied.{Applied}
 use Rattle.fab_core.specs.declared.applied.Applied.TheVariants as a
 use Rattle.fab_exchange.specs.Tallies.{counted_in, crashed_in}
 use Rattle.fab_exchange.specs.Exchanges.{AreCounts, IsExchange, IsMarked, has_mark}
+use Rattle.fab_exchange.specs.Turns.{IsFailed}
 use Rattle.fab_exchange.specs.declared.counting.Count.{Count}
 use Rattle.fab_exchange.proofs.Following.{marked_follows}
 
 -- ---- the lines are kept
 
 module _ (g : GivenModel) (old new : List Move) (event : Event) where
+  -- what may follow as it is may follow with its mark, where that came
+  pub came_follows : (applied : Applied) → may_follow (setting g) (lines_of g.program) (world_by g old) old (form_of (unmarked event)) ≡ true
+      → new ≡ old ++ move_by applied event ∷ [] → IsRun (setting g) new
+      → may_follow (setting g) (lines_of g.program) (world_by g old) old (form_of (move_by applied event)) ≡ true
+  came_follows a.Whole follows is run = follows
+  came_follows a.Cut follows is run =
+      let all = subst (λ ms. are_enabled (setting g) (at_start (setting g)) ms ≡ true) is run.enabled in
+      let last = (enabled_front (setting g) (at_start (setting g)) old (marked event ∷ []) all).1 in
+      let can = (and_parts (enabled (setting g) (world_by g old) (form_of (marked event))) true last).0 in
+      marked_follows (setting g) (lines_of g.program) (world_by g old) old event follows can
+
   -- a move more that may follow
   pub lines_kept : (applied : Applied) → KeepsLines (setting g) (lines_of g.program) old
       → may_follow (setting g) (lines_of g.program) (world_by g old) old (form_of (unmarked event)) ≡ true
       → new ≡ old ++ move_by applied event ∷ [] → IsRun (setting g) new → KeepsLines (setting g) (lines_of g.program) new
-  lines_kept a.Whole keeps follows is run =
+  lines_kept applied keeps follows is run =
       subst (KeepsLines (setting g) (lines_of g.program)) (sym is)
-      (keeps_more (setting g) (lines_of g.program) (at_start (setting g)) [] old (unmarked event) keeps follows)
-  lines_kept a.Cut keeps follows is run =
-      let all = subst (λ ms. are_enabled (setting g) (at_start (setting g)) ms ≡ true) is run.enabled in
-      let last = (enabled_front (setting g) (at_start (setting g)) old (marked event ∷ []) all).1 in
-      let can = (and_parts (enabled (setting g) (world_by g old) (form_of (marked event))) true last).0 in
-      subst (KeepsLines (setting g) (lines_of g.program)) (sym is)
-      (keeps_more (setting g) (lines_of g.program) (at_start (setting g)) [] old (marked event) keeps
-      (marked_follows (setting g) (lines_of g.program) (world_by g old) old event follows can))
+      (keeps_more (setting g) (lines_of g.program) (at_start (setting g)) [] old (move_by applied event) keeps (came_follows applied follows is run))
 
 -- ---- the counts
 
@@ -118,13 +123,8 @@ marked_same b c j k same faults sure h = record {
 rose_above : (old new : ℕ) → Rose old new → 0 < new
 rose_above old new rose = omega (arith, rose)
 
--- it was cut for its journal
-abbrev pub CutIn : Applied → Type 0
-CutIn a.Whole = ⊥
-CutIn a.Cut = Unit {0}
-
 module _ (old new : List Move) (event : Event) (before now : List (Option JournalModel)) where
-  pub marks_kept : (applied : Applied) → new ≡ old ++ move_by applied event ∷ [] → IsCaused (node_at event) (CutIn applied) before now
+  pub marks_kept : (applied : Applied) → new ≡ old ++ move_by applied event ∷ [] → IsCaused (node_at event) (IsFailed applied) before now
       → ((n : ℕ) → IsMarked (has_mark old n) (slot before n)) → (n : ℕ) → IsMarked (has_mark new n) (slot now n)
   marks_kept a.Whole is caused marks n =
       let same : has_mark new n ≡ has_mark old n = ap (λ ms. has_mark ms n) is ∙ mark_more old event n in
@@ -159,7 +159,7 @@ module _ (old new : List Move) (event : Event) (before now : List (Option Journa
 -- ---- what a call tells of the journals
 
 pub caused_by : {E : Type 0} (result : Result Applied E) (applied : Applied) (n : ℕ) (before now : List (Option JournalModel)) → result ≡ Ok applied
-    → IsCaused n (IsCut result) before now → IsCaused n (CutIn applied) before now
+    → IsCaused n (IsCut result) before now → IsCaused n (IsFailed applied) before now
 caused_by result a.Whole n before now is h = subst (λ r. IsCaused n (IsCut r) before now) is h
 caused_by result a.Cut n before now is h = subst (λ r. IsCaused n (IsCut r) before now) is h
 
@@ -201,7 +201,7 @@ module _ (before now : List (Option JournalModel)) (gain : OnlyGainRoom before n
 -- ---- an event more
 
 module _ (old new : CoreModel) (nodes : List ℕ) (counts more : List Count) (event : Event) (applied : Applied) (given : new.given ≡ old.given)
-    (moves : new.moves ≡ old.moves ++ move_by applied event ∷ []) (caused : IsCaused (node_at event) (CutIn applied) old.journals new.journals) (was : IsExchange old nodes counts)
+    (moves : new.moves ≡ old.moves ++ move_by applied event ∷ []) (caused : IsCaused (node_at event) (IsFailed applied) old.journals new.journals) (was : IsExchange old nodes counts)
     (run : IsRun (setting new.given) new.moves) where
   pub one_more_is : may_follow (setting old.given) (lines_of old.given.program) (world_by old.given old.moves) old.moves (form_of (unmarked event)) ≡ true
       → AreCounts new.moves more → IsExchange new nodes more

@@ -14,6 +14,8 @@ pub mod Starts
 pub mod Working
 -- the form that the lines give an event
 pub mod Forms
+-- which node's journal an event changes
+pub mod Owning
 -- what the answers tell
 pub mod Turning
 -- which line is used

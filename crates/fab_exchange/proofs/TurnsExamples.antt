@@ -1,13 +1,24 @@
 -- What is due at which node, and what the answers of an exchange tell, computed on a small bundle: the worker 0, the store 1, and the hostile worker 2.
-use Rattle.std.proofs.Common.{◌≡◌, ◌<◌, ℕ, Bool, true, false, List, [], ◌∷◌, ◌++◌, map, Option, Some, None, refl, sym, ◌∙◌, true≢false, arith, lit<}
-use Rattle.std.specs.Prelude.{codes}
+use Rattle.std.proofs.Common.{◌≡◌, ◌<◌, ◌==◌, ◌+◌, ℕ, zero, suc, Bool, true, false, not, cond, List, [], ◌∷◌, ◌++◌, length, map, replicate, Option, Some, None, refl, sym, ap, ◌∙◌, subst, true≢false, arith, lit<}
+use Rattle.std.specs.Prelude.{codes, if◌then◌else◌, is_some, slice_index_or}
+use Rattle.std.specs.List.{IsDistinct, list_any}
+use Rattle.std.proofs.lemmas.Bool.{ne_eqb}
+use Rattle.std.proofs.lemmas.List.{get_or-replicate, length-replicate}
+use Rattle.std.proofs.lemmas.Map.Keys.{IsDistinct-from_apart}
+use Rattle.fab_attempts.specs.Sessions.{requests_in}
 use Rattle.fab_base.specs.declared.message.Message.TheVariants.{Boot}
+use Rattle.fab_base.specs.declared.object.Tid.{Tid}
+use Rattle.fab_base.specs.Faults.{Rose}
+use Rattle.fab_base.specs.FlatMap.{is_same}
 use Rattle.fab_base.specs.MessageSpelling.{spelled}
+use Rattle.fab_eval.specs.Attempts.{is_made_in}
+use Rattle.fab_eval.specs.declared.done.Done.{Done}
 use Rattle.fab_eval.specs.declared.job.Job.{Job}
 use Rattle.fab_net.specs.declared.event.Event.{Event}
 use Rattle.fab_net.specs.declared.event.Event.TheVariants as e
 use Rattle.fab_net.specs.declared.event.Inner.TheVariants as i
 use Rattle.fab_protocol.specs.Stores.{shelf_of}
+use Rattle.fab_protocol.specs.Versions.{Rows, names_of}
 use Rattle.fab_rights.specs.Computed.{is_node}
 use Rattle.fab_rights.specs.declared.rights.Rights.{Rights}
 use Rattle.fab_tree.specs.declared.declaration.Role.{Role}
@@ -16,22 +27,28 @@ use Rattle.fab_tree.specs.declared.resolved.Asked.{Asked}
 use Rattle.fab_tree.specs.declared.resolved.Crash.{Crash}
 use Rattle.fab_tree.specs.declared.resolved.Post.{Post}
 use Rattle.fab_tree.specs.declared.resolved.Principal.{Principal}
+use Rattle.fab_tree.specs.declared.resolved.Session.{Session}
 use Rattle.fab_wire.specs.Reading.{all_of, message_at, read_message}
-use Rattle.fab_world.specs.Machine.{Move, Does, Cuts, Posts}
-use Rattle.fab_world.specs.Crashing.{goes_on}
+use Rattle.fab_world.specs.Machine.{Move, Form, Does, Cuts, Posts, Never, act, form_of, kept}
+use Rattle.fab_world.specs.Crashing.{crashes_of, events_of, goes_on}
+use Rattle.fab_world.specs.Serial.{IsWaiting}
 use Rattle.fab_world.specs.Workers.{kept_of}
 use Rattle.fab_settings.specs.Settings.{lines_of}
 use Rattle.fab_node.specs.Standing.{GivenModel, JournalModel}
-use Rattle.fab_core.specs.Cores.{marked, setting, unmarked, world_by}
+use Rattle.fab_core.specs.Cores.{CoreModel, marked, setting, slot, unmarked, world_by}
+use Rattle.fab_core.specs.Telling.{JournalsGain}
 use Rattle.fab_core.specs.Starts.{given_by}
 use Rattle.fab_core.specs.declared.applied.Applied.TheVariants as a
 use Rattle.fab_core.proofs.Tables.{node_below}
 use Rattle.fab_exchange.specs.Dues.{comes, crashes, form_at, found_at, is_some_due, own_at, posts, posts_to}
-use Rattle.fab_exchange.specs.Exchanges.{IsMarked, has_mark}
+use Rattle.fab_exchange.specs.Exchanges.{AreCounts, IsMarked, has_mark, none_yet}
+use Rattle.fab_exchange.specs.Jobs.{IsSameJob}
 use Rattle.fab_exchange.specs.Tallies.{counted_in, crashed_in}
-use Rattle.fab_exchange.specs.Turns.{Acts, AreOver, Asks, Ends, IsCurrent, IsOf, Waits, due, node_with}
+use Rattle.fab_exchange.specs.Turns.{Acts, AreOver, Asks, ChangeAt, Ends, IsBack, IsCurrent, IsFailed, IsOf, Takes, Waits, due, follows, is_resume, node_with}
+use Rattle.fab_exchange.specs.declared.counting.Count.{Count}
 use Rattle.fab_exchange.specs.declared.found.Found.TheVariants as f
 use Rattle.fab_exchange.proofs.Finds.{is_over, none_due}
+use Rattle.fab_exchange.proofs.Owning.{gains_none, room_only}
 
 -- ---- the bundle
 
@@ -74,13 +91,73 @@ cutting node count bytes = record { node = node; after = count; keep = Some byte
 abbrev behind : List Event → List Move
 behind events = map unmarked events
 
+-- the form of the first of these, and of the second
+abbrev first : List Move → Form
+first [] = Never
+first (x ∷ more) = form_of x
+
+abbrev second : List Move → Form
+second [] = Never
+second (x ∷ more) = first more
+
+abbrev no_bytes : Option ℕ
+no_bytes = None
+
+-- all nodes behind these moves, with these journals; of which none fails
+abbrev core : GivenModel → List Move → List (Option JournalModel) → CoreModel
+core g moves journals = record { given = g; moves = moves; journals = journals }
+
+none_fails : (n : ℕ) (js : List (Option JournalModel)) → ChangeAt n ⊥ js js
+none_fails n js = room_only n js js (λ m. gains_none (slot js m))
+
 below : (n : ℕ) → is_node rights n ≡ true → n < 64
 below n is = node_below rights n (lit< tt) (lit< tt) is
+
+-- ---- journals
+
+abbrev journal : ℕ → Bool → Option JournalModel
+journal faults sure = Some (record { content = []; synced = 0; room = 0; faults = faults; sure = sure })
+
+-- that of node 1 fails
+fails_once : ChangeAt 1 (IsFailed a.Cut) (None ∷ journal 0 false ∷ []) (None ∷ journal 1 false ∷ [])
+fails_once = record {
+  others = elsewhere;
+  risen = λ cut. let rose : Rose 0 1 = omega arith in rose;
+  same = λ whole. absurd (whole tt);
+  sure = refl;
+  never = λ sure cut. true≢false (sym sure);
+}
+  where
+    elsewhere : (m : ℕ) → (m ≡ 1 → ⊥) → JournalsGain (slot (None ∷ journal 0 false ∷ []) m) (slot (None ∷ journal 1 false ∷ []) m)
+    elsewhere zero ne = tt
+    elsewhere (suc zero) ne = absurd (ne refl)
+    elsewhere (suc (suc m)) ne = tt
+
+-- not without a fault more, nor has it one more where it didn't fail
+cut_without_fault : ChangeAt 1 (IsFailed a.Cut) (None ∷ journal 0 false ∷ []) (None ∷ journal 0 false ∷ []) → ⊥
+cut_without_fault h = let rose = h.risen tt in omega (arith, rose)
+
+fault_without_cut : ChangeAt 1 (IsFailed a.Whole) (None ∷ journal 0 false ∷ []) (None ∷ journal 1 false ∷ []) → ⊥
+fault_without_cut h = let same = h.same (λ c. c) in omega (arith, same)
+
+-- one that never fails doesn't
+cut_of_sure_one : ChangeAt 1 (IsFailed a.Cut) (None ∷ journal 0 true ∷ []) (None ∷ journal 1 true ∷ []) → ⊥
+cut_of_sure_one h = h.never refl tt
+
+-- at another node's event it neither fails nor goes
+fault_elsewhere : ChangeAt 0 (IsFailed a.Whole) (None ∷ journal 0 false ∷ []) (None ∷ journal 1 false ∷ []) → ⊥
+fault_elsewhere h = let same = (h.others 1 (λ is. let n : 1 ≡ 0 = is in omega (arith, n))).faults in omega (arith, same)
+
+gone_elsewhere : ChangeAt 0 (IsFailed a.Whole) (None ∷ journal 0 false ∷ []) (None ∷ None ∷ []) → ⊥
+gone_elsewhere h = h.others 1 (λ is. let n : 1 ≡ 0 = is in omega (arith, n))
 
 -- ---- nothing is asked and nothing posted
 
 abbrev quiet : GivenModel
 quiet = bundle [] [] []
+
+abbrev session_of_none : Session
+session_of_none = record { worker = record { number = 0; at = 0 }; requests = [] }
 
 nothing_there : found_at quiet [] 0 ≡ None
 unfolding kept_of shelf_of comes crashes form_at own_at posts posts_to
@@ -93,12 +170,25 @@ nowhere = refl
 quiet_is_over : AreOver quiet []
 quiet_is_over = is_over quiet [] below nowhere
 
-quiet_ends : Ends quiet [] []
-quiet_ends = record { over = quiet_is_over; moves = refl }
+-- nobody waits without a request
+quiet_waits_not : (n : ℕ) → IsWaiting (setting quiet) (world_by quiet []) n → ⊥
+quiet_waits_not n h = by (0 == n) (length (kept (setting quiet) (world_by quiet []) n).outcomes) h.left
+  where
+    by : (b : Bool) (ended : ℕ) → ended < length (requests_in (cond b (Some session_of_none) None)) → ⊥
+    by true ended h = let less : ended < 0 = h in omega (arith, less)
+    by false ended h = let less : ended < 0 = h in omega (arith, less)
 
--- nobody waits where all is over
-quiet_waits_not : Waits quiet 0 [] [] → ⊥
-quiet_waits_not h = true≢false (sym h.some.due ∙ quiet_is_over h.some.form)
+quiet_ends : Ends quiet [] []
+quiet_ends = record { over = quiet_is_over; left = quiet_waits_not; moves = refl }
+
+-- no node is to wait where all is over
+quiet_is_no_wait : Waits quiet 0 [] [] → ⊥
+quiet_is_no_wait h = true≢false (sym h.some.due ∙ quiet_is_over h.some.form)
+
+-- without a line nothing is cut
+uncut : (b : Bool) → not (is_some (if b then no_bytes else no_bytes)) ≡ true
+uncut true = refl
+uncut false = refl
 
 -- ---- a request
 
@@ -130,10 +220,128 @@ not_over : Ends asked [] [] → ⊥
 unfolding kept_of shelf_of comes crashes form_at own_at posts posts_to
 not_over h = true≢false (h.over (Does (i.Begin 0)))
 
+-- so long the worker waits, in the machine's sense
+worker_has_one_left : IsWaiting (setting asked) (world_by asked []) 0
+unfolding kept_of shelf_of comes crashes form_at own_at posts posts_to
+worker_has_one_left = record { kind = refl; honest = refl; sound = refl; left = lit< tt }
+
+-- what was begun isn't marked, since that calls no journal
+begins_unmarked : (js : List (Option JournalModel)) → Acts 0 (core asked [] js) (core asked (behind (e.Begin 0 ∷ [])) js)
+unfolding kept_of shelf_of comes crashes form_at own_at posts posts_to
+begins_unmarked js = record {
+  event = e.Begin 0;
+  due = refl;
+  node = refl;
+  came = record { applied = a.Whole; follows = refl; moves = refl; journals = none_fails 0 js };
+  other = refl;
+}
+
+not_marked : (old new : List (Option JournalModel)) → Acts 0 (core asked [] old) (core asked (marked (e.Begin 0) ∷ []) new) → ⊥
+unfolding kept_of shelf_of comes crashes form_at own_at posts posts_to
+not_marked old new h = true≢false (sym h.came.follows ∙ sym (ap (λ ms. follows asked [] (first ms)) h.came.moves))
+
+-- what the evaluation came to is due, and a turn doesn't take it
+resume_is_due : due asked (behind (e.Begin 0 ∷ [])) (Does (i.Resume 0)) ≡ true
+unfolding kept_of shelf_of comes crashes form_at own_at posts posts_to
+resume_is_due = uncut (is_some (act (setting asked) (world_by asked (behind (e.Begin 0 ∷ []))) (i.Resume 0)).entry)
+
+resume_may_follow : follows asked (behind (e.Begin 0 ∷ [])) (Does (i.Resume 0)) ≡ true
+unfolding kept_of shelf_of comes crashes form_at own_at posts posts_to
+resume_may_follow = uncut (is_some (act (setting asked) (world_by asked (behind (e.Begin 0 ∷ []))) (i.Resume 0)).entry)
+
+module _ (old new : List (Option JournalModel)) where
+  not_taken_so : Acts 0 (core asked (behind (e.Begin 0 ∷ [])) old) (core asked (behind (e.Begin 0 ∷ e.Resume 0 ∷ [])) new) → ⊥
+  not_taken_so h = true≢false (ap (λ ms. is_resume (second ms)) h.came.moves ∙ h.other)
+
+  nor_with_a_mark : Acts 0 (core asked (behind (e.Begin 0 ∷ [])) old) (core asked (behind (e.Begin 0 ∷ []) ++ marked (e.Resume 0) ∷ []) new) → ⊥
+  nor_with_a_mark h = true≢false (ap (λ ms. is_resume (second ms)) h.came.moves ∙ h.other)
+
+nor_cut : is_resume (form_of (unmarked (e.CrashIn 3 (i.Resume 0)))) ≡ true
+nor_cut = refl
+
 -- before it begins, no job is the worker's
 no_job_yet : (job : Job) → IsCurrent asked [] 0 job → ⊥
 unfolding kept_of shelf_of comes crashes form_at own_at posts posts_to
 no_job_yet job h = true≢false (sym h.at_work)
+
+not_asked_yet : (job : Job) (new : List Move) → Asks asked 0 [] new job → ⊥
+not_asked_yet job new h = no_job_yet job h.current
+
+-- behind that it is the one of its attempt, and no other
+module _ (job : Job) (program : job.program.value ≡ asked.program) (request : job.request ≡ record { worker = 0; number = 1; method = 0; args = [] })
+    (answers : job.answers ≡ []) where
+  first_job : job.tid ≡ record { worker = 0; boot = 1; number = 1 } → IsCurrent asked (behind (e.Begin 0 ∷ [])) 0 job
+  unfolding kept_of shelf_of comes crashes form_at own_at posts posts_to
+  first_job tid =
+      record { at_work = refl; job_is = record { evaluating = refl; program = program; request = ap Some (sym request); tid = tid; answers = answers } }
+
+  first_asked : job.tid ≡ record { worker = 0; boot = 1; number = 1 } → Asks asked 0 (behind (e.Begin 0 ∷ [])) (behind (e.Begin 0 ∷ [])) job
+  unfolding kept_of shelf_of comes crashes form_at own_at posts posts_to
+  first_asked tid = record {
+    comes = refl;
+    calm = refl;
+    current = first_job tid;
+    distinct = subst (λ (found : Rows). IsDistinct is_same (names_of found)) (sym answers)
+        (IsDistinct-from_apart is_same [] (λ i j d less low. absurd (omega (arith, low))));
+    made_before = subst (λ (found : Rows). list_any (λ a. is_made_in job.tid a.0) found ≡ false) (sym answers) refl;
+    moves = refl;
+  }
+
+  later_job : job.tid ≡ record { worker = 0; boot = 1; number = 2 } → (new : List Move) → Asks asked 0 (behind (e.Begin 0 ∷ [])) new job → ⊥
+  unfolding kept_of shelf_of comes crashes form_at own_at posts posts_to
+  later_job tid new h = let same : 1 ≡ 2 = ap (λ (t : Tid). t.number) (sym h.current.job_is.tid ∙ tid) in omega (arith, same)
+
+-- ---- a job that is brought back
+
+-- it is the current one, or no job is yet
+module _ (done : Done) (program : done.job.program.value ≡ asked.program) (request : done.job.request ≡ record { worker = 0; number = 1; method = 0; args = [] })
+    (answers : done.job.answers ≡ []) (tid : done.job.tid ≡ record { worker = 0; boot = 1; number = 1 }) (js : List (Option JournalModel)) where
+  taken : Takes 0 done (core asked (behind (e.Begin 0 ∷ [])) js) (core asked (behind (e.Begin 0 ∷ e.Resume 0 ∷ [])) js)
+  unfolding kept_of shelf_of comes crashes form_at own_at posts posts_to
+  taken = record {
+    current = first_job done.job program request answers tid;
+    event = e.Resume 0;
+    is = refl;
+    may = resume_may_follow;
+    came = record { applied = a.Whole; follows = resume_may_follow; moves = refl; journals = none_fails 0 js };
+  }
+
+  not_back : (back : Done) (new : List Move) → IsBack asked 0 done back (behind (e.Begin 0 ∷ [])) new → ⊥
+  not_back back new h = h.stale (first_job done.job program request answers tid)
+
+back_before : (done : Done) → IsBack asked 0 done done [] []
+back_before done = record { stale = no_job_yet done.job; back_is = refl; moves = refl }
+
+not_taken_before : (done : Done) (old new : List (Option JournalModel)) (moves : List Move) → Takes 0 done (core asked [] old) (core asked moves new) → ⊥
+not_taken_before done old new moves h = no_job_yet done.job h.current
+
+same_job : (job : Job) → IsSameJob job job
+same_job job = record { request = refl; tid = refl; answers = refl }
+
+-- the same request at another attempt
+another_job : (a b : Job) → a.tid.number ≡ 1 → b.tid.number ≡ 2 → IsSameJob a b → ⊥
+another_job a b first later h = let same : 1 ≡ 2 = sym first ∙ ap (λ (t : Tid). t.number) h.tid ∙ later in omega (arith, same)
+
+-- ---- counts
+
+-- the worker's one event, and nothing elsewhere
+abbrev one_event : List Count
+one_event = record { events = 1; crashes = 0 } ∷ replicate 63 none_yet
+
+one_counted : AreCounts (behind (e.Begin 0 ∷ [])) one_event
+one_counted = record { long = ap suc (length-replicate 63 none_yet); each = each }
+  where
+    each : (n : ℕ) → n < 64 → slice_index_or one_event n none_yet ≡ record { events = events_of n (behind (e.Begin 0 ∷ [])); crashes = crashes_of n (behind (e.Begin 0 ∷ [])) }
+    each zero low = refl
+    each (suc n) low =
+        get_or-replicate 63 n none_yet none_yet (omega (arith, low))
+        ∙ (λ j. record { events = 0 + cond (sym (ne_eqb 0 (suc n) (λ same. omega (arith, same))) j) 1 0; crashes = 0 })
+
+none_counted : AreCounts (behind (e.Begin 0 ∷ [])) (replicate 64 none_yet) → ⊥
+none_counted h = let same : 0 ≡ 1 = ap (λ (c : Count). c.events) (h.each 0 (lit< tt)) in omega (arith, same)
+
+too_short : AreCounts [] [] → ⊥
+too_short h = let long : 0 ≡ 64 = h.long in omega (arith, long)
 
 -- ---- a post, which is an event of its target
 
@@ -163,9 +371,19 @@ counted_by_sender : is_some_due posted [] ≡ true
 unfolding kept_of shelf_of comes crashes form_at own_at posts posts_to
 counted_by_sender = refl
 
-post_comes : Acts posted 1 [] (behind (e.Post 2 ∷ []))
+post_comes : (js : List (Option JournalModel)) → Acts 1 (core posted [] js) (core posted (behind (e.Post 2 ∷ [])) js)
 unfolding kept_of shelf_of comes crashes form_at own_at posts posts_to
-post_comes = record { event = e.Post 2; applied = a.Whole; due = refl; node = refl; moves = refl }
+post_comes js = record {
+  event = e.Post 2;
+  due = refl;
+  node = refl;
+  came = record { applied = a.Whole; follows = refl; moves = refl; journals = none_fails 1 js };
+  other = refl;
+}
+
+-- no journal fails in it
+post_is_unmarked : (old new : List (Option JournalModel)) → Acts 1 (core posted [] old) (core posted (marked (e.Post 2) ∷ []) new) → ⊥
+post_is_unmarked old new h = true≢false (sym h.came.follows ∙ sym (ap (λ ms. follows posted [] (first ms)) h.came.moves))
 
 sender_waits : Waits posted 2 [] []
 unfolding kept_of shelf_of comes crashes form_at own_at posts posts_to
@@ -275,14 +493,26 @@ whole_without_record : form_at (bundle one_request [] (cutting 0 0 5 ∷ [])) []
 unfolding kept_of shelf_of comes crashes form_at own_at posts posts_to
 whole_without_record = refl
 
-cut_comes : Acts five 1 waiting (waiting ++ unmarked (e.CrashIn 5 (i.Deliver 2 1)) ∷ [])
+cut_comes : (js : List (Option JournalModel)) → Acts 1 (core five waiting js) (core five (waiting ++ unmarked (e.CrashIn 5 (i.Deliver 2 1)) ∷ []) js)
 unfolding kept_of shelf_of read_message all_of message_at comes crashes form_at own_at posts posts_to
-cut_comes = record { event = e.CrashIn 5 (i.Deliver 2 1); applied = a.Whole; due = refl; node = refl; moves = refl }
+cut_comes js = record {
+  event = e.CrashIn 5 (i.Deliver 2 1);
+  due = refl;
+  node = refl;
+  came = record { applied = a.Whole; follows = refl; moves = refl; journals = none_fails 1 js };
+  other = refl;
+}
 
 -- its journal may fail in it
-cut_fails : Acts five 1 waiting (waiting ++ marked (e.CrashIn 5 (i.Deliver 2 1)) ∷ [])
+cut_fails : Acts 1 (core five waiting (None ∷ journal 0 false ∷ [])) (core five (waiting ++ marked (e.CrashIn 5 (i.Deliver 2 1)) ∷ []) (None ∷ journal 1 false ∷ []))
 unfolding kept_of shelf_of read_message all_of message_at comes crashes form_at own_at posts posts_to
-cut_fails = record { event = e.CrashIn 5 (i.Deliver 2 1); applied = a.Cut; due = refl; node = refl; moves = refl }
+cut_fails = record {
+  event = e.CrashIn 5 (i.Deliver 2 1);
+  due = refl;
+  node = refl;
+  came = record { applied = a.Cut; follows = refl; moves = refl; journals = fails_once };
+  other = refl;
+}
 
 not_done_whole : due five waiting (Does (i.Deliver 2 1)) ≡ false
 unfolding kept_of shelf_of read_message all_of message_at comes crashes form_at own_at posts posts_to
@@ -310,9 +540,6 @@ not_at_the_sender : has_mark (marked (e.Deliver 2 1) ∷ []) 2 ≡ false
 not_at_the_sender = refl
 
 -- a mark wants a fault, a fault a mark, and a journal that never fails has none
-abbrev journal : ℕ → Bool → Option JournalModel
-journal faults sure = Some (record { content = []; synced = 0; room = 0; faults = faults; sure = sure })
-
 mark_wants_fault : IsMarked true (journal 0 false) → ⊥
 mark_wants_fault h = let some = h.failed refl in omega (arith, some)
 

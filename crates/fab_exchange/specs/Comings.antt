@@ -1,18 +1,16 @@
 -- What the calls by which an event comes ask for, and what they tell.
-use Rattle.std.specs.Prelude.{◌≡◌, ◌++◌, ◌∷◌, ◌<◌, ℕ, IsTrue, List, [], Option}
+use Rattle.std.specs.Prelude.{◌≡◌, ◌<◌, ℕ, IsTrue, Option}
 use Rattle.fab_eval.specs.declared.done.Done.{Done}
 use Rattle.fab_net.specs.declared.event.Event.{Event}
 use Rattle.fab_net.specs.declared.event.Inner.{Inner}
-use Rattle.fab_world.specs.Machine.{Enabled, Move, act, form_of, may}
+use Rattle.fab_world.specs.Machine.{Enabled, act, form_of, may, node_of}
 use Rattle.fab_world.specs.Serial.{attempts}
 use Rattle.fab_world.specs.Crashing.{goes_on, may_follow}
 use Rattle.fab_settings.specs.Settings.{lines_of}
 use Rattle.fab_core.specs.Cores.{CoreModel, EventHasDone, InnerHasDone, setting, unmarked, world}
-use Rattle.fab_core.specs.Moved.{move_by}
 use Rattle.fab_core.specs.Telling.{OnlyGainRoom, length_in}
-use Rattle.fab_core.specs.declared.applied.Applied.{Applied}
 use Rattle.fab_exchange.specs.Dues.{form_at}
-use Rattle.fab_exchange.specs.Turns.{IsOf}
+use Rattle.fab_exchange.specs.Turns.{HasCome, IsOf}
 
 -- ---- what is asked for: that it may come, where attempts are few; may follow in a run that keeps the crash lines; or goes on
 
@@ -53,14 +51,9 @@ pub record IsFormed (core : CoreModel) (inner : Inner) (over : Option Done) (eve
   pub form : form_of (unmarked event) ≡ form_at core.given core.moves inner
   pub done : EventHasDone core.given (world core) event over
 
--- an event came, with a mark where its journal failed
-pub record IsOneMore (event : Event) (old new : List Move) : Type 0 where
-  pub applied : Applied
-  pub moves : new ≡ old ++ move_by applied event ∷ []
-
 -- an event of the form that the lines give this one came
-pub record HasComeAs (core : CoreModel) (inner : Inner) (new : List Move) : Type 0 where
+pub record HasComeAs (inner : Inner) (old new : CoreModel) : Type 0 where
   pub event : Event
   pub is : IsOf inner event
-  pub form : form_of (unmarked event) ≡ form_at core.given core.moves inner
-  pub more : IsOneMore event core.moves new
+  pub form : form_of (unmarked event) ≡ form_at old.given old.moves inner
+  pub came : HasCome (node_of inner) event old new

@@ -1,6 +1,7 @@
 -- What the answers of an exchange tell.
-use Rattle.std.specs.Prelude.{◌≡◌, ◌++◌, ◌∷◌, ℕ, Bool, false, IsTrue, IsFalse, List, [], Option}
+use Rattle.std.specs.Prelude.{◌≡◌, ◌++◌, ◌∷◌, ℕ, Bool, true, false, IsTrue, IsFalse, List, [], Option}
 use Rattle.std.specs.List.{IsDistinct, list_any}
+use Rattle.fab_base.specs.Faults.{Rose}
 use Rattle.fab_base.specs.FlatMap.{is_same}
 use Rattle.fab_eval.specs.Attempts.{is_made_in}
 use Rattle.fab_eval.specs.declared.done.Done.{Done}
@@ -12,12 +13,14 @@ use Rattle.fab_net.specs.declared.event.Inner.TheVariants as i
 use Rattle.fab_protocol.specs.Versions.{names_of}
 use Rattle.fab_world.specs.Machine.{World, Move, Form, Does, Cuts, Fails, Posts, Crashes, Never, form_of, node_of, may}
 use Rattle.fab_world.specs.Crashing.{IsOver, is_due, may_follow, must_crash, target_in}
+use Rattle.fab_world.specs.Serial.{IsWaiting}
 use Rattle.fab_settings.specs.Settings.{lines_of}
 use Rattle.fab_node.specs.Standing.{GivenModel, JournalModel}
-use Rattle.fab_core.specs.Cores.{IsJobAt, setting, slot, unmarked, world_by}
-use Rattle.fab_core.specs.Moved.{move_by, sure_in}
-use Rattle.fab_core.specs.Telling.{is_at_work}
+use Rattle.fab_core.specs.Cores.{CoreModel, IsJobAt, setting, slot, unmarked, world, world_by}
+use Rattle.fab_core.specs.Moved.{faults_in, move_by, sure_in}
+use Rattle.fab_core.specs.Telling.{JournalsGain, is_at_work}
 use Rattle.fab_core.specs.declared.applied.Applied.{Applied}
+use Rattle.fab_core.specs.declared.applied.Applied.TheVariants as a
 use Rattle.fab_exchange.specs.declared.turn.Turn.{Turn}
 use Rattle.fab_exchange.specs.declared.turn.Turn.TheVariants as t
 use Rattle.fab_exchange.specs.declared.turn.Given.{Given}
@@ -36,7 +39,11 @@ node_with w Never = 0
 abbrev pub due : GivenModel → List Move → Form → Bool
 due g moves form = is_due (setting g) (lines_of g.program) (world_by g moves) moves form
 
--- none of this node is
+-- it may follow these moves in a run that keeps the crash lines
+abbrev pub follows : GivenModel → List Move → Form → Bool
+follows g moves form = may_follow (setting g) (lines_of g.program) (world_by g moves) moves form
+
+-- none of this node is due
 abbrev pub NoneDue : GivenModel → List Move → ℕ → Type 0
 NoneDue g moves n = (form : Form) → node_with (world_by g moves) form ≡ n → IsFalse (due g moves form)
 
@@ -49,21 +56,75 @@ pub record IsSomeDue (g : GivenModel) (moves : List Move) : Type 0 where
 abbrev pub AreOver : GivenModel → List Move → Type 0
 AreOver g moves = IsOver (setting g) (lines_of g.program) moves
 
+-- what an evaluation came to is taken in it
+abbrev pub resumes : Inner → Bool
+resumes (i.Begin n) = false
+resumes (i.Resume n) = true
+resumes (i.Deliver a b) = false
+resumes (i.Idle n s) = false
+resumes (i.Recover n) = false
+
+-- the same of an event that is done, cut or failed
+abbrev pub is_resume : Form → Bool
+is_resume (Does e) = resumes e
+is_resume (Cuts keep e) = resumes e
+is_resume (Fails keep e) = resumes e
+is_resume (Posts h) = false
+is_resume (Crashes n) = false
+is_resume Never = false
+
+-- it is what the worker has to evaluate
+pub record IsCurrent (g : GivenModel) (moves : List Move) (n : ℕ) (job : Job) : Type 0 where
+  pub at_work : IsTrue (is_at_work g (world_by g moves) n)
+  pub job_is : IsJobAt g (world_by g moves) n job
+
+-- ---- journals
+
+-- the same journals never fail
+abbrev pub AreAsSure : List (Option JournalModel) → List (Option JournalModel) → Type 0
+AreAsSure old new = (n : ℕ) → sure_in (slot new n) ≡ sure_in (slot old n)
+
+-- a journal failed
+abbrev pub IsFailed : Applied → Type 0
+IsFailed a.Whole = ⊥
+IsFailed a.Cut = Unit {0}
+
+-- But for more room the journals of other nodes are as they were. The count of this node's rises exactly where it failed, which one that never
+-- fails doesn't.
+pub record ChangeAt (n : ℕ) (Fails : Type 0) (old new : List (Option JournalModel)) : Type 0 where
+  pub others : (m : ℕ) → (m ≡ n → ⊥) → JournalsGain (slot old m) (slot new m)
+  pub risen : Fails → Rose (faults_in (slot old n)) (faults_in (slot new n))
+  pub same : (Fails → ⊥) → faults_in (slot new n) ≡ faults_in (slot old n)
+  pub sure : sure_in (slot new n) ≡ sure_in (slot old n)
+  pub never : IsTrue (sure_in (slot old n)) → Fails → ⊥
+
 -- ---- next
 
--- a due event of this node came, with a mark where its journal failed
-pub record Acts (g : GivenModel) (n : ℕ) (old new : List Move) : Type 0 where
-  pub event : Event
+-- An event of this node came, with a mark exactly where its journal failed in it, and so it may follow.
+pub record HasCome (n : ℕ) (event : Event) (old new : CoreModel) : Type 0 where
   pub applied : Applied
-  pub due : IsTrue (due g old (form_of (unmarked event)))
-  pub node : node_with (world_by g old) (form_of (unmarked event)) ≡ n
-  pub moves : new ≡ old ++ move_by applied event ∷ []
+  pub follows : IsTrue (follows old.given old.moves (form_of (move_by applied event)))
+  pub moves : new.moves ≡ old.moves ++ move_by applied event ∷ []
+  pub journals : ChangeAt n (IsFailed applied) old.journals new.journals
 
--- an evaluation is asked for whose end is due
+-- no event came
+pub record NoneCame (n : ℕ) (old new : CoreModel) : Type 0 where
+  pub moves : new.moves ≡ old.moves
+  pub journals : ChangeAt n ⊥ old.journals new.journals
+
+-- a due event of this node came, and what an evaluation came to isn't taken so
+pub record Acts (n : ℕ) (old new : CoreModel) : Type 0 where
+  pub event : Event
+  pub due : IsTrue (due old.given old.moves (form_of (unmarked event)))
+  pub node : node_with (world old) (form_of (unmarked event)) ≡ n
+  pub came : HasCome n event old new
+  pub other : IsFalse (is_resume (form_of (move_by came.applied event)))
+
+-- an evaluation is asked for whose end is due, the one that this worker has to make
 pub record Asks (g : GivenModel) (n : ℕ) (old new : List Move) (job : Job) : Type 0 where
   pub comes : IsTrue (may (setting g) (world_by g old) (i.Resume n))
   pub calm : must_crash (setting g) (lines_of g.program) (world_by g old) old n ≡ false
-  pub job_is : IsJobAt g (world_by g old) n job
+  pub current : IsCurrent g old n job
   pub distinct : IsDistinct is_same (names_of job.answers)
   pub made_before : list_any (λ a. is_made_in job.tid a.0) job.answers ≡ false
   pub moves : new ≡ old
@@ -74,17 +135,19 @@ pub record Waits (g : GivenModel) (n : ℕ) (old new : List Move) : Type 0 where
   pub some : IsSomeDue g old
   pub moves : new ≡ old
 
+-- nothing is due at any node, and no worker waits that isn't hostile: each of its requests has an outcome, or it has failed for good
 pub record Ends (g : GivenModel) (old new : List Move) : Type 0 where
   pub over : AreOver g old
+  pub left : (n : ℕ) → IsWaiting (setting g) (world_by g old) n → ⊥
   pub moves : new ≡ old
 
-abbrev pub Turns : GivenModel → ℕ → List Move → List Move → Turn → Type 0
-Turns g n old new t.Acted = Acts g n old new
-Turns g n old new (t.Evaluate job) = Asks g n old new job
-Turns g n old new t.Wait = Waits g n old new
-Turns g n old new t.Over = Ends g old new
+abbrev pub Turns : ℕ → CoreModel → CoreModel → Turn → Type 0
+Turns n old new t.Acted = Acts n old new
+Turns n old new (t.Evaluate job) = Asks old.given n old.moves new.moves job
+Turns n old new t.Wait = Waits old.given n old.moves new.moves
+Turns n old new t.Over = Ends old.given old.moves new.moves
 
--- no event came
+-- it tells of no event
 abbrev pub IsStill : Turn → Type 0
 IsStill t.Acted = ⊥
 IsStill (t.Evaluate job) = Unit {0}
@@ -92,11 +155,6 @@ IsStill t.Wait = Unit {0}
 IsStill t.Over = Unit {0}
 
 -- ---- give
-
--- it is what the worker has to evaluate
-pub record IsCurrent (g : GivenModel) (moves : List Move) (n : ℕ) (job : Job) : Type 0 where
-  pub at_work : IsTrue (is_at_work g (world_by g moves) n)
-  pub job_is : IsJobAt g (world_by g moves) n job
 
 -- it is this event of a node, done or cut
 abbrev pub IsOf : Inner → Event → Type 0
@@ -110,29 +168,22 @@ IsOf inner (e.Post h) = ⊥
 IsOf inner (e.Crash n) = ⊥
 
 -- it was taken: the worker goes on, or a line cuts it there
-pub record Takes (g : GivenModel) (n : ℕ) (done : Done) (old new : List Move) : Type 0 where
-  pub current : IsCurrent g old n done.job
+pub record Takes (n : ℕ) (done : Done) (old new : CoreModel) : Type 0 where
+  pub current : IsCurrent old.given old.moves n done.job
   pub event : Event
-  pub applied : Applied
   pub is : IsOf (i.Resume n) event
-  pub follows : IsTrue (may_follow (setting g) (lines_of g.program) (world_by g old) old (form_of (unmarked event)))
-  pub moves : new ≡ old ++ move_by applied event ∷ []
+  pub may : IsTrue (follows old.given old.moves (form_of (unmarked event)))
+  pub came : HasCome n event old new
 
 pub record IsBack (g : GivenModel) (n : ℕ) (done back : Done) (old new : List Move) : Type 0 where
   pub stale : IsCurrent g old n done.job → ⊥
   pub back_is : back ≡ done
   pub moves : new ≡ old
 
-abbrev pub Gives : GivenModel → ℕ → Done → List Move → List Move → Given → Type 0
-Gives g n done old new given.Taken = Takes g n done old new
-Gives g n done old new (given.Stale back) = IsBack g n done back old new
+abbrev pub Gives : ℕ → Done → CoreModel → CoreModel → Given → Type 0
+Gives n done old new given.Taken = Takes n done old new
+Gives n done old new (given.Stale back) = IsBack old.given n done back old.moves new.moves
 
 abbrev pub IsStale : Given → Type 0
 IsStale given.Taken = ⊥
 IsStale (given.Stale back) = Unit {0}
-
--- ---- journals
-
--- the same journals never fail
-abbrev pub AreAsSure : List (Option JournalModel) → List (Option JournalModel) → Type 0
-AreAsSure old new = (n : ℕ) → sure_in (slot new n) ≡ sure_in (slot old n)

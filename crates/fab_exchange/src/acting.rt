@@ -1,11 +1,12 @@
 //! An event comes, and is counted.
 ghost use Rattle.std.specs.Prelude.{◌≡◌, ◌++◌, ◌∷◌, ◌+◌, ◌<◌, ◌^◌, List, [], IfOk, OnErr, length};
 ghost use Rattle.std.specs.Option.{option_copied};
-ghost use Rattle.fab_world.specs.Machine.{Move};
-ghost use Rattle.fab_core.specs.Moved.{IsMoved, move_by};
-ghost use Rattle.fab_exchange.specs.Comings.{HasComeAs, IsAsBefore, IsFormed, IsOneMore, MayBeMeasured, MayCome, MayFollow, MayGoOn, Measures};
+ghost use Rattle.fab_world.specs.Machine.{Move, form_of, node_of as node_in};
+ghost use Rattle.fab_core.specs.Cores.{unmarked, world};
+ghost use Rattle.fab_core.specs.Moved.{IsCut, IsMoved, move_by};
+ghost use Rattle.fab_exchange.specs.Comings.{HasComeAs, IsAsBefore, IsFormed, MayBeMeasured, MayCome, MayFollow, MayGoOn, Measures};
 ghost use Rattle.fab_exchange.specs.Exchanges.{AreCounts};
-ghost use Rattle.fab_exchange.specs.Turns.{AreAsSure};
+ghost use Rattle.fab_exchange.specs.Turns.{AreAsSure, ChangeAt, HasCome, NoneCame, node_with};
 
 use crate::counting::Count;
 use crate::events::{counted_in, crashed_in, node_at, node_of, whole};
@@ -39,9 +40,13 @@ fn apply<J: Journal>(
     done: Option<&Done>,
 ) -> Result<Applied, NoMemory>
     requires { MayCome core.old event (option_copied done) }
-    ensures { IsMoved event result core.old core.new }
+    ensures moved { IsMoved event result core.old core.new }
+    ensures journals { ChangeAt (node_with (world core.old) (form_of (unmarked event))) (IsCut result) core.old.journals core.new.journals }
 {
-    core.apply(event, done)
+    core.journals_are();
+    let applied = core.apply(event, done);
+    core.journals_are();
+    applied
 }
 
 /// How long the record of an event is that may come, if it writes one, as `apply` by itself.
@@ -62,8 +67,8 @@ impl<J: Journal> Exchange<J> {
     pub(crate) fn enact(&mut self, event: Event, done: Option<&Done>) -> Result<(), NoMemory>
         requires { MayFollow self.old event (option_copied done) }
         ensures given { self.new.given ≡ self.old.given }
-        ensures moves { IfOk result (λ _. IsOneMore event self.old.moves self.new.moves) }
-        ensures memory { OnErr result (self.new.moves ≡ self.old.moves) }
+        ensures came { IfOk result (λ _. HasCome (node_with (world self.old) (form_of (unmarked event))) event self.old self.new) }
+        ensures memory { OnErr result (NoneCame (node_with (world self.old) (form_of (unmarked event))) self.old self.new) }
         ensures sure { AreAsSure self.old.journals self.new.journals }
     {
         self.core.is_a_run();
@@ -97,8 +102,8 @@ impl<J: Journal> Exchange<J> {
     pub(crate) fn does(&mut self, inner: Inner, done: Option<&Done>) -> Result<(), NoMemory>
         requires { MayGoOn self.old inner (option_copied done) }
         ensures given { self.new.given ≡ self.old.given }
-        ensures moves { IfOk result (λ _. HasComeAs self.old inner self.new.moves) }
-        ensures memory { OnErr result (self.new.moves ≡ self.old.moves) }
+        ensures came { IfOk result (λ _. HasComeAs inner self.old self.new) }
+        ensures memory { OnErr result (NoneCame (node_in inner) self.old self.new) }
         ensures sure { AreAsSure self.old.journals self.new.journals }
     {
         let event = self.event_for(inner, done)?;

@@ -2,7 +2,7 @@
 ghost use Rattle.std.specs.Prelude.{◌≡◌, IfOk, IfErr, OnErr};
 ghost use Rattle.std.specs.Bool.{MatchBool};
 ghost use Rattle.fab_exchange.specs.Jobs.{IsTold};
-ghost use Rattle.fab_exchange.specs.Turns.{AreAsSure, Gives, IsStale, IsStill, Turns};
+ghost use Rattle.fab_exchange.specs.Turns.{AreAsSure, Gives, IsStale, IsStill, NoneCame, Turns};
 
 use crate::exchange::Exchange;
 use crate::found::Found;
@@ -16,11 +16,12 @@ use fab_net::{Event, Inner};
 impl<J: Journal> Exchange<J> {
     /// An event of a node comes that is due; or its evaluation is asked for, whose end is due; or it is to wait, exactly where none
     /// of it is due and one of another node is; or all is over, exactly where none is due at all. But for an event, nothing changes.
+    /// What an evaluation came to is taken by `give` alone, so none has to be made under a lock.
     pub fn next(&mut self, node: u16) -> Result<Turn, NoMemory>
         ensures given { self.new.given ≡ self.old.given }
-        ensures turns { IfOk result (Turns self.old.given node self.old.moves self.new.moves) }
+        ensures turns { IfOk result (Turns node self.old self.new) }
         ensures still { IfOk result (λ turn. IsStill turn → self.new ≡ self.old) }
-        ensures memory { OnErr result (self.new.moves ≡ self.old.moves) }
+        ensures memory { OnErr result (NoneCame node self.old self.new) }
         ensures sure { AreAsSure self.old.journals self.new.journals }
     {
         self.core.is_a_run();
@@ -42,7 +43,10 @@ impl<J: Journal> Exchange<J> {
                 Ok(Turn::Acted)
             }
             None if self.is_some_due() => Ok(Turn::Wait),
-            None => Ok(Turn::Over),
+            None => {
+                self.core.goes_on();
+                Ok(Turn::Over)
+            }
         }
     }
 
@@ -51,10 +55,10 @@ impl<J: Journal> Exchange<J> {
     pub fn give(&mut self, node: u16, done: Done) -> Result<Given, GiveRefused>
         requires program { done.job.program.value ≡ self.old.given.program }
         ensures given { self.new.given ≡ self.old.given }
-        ensures gives { IfOk result (Gives self.old.given node done self.old.moves self.new.moves) }
+        ensures gives { IfOk result (Gives node done self.old self.new) }
         ensures stale { IfOk result (λ given. IsStale given → self.new ≡ self.old) }
         ensures back { IfErr result (λ e. e.done ≡ done) }
-        ensures memory { OnErr result (self.new.moves ≡ self.old.moves) }
+        ensures memory { OnErr result (NoneCame node self.old self.new) }
         ensures sure { AreAsSure self.old.journals self.new.journals }
     {
         let Ok(told) = self.core.job(node) else {

@@ -26,4 +26,4 @@ returns-in-Ok-does-clause-gives g c =
     let m = c.args.self.now in
     let Told : CoreModel → Type 0 = λ k. TellsJob k.given (world k) c.args.node c.in-Ok.told in
     let it = current m.given m.moves c.args.node c.in-Ok.told c.args.done.job (subst Told c.self.view_is c.in-Ok.ensures.job) c.if-not-is_current.ensures c.requires.program in
-    takes m.given c.args.node c.args.done m m.moves c.does.new.self.moves refl refl it (may_resume m.given m.moves c.args.node it.at_work) c.in-Ok-does.ensures.moves
+    takes m c.does.new.self c.args.node c.args.done it (may_resume m.given m.moves c.args.node it.at_work) c.in-Ok-does.ensures.came
