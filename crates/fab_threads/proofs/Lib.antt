@@ -1,3 +1,4 @@
+mod CountsExamples
 pub mod Crossing
 pub mod Logs
 pub mod Told

@@ -38,7 +38,7 @@ fn turn_alone<X: Turning, G: Gate>(
     }
 }
 
-/// Takes turns until all is over, each time one of the least node of which something is due. How many events came.
+/// Takes turns until all is over, of one node after the other, of each until nothing of it is due. How many events came.
 pub(crate) fn finish<X: Turning, R: Wait, G: Gate>(
     rt: &R,
     alloc: Global,
@@ -58,7 +58,6 @@ pub(crate) fn finish<X: Turning, R: Wait, G: Gate>(
             Turn::Acted => {
                 let _events = held.len();
                 own += 1;
-                node = 0;
             }
             Turn::Over => return Ok((held, own)),
             Turn::Wait | Turn::Evaluate(_) => node = (node + 1) % NUMBERS,

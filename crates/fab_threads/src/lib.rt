@@ -2,18 +2,21 @@
 //! calling thread.
 //!
 //! What is known of the nodes each time the lock is taken is known by the type of what lies under it: that they are those of the start
-//! that the run is named by, and that each event was counted by a thread. So it is known of them when the threads have returned, too.
+//! that the run is named by, and that what all threads count adds up to the events. So it is known of them when the threads have returned, too.
 //! Nothing is known of which thread does what, or when.
 #![tactic(auto)]
 
 mod alone;
+mod bells;
 mod evaluating;
 mod name;
 mod running;
 mod shared;
 mod turning;
+mod watch;
 
 pub use name::RunName;
 pub use running::{Finished, run_threads};
-pub use shared::Shared;
+pub use shared::{Aside, Shared};
 pub use turning::Turning;
+pub use watch::Rest;

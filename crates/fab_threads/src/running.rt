@@ -1,14 +1,18 @@
 //! The threads, what each gives back, and the run when they have returned.
-ghost use Rattle.std.specs.Prelude.{◌≡◌, ◌+◌, ◌<◌, ℕ, [], sum, length, vec_len, IfOk};
+ghost use Rattle.std.specs.Prelude.{◌≡◌, ◌+◌, ◌^◌, ◌<◌, ℕ, [], sum, length, vec_len, IfNone, IfOk, IfSome};
 ghost use Rattle.fab_exchange.specs.Turns.{AreAsSure, AreOver};
+ghost use Rattle.fab_threads.specs.Counts.{IsReady};
 
 use crate::alone::finish;
+use crate::bells::Bells;
 use crate::evaluating::evaluate_at;
 use crate::name::RunName;
 use crate::shared::Shared;
 use crate::turning::Turning;
+use crate::watch::Rest;
 use fab_base::NoMemory;
 use fab_device::Journal;
+use fab_eval::Job;
 use fab_exchange::{Exchange, Given, Turn};
 use fab_gates::Gate;
 use std::alloc::Global;
@@ -18,8 +22,8 @@ use std::sync::{Mutex, Wait};
 use std::thread;
 use std::thread::Threads;
 
-/// After so many answers to wait in a row a thread leaves.
-const MOST_WAITS: u32 = 100_000;
+/// After so many looks in a row, a millisecond apart, a thread leaves that nobody else would wake.
+const MOST_LOOKS: u32 = 100;
 
 /// What a thread begins with.
 #[derive(Drop)]
@@ -39,7 +43,7 @@ struct Ran<N: RunName> {
     ghost counted: { share.amount ≡ count },
 }
 
-/// A run that is over, with the number of events of each thread, in the order of their nodes, and of those that the calling thread made.
+/// A run that is over, with a count for each thread and one for the calling thread: together as many as it has events.
 #[derive(Drop)]
 pub struct Finished<J: Journal> {
     pub exchange: Exchange<J>,
@@ -61,47 +65,89 @@ fn ran_with<N: RunName>(share: Share<N>, count: u64) -> Ran<N>
     Ran { share, count }
 }
 
-/// One node's thread. It takes turns of its node until all is over, it has waited too long, or memory runs out; what it leaves undone is
-/// found due again by others. Each turn is bound before it is looked at, so that the lock is free while a job is evaluated.
+/// A thread that is to wait does so. Whether it goes on then.
+fn rests<R: Wait>(rt: &R, bells: &Bells, node: u16, rest: Rest, looks: u32) -> bool {
+    match rest {
+        Rest::Sleep => {
+            bells.sleep(rt, node);
+            true
+        }
+        Rest::Look if looks < MOST_LOOKS => {
+            bells.doze(rt, node);
+            true
+        }
+        Rest::Look | Rest::Leave => false,
+    }
+}
+
+/// A job is evaluated while the lock is free, and what it came to is brought back. How many events came of it, or nothing where memory
+/// runs out.
+fn bring<X: Turning, N: RunName, R: Wait, G: Gate>(
+    rt: &R,
+    alloc: Global,
+    shared: &Mutex<Shared<X, N>>,
+    gate: &G,
+    node: u16,
+    job: Job,
+    mine: &mut Share<N>,
+) -> Option<u64>
+    requires job { IsReady N.given.program job }
+    requires part { 0 < mine.old.parts }
+    ensures none { IfNone result (mine.new.amount ≡ mine.old.amount) }
+    ensures amount { IfSome result (λ came. mine.new.amount ≡ mine.old.amount + came) }
+    ensures bound { IfSome result (λ came. mine.new.amount < 2 ^ 64) }
+    ensures parts { mine.new.parts ≡ mine.old.parts }
+{
+    let Ok(done) = evaluate_at(alloc, gate, node, job) else {
+        return None;
+    };
+    let given = shared.lock(rt).give(node, done, mine);
+    match given {
+        Ok(Given::Taken) => Some(1),
+        Ok(Given::Stale(_)) => Some(0),
+        Err(_) => None,
+    }
+}
+
+/// One node's thread. It takes turns of its node until all is over, nobody is left that would do what is due, or memory runs out; what it
+/// leaves undone is found due again by others. Each turn is bound before it is looked at, so that the lock is free while a job is
+/// evaluated. Where a thread leaves the lock for long, it first wakes one of those for whom it left something to do.
 fn work<X: Turning, N: RunName, R: Wait, G: Gate>(
     rt: &R,
     alloc: Global,
     shared: &Mutex<Shared<X, N>>,
+    bells: &Bells,
     gate: &G,
     worker: Worker<N>,
 ) -> Ran<N> {
     let Worker { node, mut share } = worker;
     let mut count = 0_u64;
-    let mut waits = 0;
+    let mut looks = 0;
     for _ in rt.forever() {
-        let turn = shared.lock(rt).next(node, &mut share);
+        let (turn, aside) = shared.lock(rt).turn(node, &mut share);
+        bells.ring(aside.wakes);
         match turn {
             Ok(Turn::Acted) => {
                 count += 1;
-                waits = 0;
+                looks = 0;
             }
             Ok(Turn::Evaluate(job)) => {
-                waits = 0;
-                let Ok(done) = evaluate_at(alloc, gate, node, job) else {
+                let Some(came) = bring(rt, alloc, shared, gate, node, job, &mut share) else {
                     break;
                 };
-                let given = shared.lock(rt).give(node, done, &mut share);
-                match given {
-                    Ok(Given::Taken) => count += 1,
-                    Ok(Given::Stale(_)) => {}
-                    Err(_) => break,
-                }
+                count += came;
             }
             Ok(Turn::Wait) => {
-                if waits >= MOST_WAITS {
+                if !rests(rt, bells, node, aside.rest, looks) {
                     break;
                 }
-                waits += 1;
-                thread::yield_now();
+                looks = looks.saturating_add(1);
             }
             Ok(Turn::Over) | Err(_) => break,
         }
     }
+    let woken = shared.lock(rt).leave(node);
+    bells.ring(woken);
     ran_with(share, count)
 }
 
@@ -131,8 +177,9 @@ fn run_named<X: Turning + Send, N: RunName + Send + Sync, R: Threads + Wait + Sy
         let share = all.split_off(1, 0);
         workers.push(worker_of(nodes[place], share))?;
     }
+    let bells = Bells::make(alloc)?;
     let shared = Mutex::new(Shared::new(held, book));
-    let rans = thread::map_vec(rt, workers, &|w| work(rt, alloc, &shared, gate, w))?;
+    let rans = thread::map_vec(rt, workers, &|w| work(rt, alloc, &shared, &bells, gate, w))?;
     let mut counts = Vec::new(alloc);
     for Ran { share, count } in rans {
         all.merge(share);
@@ -142,8 +189,8 @@ fn run_named<X: Turning + Send, N: RunName + Send + Sync, R: Threads + Wait + Sy
     Ok((held, counts))
 }
 
-/// Runs an exchange until it is over: a thread for each of these nodes, and what they leave by the calling thread. Each event of the run
-/// was counted once, by the thread that made it.
+/// Runs an exchange until it is over: a thread for each of these nodes, and what they leave by the calling thread. The counts of all
+/// threads and of the calling one add up to the events of the run.
 pub fn run_threads<J: Journal + Drop + Send, R: Threads + Wait + Sync, G: Gate + Sync>(
     rt: &R,
     alloc: Global,

@@ -10,6 +10,7 @@ use fab_base::NoMemory;
 use fab_device::Journal;
 use fab_eval::Done;
 use fab_exchange::{Exchange, GiveRefused, Given, Turn};
+use fab_net::Event;
 
 /// What takes turns and counts its events, of nodes that were given something, some of whose journals never fail. It is what threads
 /// hand to each other, so nothing else of an exchange has to be said across threads.
@@ -43,6 +44,12 @@ pub trait Turning: Drop {
         ensures given { given self.new ≡ given self.old }
         ensures sure { (n : ℕ) → sure self.new n ≡ sure self.old n }
         ensures counted { events self.new ≡ events self.old + taken result };
+
+    /// Whether a message of one node waits for another. It tells whom to wake, and no clause rests on it.
+    fn reaches(&self, sender: u16, receiver: u16) -> bool;
+
+    /// Whether a worker may give up waiting for a store, for the same.
+    fn gives_up(&self, worker: u16, store: u16) -> bool;
 }
 
 impl<J: Journal + Drop> Turning for Exchange<J> {
@@ -65,5 +72,13 @@ impl<J: Journal + Drop> Turning for Exchange<J> {
 
     fn give(&mut self, node: u16, done: Done) -> Result<Given, GiveRefused> {
         Exchange::give(self, node, done)
+    }
+
+    fn reaches(&self, sender: u16, receiver: u16) -> bool {
+        self.core().may_whole(Event::Deliver(sender, receiver))
+    }
+
+    fn gives_up(&self, worker: u16, store: u16) -> bool {
+        self.core().may_whole(Event::Idle(worker, store))
     }
 }
