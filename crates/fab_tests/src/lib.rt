@@ -1,24 +1,19 @@
-//! Tests of the top call, as tables of texts and of what they give.
+//! Tests of the top call over sources, sinks, journals and gates that a program over files doesn't have. What words and a text
+//! give stands in `cases`, and is run on the built program.
 #![tactic(auto)]
 
 #[cfg(test)]
-mod check_tests;
+mod fault_tests;
 #[cfg(test)]
-mod eval_tests;
-#[cfg(test)]
-mod flow_tests;
+mod gate_tests;
 #[cfg(test)]
 mod journal_tests;
 #[cfg(test)]
-mod limit_tests;
-#[cfg(test)]
-mod name_tests;
-#[cfg(test)]
-mod print_tests;
-#[cfg(test)]
 mod replay_tests;
 #[cfg(test)]
-mod syntax_tests;
+mod run_tests;
+#[cfg(test)]
+mod sink_tests;
 #[cfg(test)]
 mod tests;
 #[cfg(test)]

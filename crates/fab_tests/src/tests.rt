@@ -24,86 +24,11 @@ pub(crate) fn words_of(alloc: Global, words: &str) -> Result<Vec<String>, NoMemo
     Ok(list)
 }
 
-/// Asks for this of a text, and compares the status and what is written.
-pub(crate) fn expect(
-    rt: &(impl Abort + Threads + Wait + Sync),
-    alloc: Global,
-    word: &str,
-    text: &[u8],
-    status: Status,
-    reply: &str,
-) -> Result<(), NoMemory> {
-    let words = words_of(alloc, word)?;
-    let mut source = SureSource::new(Seq::from_slice(alloc, text)?);
-    let mut sink = SureSink::new(alloc)?;
-    let mut journals = SureJournals::new(alloc)?;
-    let found = fab(
-        rt,
-        alloc,
-        &words,
-        &mut source,
-        &mut sink,
-        &mut journals,
-        &OpenGate,
-    );
-    assert_eq!(rt; found, status);
-    assert_eq!(rt; sink.bytes(), reply.as_bytes());
-    Ok(())
-}
-
-/// Asks with these words of a text, and compares the status's number and what is written. What differs
-/// is told with the row of the table.
-pub(crate) fn replies(
-    rt: &(impl Abort + Threads + Wait + Sync),
-    alloc: Global,
-    words: &str,
-    text: &str,
-    status: u8,
-    reply: &str,
-    row: &str,
-) -> Result<(), NoMemory> {
-    let list = words_of(alloc, words)?;
-    let mut source = SureSource::new(Seq::from_slice(alloc, text.as_bytes())?);
-    let mut sink = SureSink::new(alloc)?;
-    let mut journals = SureJournals::new(alloc)?;
-    let found = fab(
-        rt,
-        alloc,
-        &list,
-        &mut source,
-        &mut sink,
-        &mut journals,
-        &OpenGate,
-    );
-    assert_eq!(rt; found.number(), status, "{words}: {row}");
-    let Ok(written) = std::str::from_utf8(sink.bytes()) else {
-        panic!(rt; "no text of {words}: {row}");
-    };
-    assert_eq!(rt; written, reply, "{words}: {row}");
-    Ok(())
-}
-
-/// Each line of a table has a place and a text. `fmt` refuses the text there.
-pub(crate) fn refused(
-    rt: &(impl Abort + Threads + Wait + Sync),
-    alloc: Global,
-    table: &str,
-) -> Result<(), NoMemory> {
-    for row in table.lines() {
-        let Some((at, text)) = row.split_once(' ') else {
-            panic!(rt; "no place in {row}");
-        };
-        let line = format!(in alloc; "syntax at {at}\n")?;
-        replies(rt, alloc, "fmt", text, 5, line.as_str(), row)?;
-    }
-    Ok(())
-}
-
 /// Words that ask for nothing: nothing is read, even where the first read would fail.
 #[test]
 fn other_words(rt: HostRuntime) -> Result<(), Fail> {
     let alloc = rt.alloc();
-    let words = words_of(alloc, "run")?;
+    let words = words_of(alloc, "runs")?;
     let text = Seq::from_slice(alloc, SMALLEST.as_bytes())?;
     let mut source = MemSource::with_fails(alloc, text, Seq::from_slice(alloc, &[1])?)?;
     let mut sink = SureSink::new(alloc)?;
