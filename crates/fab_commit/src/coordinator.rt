@@ -83,7 +83,8 @@ impl Coordinator {
         }
     }
 
-    /// Takes the vote of a store, and says what it comes to. A second Yes of a store is none.
+    /// Takes the vote of a store, and says what it comes to. A second Yes of a store changes nothing; where nobody is
+    /// waited for any more it comes to a commit again.
     pub fn vote(&mut self, store: u16, yes: bool) -> Verdict
         ensures verdict { result ≡ verdict store yes self.old.waiting }
         ensures coordinator { self.new ≡ voted store yes self.old }
