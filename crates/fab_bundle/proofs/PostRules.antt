@@ -224,7 +224,8 @@ crash_4 h0 h1 h2 h3 = part (crash_3 h0 h1 h2) h3 (λ more v after q h. any_follo
 pub crash_5 : {room : ℕ} {a0 a1 a2 a3 a4 a5 : List Token} {x1 : Name} {x3 : ℕ} {x4 : Option ℕ} → Is m.Crash a0 a1 → Read IsName any room a1 x1 a2 → Is m.After a2 a3 → Read IsNumeral any room a3 x3 a4 → Read (Perhaps m.Keep IsNumeral) after_number room a4 x4 a5 → Going IsCrash any room a0 CrashRest5 (λ v. crash_of (tt, (x1, (tt, (x3, (x4, v)))))) room a5
 crash_5 h0 h1 h2 h3 h4 = part (crash_4 h0 h1 h2 h3) h4 (λ more v after q h. sign_follows m.Semicolon after_number refl q.first)
 
-pub crash_6 : {room : ℕ} {a0 a1 a2 a3 a4 a5 a6 : List Token} {x1 : Name} {x3 : ℕ} {x4 : Option ℕ} → Is m.Crash a0 a1 → Read IsName any room a1 x1 a2 → Is m.After a2 a3 → Read IsNumeral any room a3 x3 a4 → Read (Perhaps m.Keep IsNumeral) after_number room a4 x4 a5 → Is m.Semicolon a5 a6 → Going IsCrash any room a0 CrashRest6 (λ v. crash_of (tt, (x1, (tt, (x3, (x4, (tt, v))))))) room a6
+pub crash_6 : {room : ℕ} {a0 a1 a2 a3 a4 a5 a6 : List Token} {x1 : Name} {x3 : ℕ} {x4 : Option ℕ} → Is m.Crash a0 a1 → Read IsName any room a1 x1 a2 → Is m.After a2 a3 → Read IsNumeral any room a3 x3 a4 → Read (Perhaps m.Keep IsNumeral) after_number room a4 x4 a5 → Is m.Semicolon a5 a6
+    → Going IsCrash any room a0 CrashRest6 (λ v. crash_of (tt, (x1, (tt, (x3, (x4, (tt, v))))))) room a6
 crash_6 h0 h1 h2 h3 h4 h5 = sign (crash_5 h0 h1 h2 h3 h4) h5 refl
 
 -- ---- ["cache" number ";"]

@@ -91,7 +91,8 @@ pub base_back : (before q z : Point) (locals : List Value) → q.base ≡ (savin
 base_back before q z locals e f = ap (λ (y : Point). y.base) f ∙ ap (λ (b : Base). with_saved (under b.saved) b) e
 
 -- the block failed, and the other one is run
-pub attempt_failed : (result last : Result (Unit {0}) Halt) (before q z new : Point) (locals : List Value) (run : Run (Unit {0})) (other : M (Unit {0})) → went_on result ≡ Ok false → Gives result q run → q.base ≡ (saving before).base → locals ≡ before.state.locals → z ≡ with_locals locals (aborted q) → Gives last new (other z.state) → Gives last new (or_else before.state run other)
+pub attempt_failed : (result last : Result (Unit {0}) Halt) (before q z new : Point) (locals : List Value) (run : Run (Unit {0})) (other : M (Unit {0}))
+    → went_on result ≡ Ok false → Gives result q run → q.base ≡ (saving before).base → locals ≡ before.state.locals → z ≡ with_locals locals (aborted q) → Gives last new (other z.state) → Gives last new (or_else before.state run other)
 attempt_failed (Ok u) last before q z new locals run other w g b l e f = cc
 attempt_failed (Err Memory) last before q z new locals run other w g b l e f = cc
 attempt_failed (Err (Ended Failed)) last before q z new locals run other w g b l e f =

@@ -215,7 +215,8 @@ put_back : from 9 (Null ∷ Null ∷ []) (atomically much (create tid 0 0 4 (int
 put_back = refl
 
 -- what was written and made before stays so
-kept_from_before : from 9 (Null ∷ []) (write 5 0 (int (pos 7)) (Ref (root 1)) >> create tid 0 0 4 (int (pos 1) ∷ []) >>= assign 0 >> atomically much (gives tt)) ≡ goes tt (record (at 8 (Ref (named 4 0) ∷ [])) { heap = record { rows = (named 4 0, holding (pos 1)) ∷ two_roots; written = root 1 ∷ []; made = named 4 0 ∷ [] }; touches = (5, root 1) ∷ []; downs = (6, int (pos 3)) ∷ [] })
+kept_from_before : from 9 (Null ∷ []) (write 5 0 (int (pos 7)) (Ref (root 1)) >> create tid 0 0 4 (int (pos 1) ∷ []) >>= assign 0 >> atomically much (gives tt))
+    ≡ goes tt (record (at 8 (Ref (named 4 0) ∷ [])) { heap = record { rows = (named 4 0, holding (pos 1)) ∷ two_roots; written = root 1 ∷ []; made = named 4 0 ∷ [] }; touches = (5, root 1) ∷ []; downs = (6, int (pos 3)) ∷ [] })
 kept_from_before = refl
 
 -- a block that doesn't fail keeps what it did, and the other isn't run

@@ -285,7 +285,8 @@ module _ (few many : FlatMap) where
   by_room true o y t k n = both_end (stopped Writes) t k n
   by_room false o y t k n = both_go tt (record t { heap = with_written o y t.heap }) (put o y k) (put_near o y t.heap (with_written o y t.heap) k n refl (λ p. written_more o p t.heap))
 
-  by_replaced : (b : Bool) (o : Oid) (y : Object) (t : State) (k : FlatMap) → is_changed o t.heap ≡ b → Near t.heap k → Same (settled (if b then Some (with_row o y t.heap) else (if is_spent t.heap then None else Some (with_written o y t.heap))) t) (settled (if b then Some (with_row o y (over k t).heap) else (if is_spent t.heap then None else Some (with_written o y (over k t).heap))) (over k t))
+  by_replaced : (b : Bool) (o : Oid) (y : Object) (t : State) (k : FlatMap) → is_changed o t.heap ≡ b → Near t.heap k
+      → Same (settled (if b then Some (with_row o y t.heap) else (if is_spent t.heap then None else Some (with_written o y t.heap))) t) (settled (if b then Some (with_row o y (over k t).heap) else (if is_spent t.heap then None else Some (with_written o y (over k t).heap))) (over k t))
   by_replaced true o y t k i n = both_go tt (record t { heap = with_row o y t.heap }) (put o y k) (put_near o y t.heap (with_row o y t.heap) k n refl (λ p. changed_again o p t.heap i))
   by_replaced false o y t k i n = by_room (is_spent t.heap) o y t k n
 
