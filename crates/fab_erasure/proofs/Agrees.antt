@@ -2,7 +2,7 @@
 use Rattle.std.proofs.Common.{◌≡◌, inl, inr, ℕ, zero, suc, List, [], ◌∷◌, ◌++◌, Option, Some, None, Bool, true, false, not, ◌&&◌, ◌||◌, ◌==◌, map, length, refl, sym, ap, ◌∙◌, subst, true≢false, append-nil, arith}
 use Rattle.std.specs.Prelude.{slice_get}
 use Rattle.std.specs.List.{list_any, list_all, filter, flat_map, AllByRecursion}
-use Rattle.std.proofs.lemmas.Bool.{and_from}
+use Rattle.std.proofs.lemmas.Bool.{and_from, and_parts, or_right}
 use Rattle.std.proofs.lemmas.Bool.Decides.{nat_tests}
 use Rattle.fab_base.specs.declared.object.Oid.{Oid}
 use Rattle.fab_base.specs.declared.object.Stop.{Stop}
@@ -26,7 +26,7 @@ use Rattle.fab_laws.specs.Shapes.{AllSuit}
 use Rattle.fab_laws.proofs.Shapes.{met}
 use Rattle.fab_erasure.specs.Erased as erase
 use Rattle.fab_erasure.specs.Erased.{returns_blank}
-use Rattle.fab_erasure.specs.Agreement.{Downgrading, downgrades_in, downgrades_of, IsIn, in_view, goes_into_view, touch_in_view, given_by, rows_shown, begins_in_view, result_seen, IsView, IsKept, IsFront, Agrees, ErasureAgrees}
+use Rattle.fab_erasure.specs.Agreement.{Downgrading, downgrades_in, downgrades_of, IsIn, in_view, goes_into_view, downs_seen, touch_in_view, given_by, rows_shown, begins_in_view, result_seen, IsView, IsKept, IsFront, Agrees, ErasureAgrees}
 use Rattle.fab_erasure.proofs.Views.{filter_twice, split_left, get_shown, get_unshown, shown_ascends}
 use Rattle.fab_erasure.proofs.Near as n
 use Rattle.fab_erasure.proofs.Near.{Sight, Match, both_go, both_fail, both_miss, miss, cut, Hidden, went, fell, lost, halted}
@@ -55,7 +55,7 @@ at_index P g (y ∷ xs) zero x h e = subst (λ z. AllByRecursion P (g z)) (same 
     same a b i = cc
 at_index P g (y ∷ xs) (suc i) x h e = at_index P g xs i x (split_after P (g y) (flat_map g xs) h) e
 
-all_pass : {A : Type 0} (p : A → Bool) (xs : List A) → ((x : A) → IsIn x xs → p x ≡ true) → list_all p xs ≡ true
+pub all_pass : {A : Type 0} (p : A → Bool) (xs : List A) → ((x : A) → IsIn x xs → p x ≡ true) → list_all p xs ≡ true
 all_pass p [] h = refl
 all_pass p (x ∷ xs) h = and_from (p x) (list_all p xs) (h x (inl refl)) (all_pass p xs (λ y i. h y (inr i)))
 
@@ -68,7 +68,7 @@ one_fails p (y ∷ xs) x (inr i) e = ap (λ b. p y && b) (one_fails p xs x i e) 
     none true = refl
     none false = refl
 
-one_passes : {A : Type 0} (p : A → Bool) (xs : List A) (x : A) → IsIn x xs → p x ≡ true → list_any p xs ≡ true
+pub one_passes : {A : Type 0} (p : A → Bool) (xs : List A) (x : A) → IsIn x xs → p x ≡ true → list_any p xs ≡ true
 one_passes p [] x i e = absurd i
 one_passes p (y ∷ xs) x (inl same) e = ap (λ b. b || list_any p xs) (ap p (sym same) ∙ e)
 one_passes p (y ∷ xs) x (inr i) e = ap (λ b. p y || b) (one_passes p xs x i e) ∙ any (p y)
@@ -94,8 +94,43 @@ module _ (sees shows : ℕ → Bool) (r : Resolved) (view : IsView sees shows r)
   abbrev down_seen : ℕ → Bool
   down_seen = goes_into_view sees shows r
 
+  abbrev turns : ℕ × ℕ → Bool
+  turns z = not (sees z.0) && sees z.1
+
+  abbrev keeps : ℕ × ℕ → Bool
+  keeps z = sees z.0 || sees z.1
+
+  abbrev down_kept : ℕ → Bool
+  down_kept = downs_seen sees shows r
+
+  -- what goes into the seen is kept
+  any_more : (p q : Downgrading → Bool) → ((d : Downgrading) → p d ≡ true → q d ≡ true) → (ds : List Downgrading) → list_any p ds ≡ true → list_any q ds ≡ true
+  any_more p q f [] e = absurd (true≢false (sym e))
+  any_more p q f (d ∷ ds) e = elim (p d) as (λ b. p d ≡ b → (b || list_any p ds) ≡ true → (q d || list_any q ds) ≡ true) [
+    | true ↦ λ i j. ap (λ b. b || list_any q ds) (f d i)
+    | false ↦ λ i j. or_right (q d) (list_any q ds) (any_more p q f ds j)
+  ] refl e
+
+  within : (site : ℕ) → down_seen site ≡ true → down_kept site ≡ true
+  within site e =
+      let p = and_parts (site_seen site) (list_any (λ (d : Downgrading). (d.0 == site) && turns d.1) (downgrades_of r)) e in
+      and_from (site_seen site) (list_any (λ (d : Downgrading). (d.0 == site) && keeps d.1) (downgrades_of r)) p.0
+      (any_more (λ (d : Downgrading). (d.0 == site) && turns d.1) (λ (d : Downgrading). (d.0 == site) && keeps d.1)
+      (λ d i. let q = and_parts (d.0 == site) (turns d.1) i in and_from (d.0 == site) (keeps d.1) q.0
+      (or_right (sees d.1.0) (sees d.1.1) (and_parts (not (sees d.1.0)) (sees d.1.1) q.1).1)) (downgrades_of r) p.1)
+
   abbrev sight : List Value → Sight
-  sight whole = record { sees = sees; shows = shows; site_seen = site_seen; down_seen = down_seen; whole = whole; program = r; tid = tid }
+  sight whole = record {
+    sees = sees;
+    shows = shows;
+    site_seen = site_seen;
+    down_seen = down_seen;
+    down_kept = down_kept;
+    within = within;
+    whole = whole;
+    program = r;
+    tid = tid;
+  }
 
   labelled : IsLabelled sees shows r
   labelled = record { shown = view.shown; absent = view.absent }
@@ -113,20 +148,18 @@ module _ (sees shows : ℕ → Bool) (r : Resolved) (view : IsView sees shows r)
   placed : AllByRecursion (λ (y : ℕ × List ℕ). site_seen y.0 ≡ list_all sees y.1) (sites_of r)
   placed = all_of (λ (y : ℕ × List ℕ). site_seen y.0 ≡ list_all sees y.1) (sites_of r) (λ y i. site_by y i (list_all sees y.1) refl)
 
-  abbrev turns : ℕ × ℕ → Bool
-  turns z = not (sees z.0) && sees z.1
-
-  turn_by : (d : Downgrading) → IsIn d (downgrades_of r) → (b : Bool) → turns d.1 ≡ b → list_any (λ (x : Downgrading). (x.0 == d.0) && turns x.1) (downgrades_of r) ≡ b
-  turn_by d i true e = one_passes (λ (x : Downgrading). (x.0 == d.0) && turns x.1) (downgrades_of r) d i (and_from (d.0 == d.0) (turns d.1) (self d.0) e)
-  turn_by d i false e = none_passes (λ (x : Downgrading). (x.0 == d.0) && turns x.1) (downgrades_of r) (λ x j. by x j (x.0 == d.0) refl)
+  turn_by : (p : ℕ × ℕ → Bool) (d : Downgrading) → IsIn d (downgrades_of r) → (b : Bool) → p d.1 ≡ b
+      → list_any (λ (x : Downgrading). (x.0 == d.0) && p x.1) (downgrades_of r) ≡ b
+  turn_by p d i true e = one_passes (λ (x : Downgrading). (x.0 == d.0) && p x.1) (downgrades_of r) d i (and_from (d.0 == d.0) (p d.1) (self d.0) e)
+  turn_by p d i false e = none_passes (λ (x : Downgrading). (x.0 == d.0) && p x.1) (downgrades_of r) (λ x j. by x j (x.0 == d.0) refl)
     where
-      by : (x : Downgrading) → IsIn x (downgrades_of r) → (c : Bool) → (x.0 == d.0) ≡ c → (c && turns x.1) ≡ false
-      by x j true k = ap turns (view.one_way x d j i (same_number x.0 d.0 k)) ∙ e
+      by : (x : Downgrading) → IsIn x (downgrades_of r) → (c : Bool) → (x.0 == d.0) ≡ c → (c && p x.1) ≡ false
+      by x j true k = ap p (view.one_way x d j i (same_number x.0 d.0 k)) ∙ e
       by x j false k = refl
 
-  turned : AllByRecursion (λ (d : Downgrading). down_seen d.0 ≡ (site_seen d.0 && turns d.1)) (downgrades_of r)
-  turned = all_of (λ (d : Downgrading). down_seen d.0 ≡ (site_seen d.0 && turns d.1)) (downgrades_of r)
-      (λ d i. ap (λ b. site_seen d.0 && b) (turn_by d i (turns d.1) refl))
+  turned : AllByRecursion (n.Turns (sight [])) (downgrades_of r)
+  turned = all_of (n.Turns (sight [])) (downgrades_of r)
+      (λ d i. (ap (λ b. site_seen d.0 && b) (turn_by turns d i (turns d.1) refl), ap (λ b. site_seen d.0 && b) (turn_by keeps d i (keeps d.1) refl)))
 
   owing : (whole : List Value) (i : ℕ) (m : Method) → slice_get r.methods i ≡ Some m → MethodOwing (sight whole) labelled m
   owing whole i m e =
@@ -136,7 +169,7 @@ module _ (sees shows : ℕ → Bool) (r : Resolved) (view : IsView sees shows r)
       record {
         kept_all = at_index (λ (x : Owed). IsKept sees shows r x.claim) (method_owes r.classes r.methods) r.methods i m kept e;
         placed = at_index (λ (y : ℕ × List ℕ). site_seen y.0 ≡ list_all sees y.1) (method_sites r.classes) r.methods i m placed e;
-        turned = at_index (λ (d : Downgrading). down_seen d.0 ≡ (site_seen d.0 && turns d.1)) (λ (z : Method). flat_map downgrades_in z.body) r.methods i m turned e;
+        turned = at_index (n.Turns (sight [])) (λ (z : Method). flat_map downgrades_in z.body) r.methods i m turned e;
         met = met r view.fitting i m e;
       }
 
@@ -171,6 +204,7 @@ module _ (sees shows : ℕ → Bool) (r : Resolved) (view : IsView sees shows r)
       pub made : filter (λ (o : Oid). shows o.class) u.heap.made ≡ filter (λ (o : Oid). shows o.class) v.heap.made
       pub names : filter (λ (o : Oid). in_view sees shows r o.site) u.heap.made ≡ filter (λ (o : Oid). in_view sees shows r o.site) v.heap.made
       pub downs : filter (λ (d : ℕ × Value). goes_into_view sees shows r d.0) u.downs ≡ filter (λ (d : ℕ × Value). goes_into_view sees shows r d.0) v.downs
+      pub kept : filter (λ (d : ℕ × Value). downs_seen sees shows r d.0) u.downs ≡ filter (λ (d : ℕ × Value). downs_seen sees shows r d.0) v.downs
 
     done : (u v : State) → HeapNear u.heap v.heap → TraceNear u v → Done u v
     done u v h m = record {
@@ -179,7 +213,8 @@ module _ (sees shows : ℕ → Bool) (r : Resolved) (view : IsView sees shows r)
       written = sym (ap (filter (λ (o : Oid). shows o.class)) h.written ∙ filter_twice (λ (o : Oid). shows o.class) u.heap.written);
       made = h.shown;
       names = sym (ap (filter (λ (o : Oid). in_view sees shows r o.site)) h.made ∙ filter_twice (λ (o : Oid). in_view sees shows r o.site) u.heap.made);
-      downs = m.downs;
+      downs = n.given_same (sight whole) u.downs v.downs m.downs;
+      kept = m.downs;
     }
 
     abbrev Plain : State → Type 0
@@ -237,6 +272,7 @@ module _ (sees shows : ℕ → Bool) (r : Resolved) (view : IsView sees shows r)
       made = λ i. d.made;
       names = λ i. d.names;
       downs = λ i. d.downs;
+      kept = λ i. d.kept;
       wrote = λ i. wrote_by u v d p;
       plain = p.touches;
       plain_written = p.written;
@@ -258,6 +294,7 @@ module _ (sees shows : ℕ → Bool) (r : Resolved) (view : IsView sees shows r)
       made = λ i. d.made;
       names = λ i. d.names;
       downs = λ i. d.downs;
+      kept = λ i. d.kept;
       wrote = λ i. wrote_by u v d p;
       plain = p.touches;
       plain_written = p.written;
@@ -301,13 +338,14 @@ module _ (sees shows : ℕ → Bool) (r : Resolved) (view : IsView sees shows r)
       made = λ i. absurd i;
       names = λ i. absurd i;
       downs = λ i. absurd i;
+      kept = λ i. absurd i;
       wrote = λ i. absurd i;
       plain = (behind_plain q p).touches;
       plain_written = (behind_plain q p).written;
       plain_made = (behind_plain q p).made;
       touches_so_far = subst (λ l. IsFront (filter (touch_in_view sees shows r) u.touches) (filter (touch_in_view sees shows r) l)) (sym (behind_touches q)) f.touches;
       downs_so_far = subst (λ l. IsFront (filter (λ (d : ℕ × Value). goes_into_view sees shows r d.0) u.downs)
-          (filter (λ (d : ℕ × Value). goes_into_view sees shows r d.0) l)) (sym (behind_downs q)) f.downs;
+          (filter (λ (d : ℕ × Value). goes_into_view sees shows r d.0) l)) (sym (behind_downs q)) (n.front_within (sight whole) u.downs (state_behind q).downs f.downs);
       missing = λ site o e i. absurd (stop_no_miss s site o e);
     }
 
@@ -322,6 +360,7 @@ module _ (sees shows : ℕ → Bool) (r : Resolved) (view : IsView sees shows r)
       made = λ i. d.made;
       names = λ i. d.names;
       downs = λ i. d.downs;
+      kept = λ i. d.kept;
       wrote = λ i. wrote_by u v d p;
       plain = p.touches;
       plain_written = p.written;
@@ -343,13 +382,14 @@ module _ (sees shows : ℕ → Bool) (r : Resolved) (view : IsView sees shows r)
       made = λ i. absurd (true≢false (sym i ∙ out));
       names = λ i. absurd (true≢false (sym i ∙ out));
       downs = λ i. absurd (true≢false (sym i ∙ out));
+      kept = λ i. absurd (true≢false (sym i ∙ out));
       wrote = λ i. absurd (true≢false (sym i ∙ out));
       plain = (behind_plain q p).touches;
       plain_written = (behind_plain q p).written;
       plain_made = (behind_plain q p).made;
       touches_so_far = subst (λ l. IsFront (filter (touch_in_view sees shows r) u.touches) (filter (touch_in_view sees shows r) l)) (sym (behind_touches q)) f.touches;
       downs_so_far = subst (λ l. IsFront (filter (λ (d : ℕ × Value). goes_into_view sees shows r d.0) u.downs)
-          (filter (λ (d : ℕ × Value). goes_into_view sees shows r d.0) l)) (sym (behind_downs q)) f.downs;
+          (filter (λ (d : ℕ × Value). goes_into_view sees shows r d.0) l)) (sym (behind_downs q)) (n.front_within (sight whole) u.downs (state_behind q).downs f.downs);
       missing = λ at p e i. absurd (true≢false (sym (subst (λ z. touch_in_view sees shows r (z, o) ≡ true) (sym (missed_site site at o p e))
           (subst (λ z. touch_in_view sees shows r (at, z) ≡ true) (sym (missed_name site at o p e)) i)) ∙ out));
     }

@@ -11,3 +11,4 @@ pub mod Statements
 pub mod Methods
 pub mod Plain
 pub mod Agrees
+pub mod ErasedForms

@@ -1,5 +1,5 @@
 -- Methods and calls: a call of a method whose begin label is seen is followed, and one of another hides.
-use Rattle.std.proofs.Common.{◌≡◌, ℕ, zero, suc, List, [], ◌∷◌, ◌++◌, Option, Some, None, Bool, true, false, not, ◌&&◌, if◌then◌else◌, refl, sym, ap, ◌∙◌, subst, true≢false}
+use Rattle.std.proofs.Common.{◌≡◌, ℕ, zero, suc, List, [], ◌∷◌, ◌++◌, Option, Some, None, Bool, true, false, ◌&&◌, if◌then◌else◌, refl, sym, ap, ◌∙◌, subst, true≢false}
 use Rattle.std.specs.Prelude.{slice_get}
 use Rattle.std.specs.List.{list_all, flat_map, AllByRecursion}
 use Rattle.std.proofs.lemmas.Bool.{and_parts}
@@ -24,7 +24,7 @@ use Rattle.fab_laws.proofs.Shapes.{Shaped, Has, Then, Lacks, Meets, kept, taken,
 use Rattle.fab_laws.proofs.Locality.{Longer, as_long, all_calls}
 use Rattle.fab_erasure.specs.Erased as erase
 use Rattle.fab_erasure.specs.Erased.{shown_if, returns_blank}
-use Rattle.fab_erasure.specs.Agreement.{Downgrading, downgrades_in}
+use Rattle.fab_erasure.specs.Agreement.{downgrades_in}
 use Rattle.fab_erasure.proofs.Views.{split_left, split_right, both_seen}
 use Rattle.fab_erasure.proofs.Near as n
 use Rattle.fab_erasure.proofs.Near.{Sight, Any, Whatever, kinds_of, Match, both_go, both_fail, cut, Hidden, went, fell, lost, halted}
@@ -74,8 +74,7 @@ module _ (sight : Sight) (view : IsLabelled sight.sees sight.shows sight.program
   pub record MethodOwing (m : Method) : Type 0 where
     pub kept_all : Owes (method_owes sight.program.classes sight.program.methods m)
     pub placed : AllByRecursion (λ (y : ℕ × List ℕ). sight.site_seen y.0 ≡ list_all sight.sees y.1) (method_sites sight.program.classes m)
-    pub turned : AllByRecursion (λ (d : Downgrading). sight.down_seen d.0 ≡ (sight.site_seen d.0 && (not (sight.sees d.1.0) && sight.sees d.1.1)))
-        (flat_map downgrades_in m.body)
+    pub turned : AllByRecursion (n.Turns sight) (flat_map downgrades_in m.body)
     pub met : AllByRecursion (Meets sight.program sight.tid) (method_claims sight.program.classes sight.program.methods m)
 
   module _ (call blank : Call) (calls : Followed call blank) (typed : IsTyped call) (m : Method) (owing : MethodOwing m) where

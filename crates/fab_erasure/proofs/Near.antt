@@ -1,5 +1,5 @@
 -- A full run beside an erased one: what their states have in common, what a hidden run leaves, and how runs follow each other.
-use Rattle.std.proofs.Common.{◌≡◌, ℕ, zero, suc, ◌≤◌, List, [], ◌∷◌, ◌++◌, Bool, true, false, ◌&&◌, map, length, refl, sym, ap, ◌∙◌, subst, true≢false, append_assoc, append-nil, arith}
+use Rattle.std.proofs.Common.{◌≡◌, ℕ, zero, suc, ◌≤◌, List, [], ◌∷◌, ◌++◌, Bool, true, false, not, ◌&&◌, ◌||◌, map, length, refl, sym, ap, ◌∙◌, subst, true≢false, append_assoc, append-nil, arith}
 use Rattle.std.specs.Prelude.{slice_get, slice_set, unwrap_or}
 use Rattle.std.specs.List.{list_all, filter}
 use Rattle.std.proofs.lemmas.Bool.{and_parts, and_from}
@@ -22,7 +22,7 @@ use Rattle.fab_laws.specs.Shapes.{AllSuit}
 use Rattle.fab_laws.proofs.Shapes.{Shaped}
 use Rattle.fab_laws.proofs.Locality.{Longer, longer, as_long}
 use Rattle.fab_erasure.specs.Agreement.{IsFront}
-use Rattle.fab_erasure.proofs.Views.{filter_twice}
+use Rattle.fab_erasure.proofs.Views.{filter_twice, filter_within}
 
 -- what is seen, the values that are given, and the attempt of a program
 pub record Sight : Type 0 where
@@ -30,6 +30,8 @@ pub record Sight : Type 0 where
   pub shows : ℕ → Bool
   pub site_seen : ℕ → Bool
   pub down_seen : ℕ → Bool
+  pub down_kept : ℕ → Bool
+  pub within : (site : ℕ) → down_seen site ≡ true → down_kept site ≡ true
   pub whole : List Value
   pub program : Resolved
   pub tid : Tid
@@ -53,11 +55,26 @@ module _ (sight : Sight) where
   abbrev pub down_in : ℕ × Value → Bool
   down_in d = sight.down_seen d.0
 
+  -- the same values are downgraded there
+  abbrev pub kept_in : ℕ × Value → Bool
+  kept_in d = sight.down_kept d.0
+
+  pub given_among : (ds : List (ℕ × Value)) → filter down_in (filter kept_in ds) ≡ filter down_in ds
+  given_among ds = filter_within kept_in down_in (λ d e. sight.within d.0 e) ds
+
+  pub given_same : (ds es : List (ℕ × Value)) → filter kept_in ds ≡ filter kept_in es → filter down_in ds ≡ filter down_in es
+  given_same ds es e = sym (given_among ds) ∙ ap (filter down_in) e ∙ given_among es
+
   abbrev pub is_shown : Oid → Bool
   is_shown o = sight.shows o.class
 
   abbrev pub made_seen : Oid → Bool
   made_seen o = sight.site_seen o.site
+
+  -- of a downgrade: whether it takes a given value, and whether it downgrades the same value
+  abbrev pub Turns : ℕ × (ℕ × ℕ) → Type 0
+  Turns d = (sight.down_seen d.0 ≡ (sight.site_seen d.0 && (not (sight.sees d.1.0) && sight.sees d.1.1)))
+      × (sight.down_kept d.0 ≡ (sight.site_seen d.0 && (sight.sees d.1.0 || sight.sees d.1.1)))
 
   -- ---- locals: those that are seen are the same
 
@@ -133,7 +150,7 @@ module _ (sight : Sight) where
 
   pub record TraceNear (s t : State) : Type 0 where
     pub touches : t.touches ≡ filter touch_seen s.touches
-    pub downs : filter down_in s.downs ≡ filter down_in t.downs
+    pub downs : filter kept_in s.downs ≡ filter kept_in t.downs
     pub given : map (λ (d : ℕ × Value). d.1) (filter down_in s.downs) ++ t.given ≡ sight.whole
     pub fuel : s.fuel ≤ t.fuel
     pub few : length (touched s.touches) ≤ 1024
@@ -154,7 +171,7 @@ module _ (sight : Sight) where
 
   pub record TraceQuiet (s u : State) : Type 0 where
     pub touches : filter touch_seen u.touches ≡ filter touch_seen s.touches
-    pub downs : filter down_in u.downs ≡ filter down_in s.downs
+    pub downs : filter kept_in u.downs ≡ filter kept_in s.downs
     pub fuel : u.fuel ≤ s.fuel
     pub few : length (touched s.touches) ≤ 1024 → length (touched u.touches) ≤ 1024
 
@@ -216,7 +233,7 @@ module _ (sight : Sight) where
   near_trace s u t n q = record {
     touches = n.touches ∙ sym q.touches;
     downs = q.downs ∙ n.downs;
-    given = ap (λ l. map (λ (d : ℕ × Value). d.1) l ++ t.given) q.downs ∙ n.given;
+    given = ap (λ l. map (λ (d : ℕ × Value). d.1) l ++ t.given) (given_same u.downs s.downs q.downs) ∙ n.given;
     fuel = let x = n.fuel in let y = q.fuel in omega arith;
     few = q.few n.few;
   }
@@ -234,12 +251,12 @@ module _ (sight : Sight) where
 
   pub record Fronts (u v : State) : Type 0 where
     pub touches : IsFront (filter touch_seen u.touches) (filter touch_seen v.touches)
-    pub downs : IsFront (filter down_in u.downs) (filter down_in v.downs)
+    pub downs : IsFront (filter kept_in u.downs) (filter kept_in v.downs)
 
   pub fronts_at : (s t : State) → TraceNear s t → Fronts s t
   fronts_at s t n = record {
     touches = record { rest = []; is = append-nil (filter touch_seen s.touches) ∙ sym (ap (filter touch_seen) n.touches ∙ filter_twice touch_seen s.touches) };
-    downs = record { rest = []; is = append-nil (filter down_in s.downs) ∙ n.downs };
+    downs = record { rest = []; is = append-nil (filter kept_in s.downs) ∙ n.downs };
   }
 
   front_on : {A : Type 0} (p : A → Bool) (xs ys zs : List A) → IsFront (filter p xs) (filter p ys) → (more : List A) × (zs ≡ ys ++ more) → IsFront (filter p xs)
@@ -252,8 +269,14 @@ module _ (sight : Sight) where
   pub fronts_on : (u v w : State) → Fronts u v → Longer v w → Fronts u w
   fronts_on u v w f l = record {
     touches = front_on touch_seen u.touches v.touches w.touches f.touches l.touches;
-    downs = front_on down_in u.downs v.downs w.downs
+    downs = front_on kept_in u.downs v.downs w.downs
         f.downs l.downs;
+  }
+
+  pub front_within : (xs ys : List (ℕ × Value)) → IsFront (filter kept_in xs) (filter kept_in ys) → IsFront (filter down_in xs) (filter down_in ys)
+  front_within xs ys f = record {
+    rest = filter down_in f.rest;
+    is = ap (λ l. l ++ filter down_in f.rest) (sym (given_among xs)) ∙ sym (filter-append down_in (filter kept_in xs) f.rest) ∙ ap (filter down_in) f.is ∙ given_among ys;
   }
 
   -- what was downgraded into view so far was given

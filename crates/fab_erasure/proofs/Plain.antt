@@ -371,7 +371,7 @@ module _ (sight : Sight) where
     downgraded_stays : (b : Value) (from to : ℕ) (v : Value) → Stays (erase.downgraded sight.sees sight.shows sight.program.classes ls b from to v)
     downgraded_stays b from to v = record { by = λ t p. by t p (sight.sees from) (sight.sees to) }
       where
-        by : (t : State) → Plain t → (c d : Bool) → Onto t (state_behind ((if c then gives (shown_if d v) else (if d then erase.take_given b else gives Null)) t))
+        by : (t : State) → Plain t → (c d : Bool) → Onto t (state_behind ((if c then gives v else (if d then erase.take_given b else gives Null)) t))
         by t p true d = here t p
         by t p false true = taken_stays b t.given t p
         by t p false false = here t p

@@ -1,5 +1,5 @@
 -- Calls and what is assigned, at a place that is seen and at a hidden one.
-use Rattle.std.proofs.Common.{◌≡◌, ℕ, List, [], ◌∷◌, ◌++◌, Option, Some, None, Bool, true, false, not, ◌&&◌, if◌then◌else◌, map, refl, sym, ap, ◌∙◌, subst, true≢false, append-nil}
+use Rattle.std.proofs.Common.{◌≡◌, ℕ, List, [], ◌∷◌, ◌++◌, Option, Some, None, Bool, true, false, ◌&&◌, ◌||◌, if◌then◌else◌, map, refl, sym, ap, ◌∙◌, subst, true≢false, append-nil}
 use Rattle.std.specs.Prelude.{slice_get, unwrap_or}
 use Rattle.std.specs.List.{list_all, flat_map, AllByRecursion}
 use Rattle.std.proofs.lemmas.Bool.{and_parts}
@@ -32,7 +32,7 @@ use Rattle.fab_erasure.specs.Erased.{shown_if, taken, returns_blank}
 use Rattle.fab_erasure.specs.Agreement.{Downgrading, downgrades_in_right, result_seen}
 use Rattle.fab_erasure.proofs.Views.{split_left, split_right}
 use Rattle.fab_erasure.proofs.Near as n
-use Rattle.fab_erasure.proofs.Near.{Sight, Any, Whatever, Alike, kinds_of, Match, both_go, both_fail, Hidden, went}
+use Rattle.fab_erasure.proofs.Near.{Sight, Turns, Any, Whatever, Alike, kinds_of, Match, both_go, both_fail, Hidden, went}
 use Rattle.fab_erasure.proofs.Steps as steps
 use Rattle.fab_erasure.proofs.Expressions as x
 use Rattle.fab_erasure.proofs.Expressions.{IsSeenFailure, MayFail, IsLabelled, Kept, flow_seen, flow_hidden, fail_seen, fail_hidden}
@@ -297,27 +297,25 @@ module _ (sight : Sight) (view : IsLabelled sight.sees sight.shows sight.program
     grows_downgraded : (b : Value) (from to : ℕ) (v : Value) → Grows (erase.downgraded sight.sees sight.shows sight.program.classes ls b from to v)
     grows_downgraded b from to v t = by (sight.sees from) (sight.sees to)
       where
-        by : (c d : Bool) → Longer t (state_behind ((if c then gives (shown_if d v) else (if d then erase.take_given b else gives Null)) t))
+        by : (c d : Bool) → Longer t (state_behind ((if c then gives v else (if d then erase.take_given b else gives Null)) t))
         by true d = as_long t t refl refl
         by false true = grows_taken b t.given t
         by false false = as_long t t refl refl
 
     abbrev IsTurned : Downgrading → Type 0
-    IsTurned d = sight.down_seen d.0 ≡ (sight.site_seen d.0 && (not (sight.sees d.1.0) && sight.sees d.1.1))
+    IsTurned = Turns sight
 
     down_by : (b : Value) (site from to : ℕ) (v w : Value) (s t : State) → Near ls s t → sight.site_seen site ≡ true → IsTurned (site, (from, to))
         → (sight.sees from ≡ true → v ≡ w) → Good (state_behind (noted_down site v s)) → (c d : Bool) → sight.sees from ≡ c → sight.sees to ≡ d
         → Beside ls (λ y z. sight.sees to ≡ true → y ≡ z) (noted_down site v s)
-        (and_then ((if c then gives (shown_if d w) else (if d then erase.take_given b else gives Null)) t) (noted_down site))
-    down_by b site from to v w s t m at turned same good true true e i =
-        steps.noted_quietly sight ls (λ y z. sight.sees to ≡ true → y ≡ z) site v w s t m (turned ∙ rw (at, e) refl) (λ k. same e)
-    down_by b site from to v w s t m at turned same good true false e i =
-        steps.noted_quietly sight ls (λ y z. sight.sees to ≡ true → y ≡ z) site v Null s t m (turned ∙ rw (at, e) refl) (λ k. absurd (true≢false (sym k ∙ i)))
+        (and_then ((if c then gives w else (if d then erase.take_given b else gives Null)) t) (noted_down site))
+    down_by b site from to v w s t m at turned same good true d e i =
+        steps.noted_alike sight ls (λ y z. sight.sees to ≡ true → y ≡ z) site v w s t m (turned.1 ∙ rw (at, e) refl) (turned.0 ∙ rw (at, e) refl) (same e) (λ k. same e)
     down_by b site from to v w s t m at turned same good false true e i =
         n.match_more sight ls Alike (λ y z. sight.sees to ≡ true → y ≡ z) (noted_down site v s) (and_then (taken b t.given t) (noted_down site)) (λ y z r k. r)
-        (steps.noted_given sight ls site b v s t m (turned ∙ rw (at, e, i) refl) good)
+        (steps.noted_given sight ls site b v s t m (turned.0 ∙ rw (at, e, i) refl) good)
     down_by b site from to v w s t m at turned same good false false e i =
-        steps.noted_quietly sight ls (λ y z. sight.sees to ≡ true → y ≡ z) site v Null s t m (turned ∙ rw (at, e, i) refl) (λ k. absurd (true≢false (sym k ∙ i)))
+        steps.noted_quietly sight ls (λ y z. sight.sees to ≡ true → y ≡ z) site v Null s t m (turned.1 ∙ rw (at, e, i) refl) (λ k. absurd (true≢false (sym k ∙ i)))
 
     -- ---- what is assigned
 
@@ -424,4 +422,4 @@ module _ (sight : Sight) (view : IsLabelled sight.sees sight.shows sight.program
         n.hidden_then sight ls Whatever Whatever Whatever (MayFail sight.sees F) s (value e s) (noted_down site)
         ((known e).hidden pc F (down_value d e from.number to.number place pc F c) h at.1 s shaped) (n.out_any sight (value e s))
         (λ v u q z y. steps.noted_hidden sight ls (MayFail sight.sees F) site v u q.shaped
-        (turned.0 ∙ ap (λ b. b && (not (sight.sees from.number) && sight.sees to.number)) at.0))
+        (turned.0.1 ∙ ap (λ b. b && (sight.sees from.number || sight.sees to.number)) at.0))

@@ -1,5 +1,5 @@
 -- Statements: at a place that is seen the erased one follows the full one; at a hidden place nothing that is in view changes.
-use Rattle.std.proofs.Common.{◌≡◌, ℕ, zero, suc, ◌≤◌, List, [], ◌∷◌, ◌++◌, Option, Some, None, Bool, true, false, not, ◌&&◌, cond, if◌then◌else◌, map, refl, sym, ap, ◌∙◌, subst, true≢false, arith}
+use Rattle.std.proofs.Common.{◌≡◌, ℕ, zero, suc, ◌≤◌, List, [], ◌∷◌, ◌++◌, Option, Some, None, Bool, true, false, ◌&&◌, cond, if◌then◌else◌, map, refl, sym, ap, ◌∙◌, subst, true≢false, arith}
 use Rattle.std.specs.Prelude.{slice_get, unwrap_or}
 use Rattle.std.specs.List.{list_all, flat_map, AllByRecursion}
 use Rattle.std.proofs.lemmas.Bool.{and_parts, and_from}
@@ -73,7 +73,7 @@ module _ (sight : Sight) (view : IsLabelled sight.sees sight.shows sight.program
   Placed sites = AllByRecursion (λ (y : ℕ × List ℕ). sight.site_seen y.0 ≡ list_all sight.sees y.1) sites
 
   abbrev Turned : List Downgrading → Type 0
-  Turned ds = AllByRecursion (λ (d : Downgrading). sight.down_seen d.0 ≡ (sight.site_seen d.0 && (not (sight.sees d.1.0) && sight.sees d.1.1))) ds
+  Turned ds = AllByRecursion (n.Turns sight) ds
 
   abbrev AllMet : List Claim → Type 0
   AllMet cs = AllByRecursion (Meets sight.program sight.tid) cs

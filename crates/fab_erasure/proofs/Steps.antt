@@ -66,6 +66,9 @@ module _ (sight : Sight) where
   abbrev down_in : ℕ × Value → Bool
   down_in = n.down_in sight
 
+  abbrev kept_in : ℕ × Value → Bool
+  kept_in = n.kept_in sight
+
   abbrev is_shown : Oid → Bool
   is_shown o = sight.shows o.class
 
@@ -403,13 +406,38 @@ module _ (sight : Sight) where
     shaped = record { locals = suit_set (kinds_of ls) s.locals x v k h.locals; rows = h.rows };
   }) tt
 
-  pub noted_quietly : (ls : List Local) (R : Value → Value → Type 0) (site : ℕ) (v w : Value) (s t : State) → Near ls s t → sight.down_seen site ≡ false → R v w
+  -- where nothing is kept, nothing is given
+  not_given : (site : ℕ) → sight.down_kept site ≡ false → sight.down_seen site ≡ false
+  not_given site e = by (sight.down_seen site) refl
+    where
+      by : (b : Bool) → sight.down_seen site ≡ b → b ≡ false
+      by true i = absurd (true≢false (sym (sight.within site i) ∙ e))
+      by false i = refl
+
+  pub noted_quietly : (ls : List Local) (R : Value → Value → Type 0) (site : ℕ) (v w : Value) (s t : State) → Near ls s t → sight.down_kept site ≡ false → R v w
       → Beside ls R (noted_down site v s) (noted_down site w t)
   noted_quietly ls R site v w s t m e r = both_go v w (record s { downs = s.downs ++ (site, v) ∷ [] }) (record t { downs = t.downs ++ (site, w) ∷ [] }) (record {
     heap = m.heap;
     trace = record {
       touches = m.trace.touches;
-      downs = last_unseen down_in s.downs (site, v) e ∙ m.trace.downs ∙ sym (last_unseen down_in t.downs (site, w) e);
+      downs = last_unseen kept_in s.downs (site, v) e ∙ m.trace.downs ∙ sym (last_unseen kept_in t.downs (site, w) e);
+      given = ap (λ l. map (λ (d : ℕ × Value). d.1) l ++ t.given) (last_unseen down_in s.downs (site, v) (not_given site e)) ∙ m.trace.given;
+      fuel = m.trace.fuel;
+      few = m.trace.few;
+    };
+    locals = m.locals;
+    shaped = record { locals = m.shaped.locals; rows = m.shaped.rows };
+  }) r
+
+  -- a value of what is seen is downgraded alike
+  pub noted_alike : (ls : List Local) (R : Value → Value → Type 0) (site : ℕ) (v w : Value) (s t : State) → Near ls s t → sight.down_kept site ≡ true
+      → sight.down_seen site ≡ false → v ≡ w → R v w → Beside ls R (noted_down site v s) (noted_down site w t)
+  noted_alike ls R site v w s t m k e same r = both_go v w (record s { downs = s.downs ++ (site, v) ∷ [] }) (record t { downs = t.downs ++ (site, w) ∷ [] }) (record {
+    heap = m.heap;
+    trace = record {
+      touches = m.trace.touches;
+      downs = last_seen kept_in s.downs (site, v) k ∙ ap (λ l. l ++ (site, v) ∷ []) m.trace.downs ∙ ap (λ z. filter kept_in t.downs ++ (site, z) ∷ []) same
+          ∙ sym (last_seen kept_in t.downs (site, w) k);
       given = ap (λ l. map (λ (d : ℕ × Value). d.1) l ++ t.given) (last_unseen down_in s.downs (site, v) e) ∙ m.trace.given;
       fuel = m.trace.fuel;
       few = m.trace.few;
@@ -418,11 +446,11 @@ module _ (sight : Sight) where
     shaped = record { locals = m.shaped.locals; rows = m.shaped.rows };
   }) r
 
-  pub noted_hidden : (ls : List Local) (may : Type 0) (site : ℕ) (v : Value) (s : State) → Shaped sight.program sight.tid (kinds_of ls) s → sight.down_seen site ≡ false
+  pub noted_hidden : (ls : List Local) (may : Type 0) (site : ℕ) (v : Value) (s : State) → Shaped sight.program sight.tid (kinds_of ls) s → sight.down_kept site ≡ false
       → Hides ls Whatever may s (noted_down site v s)
   noted_hidden ls may site v s h e = let q = here ls s h in went v (record s { downs = s.downs ++ (site, v) ∷ [] }) (record {
     heap = q.heap;
-    trace = record { touches = refl; downs = last_unseen down_in s.downs (site, v) e; fuel = omega arith; few = λ i. i };
+    trace = record { touches = refl; downs = last_unseen kept_in s.downs (site, v) e; fuel = omega arith; few = λ i. i };
     locals = q.locals;
     shaped = record { locals = h.locals; rows = h.rows };
   }) tt
@@ -446,7 +474,8 @@ module _ (sight : Sight) where
       heap = m.heap;
       trace = record {
         touches = m.trace.touches;
-        downs = last_seen down_in s.downs (site, v) e ∙ ap (λ l. l ++ (site, v) ∷ []) m.trace.downs ∙ sym (last_seen down_in t.downs (site, v) e);
+        downs = last_seen kept_in s.downs (site, v) (sight.within site e) ∙ ap (λ l. l ++ (site, v) ∷ []) m.trace.downs
+            ∙ sym (last_seen kept_in t.downs (site, v) (sight.within site e));
         given =
             let old = n.values_down sight s in
             ap (λ l. l ++ rest) values_after ∙ append_assoc old (v ∷ []) rest ∙ ap (λ l. old ++ l) (sym i) ∙ m.trace.given;

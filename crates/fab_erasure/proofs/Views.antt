@@ -25,6 +25,18 @@ filter_twice p (x ∷ xs) = elim (p x) as (λ b. p x ≡ b → filter p (cond b 
   | false ↦ λ e. filter_twice p xs
 ] refl
 
+-- of what passes, what passes a narrower filter
+pub filter_within : {A : Type 0} (p q : A → Bool) → ((x : A) → q x ≡ true → p x ≡ true) → (xs : List A) → filter q (filter p xs) ≡ filter q xs
+filter_within p q f [] = refl
+filter_within p q f (x ∷ xs) = elim (p x) as (λ b. p x ≡ b → filter q (cond b (x ∷ filter p xs) (filter p xs)) ≡ cond (q x) (x ∷ filter q xs) (filter q xs)) [
+  | true ↦ λ e. ap (λ l. cond (q x) (x ∷ l) l) (filter_within p q f xs)
+  | false ↦ λ e. filter_within p q f xs ∙ none e (q x) refl
+] refl
+  where
+    none : p x ≡ false → (c : Bool) → q x ≡ c → filter q xs ≡ cond c (x ∷ filter q xs) (filter q xs)
+    none e true i = absurd (true≢false (sym (f x i) ∙ e))
+    none e false i = refl
+
 pub last_seen : {A : Type 0} (p : A → Bool) (xs : List A) (x : A) → p x ≡ true → filter p (xs ++ x ∷ []) ≡ filter p xs ++ x ∷ []
 last_seen p xs x e = filter-append p xs (x ∷ []) ∙ ap (λ b. filter p xs ++ cond b (x ∷ []) []) e
 

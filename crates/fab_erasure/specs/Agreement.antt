@@ -70,6 +70,10 @@ module _ (sees shows : ℕ → Bool) (r : Resolved) where
   abbrev pub goes_into_view : ℕ → Bool
   goes_into_view site = in_view site && list_any (λ d. (d.0 == site) && (not (sees d.1.0) && sees d.1.1)) (downgrades_of r)
 
+  -- its downgrades are of what is seen, or go into the seen
+  abbrev pub downs_seen : ℕ → Bool
+  downs_seen site = in_view site && list_any (λ d. (d.0 == site) && (sees d.1.0 || sees d.1.1)) (downgrades_of r)
+
   abbrev pub touch_in_view : ℕ × Oid → Bool
   touch_in_view t = in_view t.0 && shows t.1.class
 
@@ -144,6 +148,8 @@ pub record Agrees (sees shows : ℕ → Bool) (r : Resolved) (request : Request)
   pub made : IsSettled sees shows r full.ending → filter (λ o. shows o.class) full.made ≡ filter (λ o. shows o.class) part.made
   pub names : IsSettled sees shows r full.ending → filter (λ o. in_view sees shows r o.site) full.made ≡ filter (λ o. in_view sees shows r o.site) part.made
   pub downs : IsSettled sees shows r full.ending → downs_in_view sees shows r full ≡ downs_in_view sees shows r part
+  -- and downgraded the same values of what is seen
+  pub kept : IsSettled sees shows r full.ending → filter (λ d. downs_seen sees shows r d.0) full.downs ≡ filter (λ d. downs_seen sees shows r d.0) part.downs
   -- and touched in view what it wrote of shown classes
   pub wrote : IsSettled sees shows r full.ending → AllByRecursion (λ o. IsTrue (is_among o (touched (touches_in_view sees shows r full))))
       (filter (λ o. shows o.class) full.written)

@@ -122,7 +122,7 @@ module _ (sees shows : ℕ → Bool) where
     -- out of the unseen into the seen: the next given value, or this default
     abbrev pub downgraded : Value → ℕ → ℕ → Value → M Value
     downgraded blank from to v =
-        if sees from then gives (shown_if (sees to) v) else (if sees to then take_given blank else gives Null)
+        if sees from then gives v else (if sees to then take_given blank else gives Null)
 
     module _ (tid : Tid) (call : ℕ → List Value → M (Option Value)) where
       -- what is assigned to a local, whose default is this

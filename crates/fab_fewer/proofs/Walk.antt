@@ -516,7 +516,7 @@ module _ (few many : FlatMap) (part : IsPart few many) where
       all_values (e ∷ es) = bind (value e) _ (expressions e) (λ v. bind (erase.values sees shows classes names es) _ (all_values es) (λ vs. given (v ∷ vs)))
 
       downgrades : (blank : Value) (from to : ℕ) (v : Value) → Keeps (erase.downgraded sees shows classes names blank from to v)
-      downgrades blank from to v = choice (sees from) (gives (shown_if (sees to) v)) (if sees to then erase.take_given blank else gives Null) (given (shown_if (sees to) v))
+      downgrades blank from to v = choice (sees from) (gives v) (if sees to then erase.take_given blank else gives Null) (given v)
           (choice (sees to) (erase.take_given blank) (gives Null) (takes blank) (given Null))
 
       -- ---- along statements

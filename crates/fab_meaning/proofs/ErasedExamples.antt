@@ -29,7 +29,7 @@ use Rattle.fab_tree.specs.declared.resolved.Method.{Method}
 use Rattle.fab_language.specs.Meaning.{State, goes, ends, failed, stopped, M, assign}
 use Rattle.fab_language.proofs.Forms.{expression_at, operand_at}
 use Rattle.fab_erasure.specs.Erased as e
-use Rattle.fab_meaning.proofs.ErasedForms as forms
+use Rattle.fab_erasure.proofs.ErasedForms as forms
 use Rattle.fab_meaning.proofs.Toy.{root, two_roots, state, at, from, with_touches, int, used, tid}
 
 -- what has number 0 is seen, and shown
@@ -267,11 +267,11 @@ used_up = simp (value_is, part_is, operand_is, operand_value_is)
 null_by_default : lower 1 (local 3) 1 0 (state held) ≡ goes tt (downs ((5, Null) ∷ []) (at 8 without))
 null_by_default = simp (value_is, part_is, operand_is, operand_value_is)
 
--- out of the unseen into the unseen, and out of the seen, a blank, and nothing is taken
+-- out of the unseen into the unseen, a blank, and out of the seen the value itself, of which the local keeps a blank; nothing is taken
 stays_unseen : lower 3 (local 3) 1 1 (giving (int (pos 5) ∷ []) (state held)) ≡ goes tt (downs ((5, Null) ∷ []) (giving (int (pos 5) ∷ []) (at 8 held)))
 stays_unseen = simp (value_is, part_is, operand_is, operand_value_is)
 
-goes_unseen : lower 3 (local 2) 0 1 (giving (int (pos 5) ∷ []) (state held)) ≡ goes tt (downs ((5, Null) ∷ []) (giving (int (pos 5) ∷ []) (at 8 held)))
+goes_unseen : lower 3 (local 2) 0 1 (giving (int (pos 5) ∷ []) (state held)) ≡ goes tt (downs ((5, int (pos 7)) ∷ []) (giving (int (pos 5) ∷ []) (at 8 held)))
 goes_unseen = simp (value_is, part_is, operand_is, operand_value_is)
 
 -- ---- calls of methods, which begin under one label and return under another

@@ -4,7 +4,6 @@ pub mod AtStart
 pub mod Chains
 pub mod Ending
 mod ErasedExamples
-pub mod ErasedForms
 pub mod Running
 mod SecretExamples
 pub mod Toy

@@ -37,7 +37,7 @@ use Rattle.fab_language.specs.declared.ending.Ending.TheVariants.{Ended}
 use Rattle.fab_language.specs.Meaning.{State, Meant, meaning}
 use Rattle.fab_language.proofs.Forms.{expression_at, number_means, null_means, local_means, assign_means, if_means}
 use Rattle.fab_erasure.specs.Erased.{Part, part, value, erased}
-use Rattle.fab_meaning.proofs.ErasedForms.{step, form_part, operand_part, part_is, value_is, does_is}
+use Rattle.fab_erasure.proofs.ErasedForms.{step, form_part, operand_part, part_is, value_is, does_is}
 use Rattle.fab_meaning.proofs.Toy.{used}
 
 abbrev named : List ℕ → Name

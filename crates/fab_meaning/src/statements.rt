@@ -200,7 +200,7 @@ fn downgraded(
     ensures fuel { state.new.fuel ≡ state.old.fuel }
 {
     if sight.sees(from) {
-        shown_if(sight.sees(to), value)
+        value
     } else if sight.sees(to) {
         state.take_given(blank)
     } else {
