@@ -31,6 +31,7 @@ use Rattle.fab_protocol.proofs.VersionLaws.{version_in, version_by_row, version_
 use Rattle.fab_world.specs.Attempts.{parts_of}
 use Rattle.fab_world.specs.Machine.{Setting, World, kept, shelf}
 use Rattle.fab_world.specs.Serial.{IsSetting, IsEvaluation, Excludes, IsFit, IsFitName, AreFit, NoneMadeIn, AreAlike, again, changes_of, outside}
+use Rattle.fab_integrity.specs.Redone.{IsRedone}
 use Rattle.fab_world.specs.Workers as workers
 use Rattle.fab_world.specs.Workers.{Attempt, Phase, decides, kept_of, is_in, is_made_before, tid_of}
 use Rattle.fab_integrity.proofs.Invariant.{In, rank, rank_of, deals, Standing, limit, limit_in, tid_at, Open, Decided, IsEnded, State, committed, Rises}
@@ -280,6 +281,24 @@ module _ (S : Setting) (D ex : ℕ → Bool) (given : IsSetting S) (law : IsEval
         let e = ended_is first.ending ended in
         law.local n this.request own seen replayed e.0 unmade_seen (unmade_replayed ready) e.1
         (all_of (λ o. get seen o ≡ get replayed o) (touched first.touches) (λ o i. same_seen o i (ex o.class) refl))
+
+    fit_replayed : AreFit S replayed
+    fit_replayed = all_of (IsFit S) replayed (λ r i.
+        elim (put_all_from others C.map r.0 r.1 (in_get replayed r.0 r.1 (ascends_put_all others C.map inv.commits.ascending) i)) [
+          | inl put ↦ let a = in_others r put in subst (IsFit S) (sym a.2) (ok.answers a.0 a.1).fit
+          | inr was ↦ inv.commits.fits r.0 r.1 was
+        ])
+
+    pub redone : IsRedone S ex C.map (current S n (standing S D ex w cs n))
+    redone = record {
+      value = (ended_is first.ending ended).0;
+      ended = sym again_alike.ending ∙ (ended_is first.ending ended).1;
+      alike = again_alike;
+      up = inv.commits.ascending;
+      inside = inv.commits.within;
+      both = ascends_put_all others C.map inv.commits.ascending;
+      fits = fit_replayed;
+    }
 
     -- ---- what the commit changes
 

@@ -8,7 +8,7 @@ use Rattle.std.proofs.lemmas.Bool.{not_from_false}
 use Rattle.fab_base.specs.declared.object.Oid.{Oid}
 use Rattle.fab_base.specs.declared.object.Object.{Object}
 use Rattle.fab_base.specs.declared.message.Items.{Items}
-use Rattle.fab_base.specs.FlatMap.{FlatMap, get, ascends, is_same, is_among}
+use Rattle.fab_base.specs.FlatMap.{FlatMap, get, ascends, is_same, is_among, put_all}
 use Rattle.fab_base.proofs.Names.{same_self}
 use Rattle.fab_base.specs.declared.object.Value.{Value}
 use Rattle.fab_language.specs.declared.ending.Ending.{Ending}
@@ -29,6 +29,7 @@ use Rattle.fab_world.specs.Attempts.{parts_of, value_of}
 use Rattle.fab_world.specs.Machine.{Setting}
 use Rattle.fab_world.specs.Serial.{AreAlike, again, changes_of, replay_one, within}
 use Rattle.fab_world.specs.Workers.{is_in}
+use Rattle.fab_integrity.specs.Changed.{changed, named}
 use Rattle.fab_integrity.proofs.Invariant.{In, State, IsEnded}
 use Rattle.fab_integrity.proofs.Lists.{in_append, in_left, in_right, in_filter, filter_in, in_map, map_in, in_any, each_of, in_filter_map}
 use Rattle.fab_integrity.proofs.Maps.{get_filter, ascends_filter, same_maps, among_in, in_among, row_listed}
@@ -46,6 +47,17 @@ behind_one S ex C c = record {
   map = replay_one S ex C.map c;
   version = λ o. if is_among o (map (λ (r : Oid × Object). r.0) (changes_in S ex C.map c)) then suc (C.version o) else C.version o;
 }
+
+-- rows with the versions of answers, without these versions
+without_versions : (answers : Rows) (rows : FlatMap) → objects_of (map (λ (c : Oid × Object). (c.0, version_of answers c.0, c.1)) rows) ≡ rows
+without_versions answers [] = refl
+without_versions answers (row ∷ rows) = ap (λ l. row ∷ l) (without_versions answers rows)
+
+-- what was written and then what was made are the changes of the attempt's parts
+pub changed_by : (ex : ℕ → Bool) (answers : Rows) (meant : Meant) (N : FlatMap)
+    → changed ex meant.written meant.made meant.map N ≡ put_all (within ex (changes_of (parts_of answers meant))) N
+changed_by ex answers meant N =
+    ap (λ l. put_all (within ex (l ++ named meant.made meant.map)) N) (sym (without_versions answers (named meant.written meant.map)))
 
 -- ---- the parts of evaluations that are alike
 

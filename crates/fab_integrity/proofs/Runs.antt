@@ -6,14 +6,16 @@ use Rattle.std.proofs.Common.{refl, sym, ap, ◌∙◌, subst, inl, inr, arith}
 use Rattle.std.proofs.lemmas.Bool.{cases_eq, and_from, and_parts, both_ways, false_from_ne_true, not-true, true≢false}
 use Rattle.std.proofs.lemmas.List.{append-nil, length-append}
 use Rattle.std.proofs.lemmas.List.Sums.{fold-append}
+use Rattle.fab_base.specs.FlatMap.{FlatMap}
 use Rattle.fab_net.specs.declared.event.Inner.{Inner}
 use Rattle.fab_net.specs.declared.event.Inner.TheVariants as i
 use Rattle.fab_net.specs.declared.note.Commit.{Commit}
 use Rattle.fab_world.specs.Machine.{Setting, World, Node, Move, Form, Does, Cuts, Fails, Posts, Crashes, Never, form_of, option_list, record_behind}
 use Rattle.fab_world.specs.Machine.{act, node_of, ready, lands, cut, at_node, down, step, steps, posted, may, enabled, are_enabled, is_whole}
 use Rattle.fab_world.specs.Machine.{notes_at, notes_if, logged, logs, runs, at_start}
-use Rattle.fab_world.specs.Serial.{IsSetting, IsEvaluation, Excludes, IsRun, IsSerial, IsEnding, IsLeftOut, serial_replay, commit_in, commits_of}
+use Rattle.fab_world.specs.Serial.{IsSetting, IsEvaluation, AllEnd, Excludes, IsRun, IsSerial, IsEnding, IsLeftOut, replay_one, serial_replay, commit_in, commits_of, within}
 use Rattle.fab_world.specs.Serial.{commits_in, world_of, attempts, attempts_at, attempts_in}
+use Rattle.fab_integrity.specs.Redone.{AllRedone, IsFaithful}
 use Rattle.fab_integrity.proofs.Invariant.{In}
 use Rattle.fab_integrity.proofs.Lists.{few_pass, filter_twice}
 use Rattle.fab_integrity.proofs.Worlds.{IsAsBefore, at_same, at_other, as_before}
@@ -195,10 +197,18 @@ serial S given law D ex moves hyp run =
 
 -- each replayed evaluation ends
 pub ends : (S : Setting) → IsSetting S → IsEvaluation S → IsEnding S
-ends S given law D ex moves hyp run = (holds_run S D ex given law hyp moves run).ends
+ends S given law D ex moves hyp run = all_end (within ex S.roots) (commits_in S D moves) (holds_run S D ex given law hyp moves run).redone
+  where
+    all_end : (N : FlatMap) (cs : List Commit) → AllRedone S ex N cs → AllEnd S ex N cs
+    all_end N [] h = tt
+    all_end N (c ∷ cs) h = ((h.0.value, h.0.ended), all_end (replay_one S ex N c) cs h.1)
+
+-- and does what its attempt did
+pub faithful : (S : Setting) → IsSetting S → IsEvaluation S → IsFaithful S
+faithful S given law D ex moves hyp run = (holds_run S D ex given law hyp moves run).redone
 
 -- those that are hostile are distrusted, so what D may not do they may not
-hostile_excluded : (S : Setting) (D ex : ℕ → Bool) → Excludes S D ex → Excludes S S.hostile ex
+pub hostile_excluded : (S : Setting) (D ex : ℕ → Bool) → Excludes S D ex → Excludes S S.hostile ex
 hostile_excluded S D ex h = record {
   hostile = λ n e. e;
   unwritten = λ n c e x. h.unwritten n c (h.hostile n e) x;

@@ -189,7 +189,7 @@ module _ (S : Setting) (D ex : ℕ → Bool) (given : IsSetting S) where
       commits = start_commits;
     };
     ordered = ordered_start S D ex given;
-    ends = tt;
+    redone = tt;
     left = λ B h. refl;
     idle = λ s hs. refl;
   }

@@ -20,7 +20,8 @@ use Rattle.fab_world.specs.Machine.{Setting, World, Node, Form, Does, Cuts, Fail
 use Rattle.fab_world.specs.Machine.{option_list, record_behind, record_at, kept, shelf, act, node_of, ready, lands, cut, at_node, down, steps, posted}
 use Rattle.fab_world.specs.Machine.{sends_out, of_store, may, enabled, is_running, is_evaluating, is_whole, notes_at, notes_if, lacks}
 use Rattle.fab_world.specs.Machine as machine
-use Rattle.fab_world.specs.Serial.{IsSetting, IsEvaluation, Excludes, AllEnd, within, replay_one, serial_replay, commit_in}
+use Rattle.fab_world.specs.Serial.{IsSetting, IsEvaluation, Excludes, within, replay_one, serial_replay, commit_in}
+use Rattle.fab_integrity.specs.Redone.{AllRedone}
 use Rattle.fab_world.specs.Workers as workers
 use Rattle.fab_world.specs.Workers.{Act, Attempt, Phase, stays, takes, wakes, tid_of, fresh}
 use Rattle.fab_integrity.proofs.Invariant.{In, State, Inv, Ordered, IsWorker, IsStore, deals}
@@ -42,10 +43,10 @@ use Rattle.fab_integrity.proofs.Costs.{quiet_says, noted_commits, goes_act, note
 
 -- ---- what the commits of a run come to
 
-ends_more : (S : Setting) (ex : ℕ → Bool) (N : FlatMap) (cs ds : List Commit) → AllEnd S ex N cs → AllEnd S ex (fold (replay_one S ex) N cs) ds
-    → AllEnd S ex N (cs ++ ds)
-ends_more S ex N [] ds h g = g
-ends_more S ex N (c ∷ cs) ds h g = (h.0, ends_more S ex (replay_one S ex N c) cs ds h.1 g)
+redone_more : (S : Setting) (ex : ℕ → Bool) (N : FlatMap) (cs ds : List Commit) → AllRedone S ex N cs → AllRedone S ex (fold (replay_one S ex) N cs) ds
+    → AllRedone S ex N (cs ++ ds)
+redone_more S ex N [] ds h g = g
+redone_more S ex N (c ∷ cs) ds h g = (h.0, redone_more S ex (replay_one S ex N c) cs ds h.1 g)
 
 -- ---- before an event
 
@@ -177,7 +178,7 @@ module _ (S : Setting) (D ex : ℕ → Bool) where
     pub map : state.map ≡ serial_replay S ex cs
     pub inv : Inv S D ex w cs state
     pub ordered : Ordered S D ex w cs
-    pub ends : AllEnd S ex (within ex S.roots) cs
+    pub redone : AllRedone S ex (within ex S.roots) cs
     pub left : (B : ℕ → Bool) → Excludes S B ex → serial_replay S ex (filter (λ c. not (B c.worker)) cs) ≡ serial_replay S ex cs
     pub idle : (s : ℕ) → IsStore S D ex s → (w.node s).attempt.phase ≡ workers.Idle
 
@@ -191,7 +192,7 @@ module _ (S : Setting) (D ex : ℕ → Bool) where
       map = h.map;
       inv = calm S D ex w v cs h.state h.inv same less;
       ordered = ordered_calm S D ex given w v cs h.ordered (λ n me. same n) (λ s me. (same s).entries) pairs;
-      ends = h.ends;
+      redone = h.redone;
       left = h.left;
       idle = λ s me. ap (λ (a : Attempt). a.phase) (same s).attempt ∙ h.idle s me;
     }
@@ -205,7 +206,7 @@ module _ (S : Setting) (D ex : ℕ → Bool) where
       inv = outsider S D ex New w v cs h.state n d h.inv f;
       ordered = ordered_calm S D ex given w v cs h.ordered (λ x me. f.others x (apart_by_D S D ex n x d me.outside))
           (λ s me. (f.others s (apart_by_D S D ex n s d me.outside)).entries) pairs;
-      ends = h.ends;
+      redone = h.redone;
       left = h.left;
       idle = λ s me. ap (λ (a : Attempt). a.phase) (f.others s (apart_by_D S D ex n s d me.outside)).attempt ∙ h.idle s me;
     }
@@ -217,7 +218,7 @@ module _ (S : Setting) (D ex : ℕ → Bool) where
       map = h.map;
       inv = keeps_down S D ex given w cs h.state h.inv n;
       ordered = ordered_down S D ex given w cs h.ordered n;
-      ends = h.ends;
+      redone = h.redone;
       left = h.left;
       idle = λ s me. elim (cases_eq s n) [
         | inl e ↦ ap (λ (x : Node). x.attempt.phase) (ap (λ z. (down S w n).node z) e ∙ down_here S w n)
@@ -303,7 +304,7 @@ module _ (S : Setting) (D ex : ℕ → Bool) where
               map = d.map ∙ ap (λ N. fold (replay_one S ex) N es) h.map ∙ sym (fold-append (replay_one S ex) (within ex S.roots) cs es);
               inv = d.inv;
               ordered = acted_ordered room;
-              ends = ends_more S ex (within ex S.roots) cs es h.ends (subst (λ N. AllEnd S ex N es) h.map d.ends);
+              redone = redone_more S ex (within ex S.roots) cs es h.redone (subst (λ N. AllRedone S ex N es) h.map d.redone);
               left = λ B hB. left_more d B hB (B n) refl;
               idle = λ s hs. ap (λ (a : Attempt). a.phase) (lands.follows.others s (not_store s hs)).attempt ∙ h.idle s hs;
             })
@@ -358,7 +359,7 @@ module _ (S : Setting) (D ex : ℕ → Bool) where
         map = h.map;
         inv = inv;
         ordered = ord;
-        ends = h.ends;
+        redone = h.redone;
         left = h.left;
         idle = λ s hs. elim (cases_eq s n) [
           | inl e ↦ ap (λ z. (v.node z).attempt.phase) e ∙ ap (λ (a : Attempt). a.phase) (l.attempt ∙ same) ∙ ap (λ z. (w.node z).attempt.phase) (sym e) ∙ h.idle s hs

@@ -30,7 +30,8 @@ use Rattle.fab_protocol.specs.Parts.{stores_of}
 use Rattle.fab_protocol.specs.Stores.{says, asks}
 use Rattle.fab_protocol.specs.Versions.{Row}
 use Rattle.fab_world.specs.Machine.{Setting, World, option_list, kept, shelf, meant, parts, node_of, act, hears, front_of, may, lacks, is_evaluating, is_idle, of_store}
-use Rattle.fab_world.specs.Serial.{IsSetting, IsEvaluation, Excludes, AllEnd, replay_one, commit_in}
+use Rattle.fab_world.specs.Serial.{IsSetting, IsEvaluation, Excludes, replay_one, commit_in}
+use Rattle.fab_integrity.specs.Redone.{AllRedone}
 use Rattle.fab_world.specs.Workers as workers
 use Rattle.fab_world.specs.Workers.{Attempt, Kept, Phase, Act, stays, noting, sending, telling, is_in, not_voted, begins, resumes, resumes_at, needs}
 use Rattle.fab_world.specs.Workers.{ends, asks_all, decides, closes, gives, try_ends}
@@ -40,8 +41,8 @@ use Rattle.fab_integrity.proofs.Invariant.{In, State, Standing, Open, IsPreparin
 use Rattle.fab_integrity.proofs.Invariant.{current, tid_at, limit, limit_in, limit_at, rank, rank_of, meant_by, parts_by}
 use Rattle.fab_integrity.proofs.Lists.{in_filter, none_in}
 use Rattle.fab_integrity.proofs.Worlds.{Lands}
-use Rattle.fab_integrity.proofs.Replays.{changes_in, behind_one, ended_is}
-use Rattle.fab_integrity.proofs.Decides.{again_alike, righted, keeps_decides}
+use Rattle.fab_integrity.proofs.Replays.{changes_in, behind_one}
+use Rattle.fab_integrity.proofs.Decides.{redone, righted, keeps_decides}
 use Rattle.fab_integrity.proofs.WorkerEvents.{keeps_stays, keeps_begins, keeps_needs, keeps_asks, keeps_fails, keeps_object, keeps_denied, keeps_no}
 use Rattle.fab_integrity.proofs.WorkerEvents.{keeps_yes, voted_then, keeps_told_commit, keeps_told_abort, keeps_gives_up, keeps_wakes}
 use Rattle.fab_integrity.proofs.Tids.{tid_is}
@@ -93,11 +94,11 @@ module _ (S : Setting) (D ex : ℕ → Bool) where
     pub state : State
     pub map : state.map ≡ fold (replay_one S ex) C.map es
     pub inv : Inv S D ex v (cs ++ es) state
-    pub ends : AllEnd S ex C.map es
+    pub redone : AllRedone S ex C.map es
     pub left : (B : ℕ → Bool) → Excludes S B ex → B n ≡ true → state.map ≡ C.map
 
   calm_done : (v : World) (cs : List Commit) (C : State) (n : ℕ) → Inv S D ex v cs C → Done v cs C n []
-  calm_done v cs C n inv = record { state = C; map = refl; inv = subst (λ xs. Inv S D ex v xs C) (sym (append-nil cs)) inv; ends = tt; left = λ B h b. refl }
+  calm_done v cs C n inv = record { state = C; map = refl; inv = subst (λ xs. Inv S D ex v xs C) (sym (append-nil cs)) inv; redone = tt; left = λ B h b. refl }
 
   module _ (given : IsSetting S) (law : IsEvaluation S) (hyp : Excludes S D ex) (w v : World) (cs : List Commit) (C : State) (n : ℕ)
       (inv : Inv S D ex w cs C) (me : IsWorker S D ex n) (few : length cs ≤ 4000000000) where
@@ -131,7 +132,7 @@ module _ (S : Setting) (D ex : ℕ → Bool) where
         state = behind_one S ex C c;
         map = refl;
         inv = keeps_decides S D ex given law hyp w cs C n inv me ready ended all few up b number answers caches v l;
-        ends = (let e = ended_is (meant_by S c).ending ended in (e.0, sym (again_alike S D ex given law hyp w cs C n inv me ready ended all).ending ∙ e.1), tt);
+        redone = (redone S D ex given law hyp w cs C n inv me ready ended all, tt);
         left = λ B h b. ap (λ rows. put_all rows C.map) (none_in (changes_in S ex C.map c) (λ row i.
             let f = in_filter (λ r. ex r.0.class) row _ i in
             true≢false (sym (righted S D ex given law hyp w cs C n inv me ready ended all row.0 f.1 (row_among row.0 row.1 (changes_in S ex C.map c) i))

@@ -2,6 +2,7 @@
 ghost use Rattle.std.specs.Prelude.{ℕ, List};
 ghost use Rattle.fab_world.specs.Crashing.{CrashLine, IsOver};
 ghost use Rattle.fab_world.specs.Machine.{Move, Setting};
+ghost use Rattle.fab_integrity.specs.Redone.{IsFaithful};
 ghost use Rattle.fab_world.specs.Serial.{ArePosts, IsEnding, IsEvaluation, IsLeftOut, IsLive, IsOnce, IsRun, IsSerial, IsSetting, IsWaiting, world_of};
 
 /// Whichever nodes are distrusted, as long as the hostile ones are among them: the objects of classes that
@@ -19,6 +20,7 @@ pub fn integrity()
     ensures ends { (S : Setting) → IsSetting S → IsEvaluation S → IsEnding S }
     ensures once { (S : Setting) → IsSetting S → IsOnce S }
     ensures left_out { (S : Setting) → IsSetting S → IsEvaluation S → IsLeftOut S }
+    ensures faithful { (S : Setting) → IsSetting S → IsEvaluation S → IsFaithful S }
 {}
 
 /// No run gets stuck: as long as a worker that isn't hostile and hasn't failed for good has a request left,

@@ -62,7 +62,7 @@ at_name P (q ∷ os) h o e = by (is_same q o) refl e (λ g. at_name P os h.1 o g
     by true i g later = subst P (one_name q o i) h.0
     by false i g later = later g
 
-found_row : (P : Oid × Object → Type 0) (rows : FlatMap) → AllByRecursion P rows → (o : Oid) (x : Object) → get rows o ≡ Some x → P (o, x)
+pub found_row : (P : Oid × Object → Type 0) (rows : FlatMap) → AllByRecursion P rows → (o : Oid) (x : Object) → get rows o ≡ Some x → P (o, x)
 found_row P [] h o x e = cc
 found_row P (row ∷ rows) h o x e = by (is_same row.0 o) refl e (λ g. found_row P rows h.1 o x g)
   where
