@@ -1,0 +1,4 @@
+mod Box
+mod TrustsExamples
+mod RobustExamples
+mod TrustedExamples

@@ -1,0 +1,5 @@
+pub mod Downgraded
+pub mod Trusts
+pub mod Trusted
+pub mod Robust
+pub mod Agreement
