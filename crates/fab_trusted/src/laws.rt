@@ -1,0 +1,16 @@
+//! Trusted replay and robust declassifications.
+ghost use Rattle.fab_trusted.specs.Agreement.{RobustValuesTrusted, TrustedReplayAgrees};
+
+/// Whatever set of nodes is distrusted, as long as the hostile ones are among them: what the others hold of
+/// the classes that none of the set can have influenced is trusted replay of the commits. No answer enters
+/// it: of what the set may have influenced it takes the endorsed values, and nothing else.
+pub fn trusted_replay_agrees()
+    ensures { TrustedReplayAgrees }
+{}
+
+/// Each commit ends when it is replayed so. In a robust program a site that declassifies with the authority
+/// of a principal for whom no node of the set acts lets out, in every committed attempt, the values that
+/// trusted replay gives: the set may choose among endorsed values, and nothing else.
+pub fn robust_values_trusted()
+    ensures { RobustValuesTrusted }
+{}
