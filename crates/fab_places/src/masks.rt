@@ -2,7 +2,8 @@
 
 ghost use Rattle.std.specs.Prelude.{ℕ, ◌<◌, ◌≤◌, IsBitSet, true, false};
 
-/// The labels and the classes that a set of nodes reads, as masks by their numbers.
+/// Labels and classes, as masks by their numbers: those that a set of nodes reads, or those that it can't
+/// have influenced.
 #[derive(Clone, Copy, Debug, PartialEq, Eq)]
 pub struct Seen {
     pub labels: u64,

@@ -70,6 +70,23 @@ pub fn seen(start: &Resolved, acts: &Acts, nodes: u64) -> Seen
     }
 }
 
+/// What none of the nodes may have influenced.
+pub fn trusted(start: &Resolved, acts: &Acts, nodes: u64) -> Seen
+    requires of { acts.now ≡ delegations_of start.now }
+    requires few { length start.now.nodes ≤ 64 }
+    requires few_labels { length start.now.labels ≤ 64 }
+    requires few_classes { length start.now.classes ≤ 64 }
+    ensures labels { (l : ℕ) → IsBitSet result.labels l
+        ↔ ((l < length start.now.labels) × Excludes start.now acts.now nodes (label_at start.now l)) }
+    ensures classes { (c : ℕ) → IsBitSet result.classes c ↔ ClassExcludes start.now acts.now nodes c }
+{
+    let labels = start.labels.len() as u16;
+    Seen {
+        labels: mask_of(labels, |l| is_excluding(start, acts, nodes, l)),
+        classes: excluding(start, acts, nodes),
+    }
+}
+
 /// The classes whose objects none of the nodes may have influenced.
 pub fn excluding(start: &Resolved, acts: &Acts, nodes: u64) -> u64
     requires of { acts.now ≡ delegations_of start.now }
