@@ -10,7 +10,8 @@ use Rattle.fab_net.specs.declared.note.Commit.{Commit}
 use Rattle.fab_net.specs.declared.note.Logged.{Logged}
 use Rattle.fab_net.specs.declared.note.Note.{Note}
 use Rattle.fab_net.specs.declared.note.Note.TheVariants as note
-use Rattle.fab_serial.specs.Replays.{changed, commits_at, named}
+use Rattle.fab_integrity.specs.Changed.{changed, named}
+use Rattle.fab_serial.specs.Replays.{commits_at}
 
 abbrev tid : Tid
 tid = record { worker = 3; boot = 1; number = 2 }

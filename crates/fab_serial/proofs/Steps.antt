@@ -1,22 +1,23 @@
 -- Steps of walks over rows that are put into a map where a test holds, and what a replayed commit changes.
-use Rattle.std.proofs.Common.{arith, length, ◌≡◌, ℕ, Bool, true, false, Option, List, [], ◌∷◌, ◌++◌, refl, sym, ap, ◌∙◌}
+use Rattle.std.proofs.Common.{arith, length, ◌≡◌, ℕ, Bool, true, false, Option, List, [], ◌∷◌, ◌++◌, refl, ap, ◌∙◌}
 use Rattle.std.specs.Prelude.{◌&&◌, if◌then◌else◌, map, filter}
 use Rattle.std.specs.List.{fold}
 use Rattle.std.proofs.lemmas.List.Elements.{filter-append}
 use Rattle.fab_base.specs.declared.object.Oid.{Oid}
 use Rattle.fab_base.specs.declared.object.Object.{Object}
 use Rattle.fab_base.specs.FlatMap.{FlatMap, ascends, put, put_all}
-use Rattle.fab_language.specs.Meaning.{Meant}
 use Rattle.fab_map.proofs.Made.{map_of_own}
 use Rattle.fab_integrity.proofs.Maps.{ascends_filter}
+use Rattle.fab_integrity.proofs.Replays.{changed_by}
 use Rattle.fab_net.specs.declared.note.Commit.{Commit}
-use Rattle.fab_protocol.specs.Versions.{Rows, objects_of, version_of}
+use Rattle.fab_protocol.specs.Versions.{objects_of}
 use Rattle.fab_world.specs.Attempts.{parts_of}
 use Rattle.fab_world.specs.Serial.{changes_of, within, outside}
 use Rattle.fab_tree.specs.declared.resolved.Request.{Request}
 use Rattle.fab_tree.specs.declared.resolved.Resolved.{Resolved}
 use Rattle.fab_settings.specs.Settings.{meant_of, request_at}
-use Rattle.fab_serial.specs.Replays.{behind, changed, named}
+use Rattle.fab_integrity.specs.Changed.{changed, named}
+use Rattle.fab_serial.specs.Replays.{behind}
 
 -- ---- rows that are put one after the other
 
@@ -60,17 +61,6 @@ all_pass [] = refl
 all_pass (x ∷ xs) = ap (λ l. x ∷ l) (all_pass xs)
 
 -- ---- what a commit changes
-
--- rows with the versions of answers, without these versions
-pub without_versions : (answers : Rows) (rows : FlatMap) → objects_of (map (λ c. (c.0, version_of answers c.0, c.1)) rows) ≡ rows
-without_versions answers [] = refl
-without_versions answers (row ∷ rows) = ap (λ l. row ∷ l) (without_versions answers rows)
-
--- what was written and then what was made are the changes of the attempt's parts
-pub changed_by : (ex : ℕ → Bool) (answers : Rows) (meant : Meant) (N : FlatMap)
-    → changed ex meant.written meant.made meant.map N ≡ put_all (within ex (changes_of (parts_of answers meant))) N
-changed_by ex answers meant N =
-    ap (λ l. put_all (within ex (l ++ named meant.made meant.map)) N) (sym (without_versions answers (named meant.written meant.map)))
 
 -- in two parts
 pub changed_parts : (ex : ℕ → Bool) (written made : List Oid) (rows N : FlatMap)

@@ -1,14 +1,13 @@
 -- The commits in what an event logged, and replaying a bundle's commits, as steps of a map. Who may do what plays no part in it.
-use Rattle.std.specs.Prelude.{ℕ, Bool, List, [], ◌++◌}
-use Rattle.std.specs.List.{filter, flat_map}
-use Rattle.fab_base.specs.declared.object.Oid.{Oid}
-use Rattle.fab_base.specs.FlatMap.{FlatMap, is_among, put_all}
+use Rattle.std.specs.Prelude.{ℕ, Bool, List, []}
+use Rattle.std.specs.List.{flat_map}
+use Rattle.fab_base.specs.FlatMap.{FlatMap}
 use Rattle.fab_tree.specs.declared.resolved.Resolved.{Resolved}
 use Rattle.fab_net.specs.declared.note.Commit.{Commit}
 use Rattle.fab_net.specs.declared.note.Logged.{Logged}
 use Rattle.fab_rights.specs.declared.rights.Rights.{Rights}
 use Rattle.fab_world.specs.Machine.{Setting}
-use Rattle.fab_world.specs.Serial.{commit_in, replay_one, within}
+use Rattle.fab_world.specs.Serial.{commit_in, replay_one}
 use Rattle.fab_settings.specs.Settings.{setting_of}
 
 -- the commits that the notes of an event tell of
@@ -24,11 +23,3 @@ setting r = setting_of r no_rights
 -- the map behind one commit more
 unfoldable pub behind : Resolved → (ℕ → Bool) → FlatMap → Commit → FlatMap
 behind r ex N c = replay_one (setting r) ex N c
-
--- the rows of these names
-abbrev pub named : List Oid → FlatMap → FlatMap
-named names rows = filter (λ row. is_among row.0 names) rows
-
--- a map behind changes: of the rows, those of the classes in ex that were written, and then those that were made
-abbrev pub changed : (ℕ → Bool) → List Oid → List Oid → FlatMap → FlatMap → FlatMap
-changed ex written made rows N = put_all (within ex (named written rows ++ named made rows)) N

@@ -10,4 +10,6 @@ mod requests;
 
 pub use decisions::commits;
 pub use laws::commits_are_honest;
+pub use objects::{at_start, put_within};
 pub use replaying::replay;
+pub use requests::request_at;

@@ -5,7 +5,7 @@ ghost use Rattle.fab_language.specs.Evaluation.{rows_of, map_at_start};
 ghost use Rattle.fab_protocol.specs.Versions.{objects_of};
 ghost use Rattle.fab_rights.specs.Computed.{has_bit};
 ghost use Rattle.fab_world.specs.Serial.{outside, within};
-ghost use Rattle.fab_serial.specs.Replays.{named};
+ghost use Rattle.fab_integrity.specs.Changed.{named};
 
 use fab_base::{NoMemory, Object, Oid, Seq};
 use fab_map::ObjectMap;
@@ -31,7 +31,7 @@ fn put_if(
 
 /// The objects that are there from the start, of these classes.
 pub fn at_start(alloc: Global, start: &Resolved, classes: u64) -> Result<ObjectMap, NoMemory>
-    ensures { IfOk result (λ m. m ≡ within (has_bit classes) (map_at_start start.now)) }
+    ensures exact { IfOk result (λ m. m ≡ within (has_bit classes) (map_at_start start.now)) }
 {
     let mut all = ObjectMap::new(alloc);
     put_roots(alloc, &mut all, start.roots.as_slice())?;
@@ -56,14 +56,14 @@ fn put_roots(alloc: Global, map: &mut ObjectMap, roots: &[Root]) -> Result<(), N
     Ok(())
 }
 
-/// Puts the objects of these classes.
-fn put_within(
+/// Puts copies of the objects of these classes.
+pub fn put_within(
     alloc: Global,
     map: &mut ObjectMap,
     rows: &[(Oid, Object)],
     classes: u64,
 ) -> Result<(), NoMemory>
-    ensures { OnOk result (map.new ≡ put_all (within (has_bit classes) rows.now) map.old) }
+    ensures exact { OnOk result (map.new ≡ put_all (within (has_bit classes) rows.now) map.old) }
 {
     let mut rest = rows;
     while let Some((row, after)) = rest.split_first() {

@@ -7,7 +7,8 @@ ghost use Rattle.fab_rights.specs.Computed.{has_bit};
 ghost use Rattle.fab_rights.specs.declared.rights.Rights.{Rights};
 ghost use Rattle.fab_settings.specs.Settings.{setting_of};
 ghost use Rattle.fab_world.specs.Serial.{serial_replay};
-ghost use Rattle.fab_serial.specs.Replays.{behind, changed};
+ghost use Rattle.fab_integrity.specs.Changed.{changed};
+ghost use Rattle.fab_serial.specs.Replays.{behind};
 
 use crate::objects::{at_start, beside, put_named};
 use crate::requests::request_at;

@@ -8,7 +8,7 @@ use fab_tree::resolved::{Request, Resolved, Session};
 
 /// A worker's request of this number, from 1, if there is one.
 pub fn request_at(program: &Resolved, node: u16, number: u32) -> Option<&Request>
-    ensures { option_copied result ≡ request_of program.now node number }
+    ensures exact { option_copied result ≡ request_of program.now node number }
 {
     if number == 0 {
         None

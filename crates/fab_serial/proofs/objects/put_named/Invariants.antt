@@ -2,7 +2,7 @@ use Rattle.std.proofs.Common.{◌≡◌, length}
 use Rattle.fab_base.specs.FlatMap.{put_all}
 use Rattle.fab_rights.specs.Computed.{has_bit}
 use Rattle.fab_world.specs.Serial.{within}
-use Rattle.fab_serial.specs.Replays.{named}
+use Rattle.fab_integrity.specs.Changed.{named}
 use Rattle.fab_serial.proofs.objects.put_named.Given as goal
 
 abbrev pub invariant-loop-row : goal.invariant-loop-row

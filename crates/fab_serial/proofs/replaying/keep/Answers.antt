@@ -2,7 +2,7 @@ use Rattle.std.proofs.Common.{◌≡◌, sym, ap, subst, ◌∙◌, OnOk}
 use Rattle.fab_base.specs.FlatMap.{FlatMap, put_all}
 use Rattle.fab_rights.specs.Computed.{has_bit}
 use Rattle.fab_world.specs.Serial.{within}
-use Rattle.fab_serial.specs.Replays.{named}
+use Rattle.fab_integrity.specs.Changed.{named}
 use Rattle.fab_serial.proofs.Steps.{changed_parts}
 use Rattle.fab_serial.proofs.replaying.keep.Goals as goal
 

@@ -13,7 +13,7 @@ returns-in_ok-meant-in-Some c =
     let known_is = c.in_ok-known-in-Some.ensures ∙ ap (λ answers. put_all (outside ex (objects_of answers)) c.args.map.now) c.as_slice.ensures in
     subst (λ (m : FlatMap). OnOk c.keep.result (c.keep.new.map ≡ m))
     (kept_is c.args.start.now ex c.args.map.now c.args.commit.now c.in_ok-known-in-Some.known (Some c.in-Some.request.now) found.written found.made found.map
-    known_is c.in-Some.ensures c.in_ok-meant-in-Some.ensures.written c.in_ok-meant-in-Some.ensures.made c.in_ok-meant-in-Some.ensures.map)
+    known_is c.in-Some.ensures.exact c.in_ok-meant-in-Some.ensures.written c.in_ok-meant-in-Some.ensures.made c.in_ok-meant-in-Some.ensures.map)
     c.keep.ensures
 
 pub returns-in-None : goal.returns-in-None
@@ -21,4 +21,4 @@ returns-in-None c =
     let ex = has_bit c.args.classes in
     let known = put_all (outside ex (objects_of c.args.commit.now.answers)) c.args.map.now in
     sym (unchanged ex known c.args.map.now)
-    ∙ kept_is c.args.start.now ex c.args.map.now c.args.commit.now known None [] [] known refl c.in-None.ensures refl refl refl
+    ∙ kept_is c.args.start.now ex c.args.map.now c.args.commit.now known None [] [] known refl c.in-None.ensures.exact refl refl refl
