@@ -1,12 +1,15 @@
 -- What was found of a request, beside what it means.
-use Rattle.std.specs.Prelude.{◌≡◌, Option, Result, Ok, Err}
+use Rattle.std.specs.Prelude.{◌≡◌, ◌++◌, true, Option, Result, Ok, Err}
 use Rattle.fab_base.specs.declared.object.Value.{Value}
+use Rattle.fab_base.specs.FlatMap.{ascends}
 use Rattle.fab_language.specs.declared.ending.Ending.{Ending}
 use Rattle.fab_language.specs.declared.ending.Ending.TheVariants as e
 use Rattle.fab_language.specs.Meaning as m
 use Rattle.fab_meaning.specs.declared.halt.Halt.{Halt}
 use Rattle.fab_meaning.specs.declared.halt.Halt.TheVariants.{Memory, Ended}
+use Rattle.fab_meaning.specs.declared.whole.Changes.{Changes}
 use Rattle.fab_meaning.specs.declared.whole.Meant.{Meant}
+use Rattle.fab_meaning.specs.Effects.{objects_at}
 use Rattle.fab_meaning.specs.Gives.{end_of}
 
 -- what was found is what was meant
@@ -17,6 +20,12 @@ pub record IsMeant (found : Meant) (meant : m.Meant) : Type 0 where
   pub made : found.made ≡ meant.made
   pub touches : found.touches ≡ meant.touches
   pub downs : found.downs ≡ meant.downs
+
+-- what was found changed is what was meant to be: what was written, and then what was made
+pub record AreChanges (found : Changes) (meant : m.Meant) : Type 0 where
+  pub ending : found.ending ≡ meant.ending
+  pub changed : found.changed ≡ objects_at meant.map (meant.written ++ meant.made)
+  pub ascends : ascends meant.map ≡ true
 
 -- a request that a call ended so has this ending; without memory it has none
 abbrev pub EndsIn : Result (Option Value) Halt → Ending → Type 0

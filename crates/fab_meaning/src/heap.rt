@@ -1,8 +1,9 @@
 //! The objects of a run by name, with the names that were written and made.
-ghost use Rattle.std.specs.Prelude.{◌≡◌, IfOk, OnOk, option_copied};
-ghost use Rattle.fab_base.specs.FlatMap.{get, put_all};
+ghost use Rattle.std.specs.Prelude.{◌≡◌, ◌++◌, true, IfOk, OnOk, option_copied};
+ghost use Rattle.fab_base.specs.FlatMap.{ascends, get, put_all};
 ghost use Rattle.fab_language.specs.Heaps.{created, index_at, is_among, is_changed, is_spent, replaced, with_row};
 ghost use Rattle.fab_language.specs.Meaning.{unchanged};
+ghost use Rattle.fab_meaning.specs.Effects.{object_at, objects_at};
 ghost use Rattle.fab_meaning.specs.Points.{Settles};
 
 use fab_base::{NoMemory, Object, Oid, Seq};
@@ -143,6 +144,48 @@ impl<'a> Heap<'a> {
         self.made.push(oid)?;
         self.put(oid, object)?;
         Ok(true)
+    }
+
+    /// A copy of the object of this name, if it is there, behind those so far.
+    fn put_found(
+        &self,
+        alloc: Global,
+        out: &mut Seq<(Oid, Object)>,
+        oid: Oid,
+    ) -> Result<(), NoMemory>
+        ensures { OnOk result (out.new ≡ out.old ++ object_at oid (get self.now.rows oid)) }
+    {
+        match self.get(alloc, oid)? {
+            Some(object) => out.push((oid, object)),
+            None => Ok(()),
+        }
+    }
+
+    /// Those of these names.
+    fn put_all_found(
+        &self,
+        alloc: Global,
+        out: &mut Seq<(Oid, Object)>,
+        names: &[Oid],
+    ) -> Result<(), NoMemory>
+        ensures { OnOk result (out.new ≡ out.old ++ objects_at self.now.rows names.now) }
+    {
+        for name in names {
+            self.put_found(alloc, out, *name)?;
+        }
+        Ok(())
+    }
+
+    /// The objects that were written, and those that were made, as they are now.
+    #[tactic(auto, using(crate::proofs::Over::ascends_over, crate::proofs::Over::objects_append))]
+    pub(crate) fn changes(&self, alloc: Global) -> Result<Seq<(Oid, Object)>, NoMemory>
+        ensures rows { IfOk result (λ rows. rows ≡ objects_at self.now.rows (self.now.written ++ self.now.made)) }
+        ensures ascends { ascends self.now.rows ≡ true }
+    {
+        let mut rows = Seq::new(alloc);
+        self.put_all_found(alloc, &mut rows, self.written.as_slice())?;
+        self.put_all_found(alloc, &mut rows, self.made.as_slice())?;
+        Ok(rows)
     }
 
     /// All objects as they are now, and the names that were written and made.

@@ -12,4 +12,4 @@ mod state;
 mod statements;
 mod whole;
 
-pub use whole::{Meant, meaning, plain_meaning};
+pub use whole::{Changes, Meant, effect, meaning, plain_meaning};

@@ -2,13 +2,13 @@
 ghost use Rattle.std.specs.Prelude.{◌≡◌, ◌<◌, ◌≤◌, OnOk, IfOk};
 ghost use Rattle.fab_language.specs.Meaning.{access, assign, charge, create, local, meant_at, noted_down, read, replace, with_field, write};
 ghost use Rattle.fab_erasure.specs.Erased.{take_given};
-ghost use Rattle.fab_meaning.specs.Ends.{IsMeant};
+ghost use Rattle.fab_meaning.specs.Ends.{AreChanges, IsMeant};
 ghost use Rattle.fab_meaning.specs.Gives.{Gives};
 ghost use Rattle.fab_meaning.specs.Points.{put_back, state_given, with_locals};
 
 use crate::halt::{End, Halt};
 use crate::heap::Heap;
-use crate::whole::Meant;
+use crate::whole::{Changes, Meant};
 use fab_base::{NoMemory, Object, Oid, Seq, Stop, Tid, Value};
 use fab_language::Ending;
 use fab_map::ObjectMap;
@@ -240,6 +240,16 @@ impl<'a> State<'a> {
         let Saved { locals, heap } = saved;
         self.locals = locals;
         self.heap = heap;
+    }
+
+    /// What a request changed that ends so.
+    pub(crate) fn effect(&self, ending: Ending) -> Result<Changes, NoMemory>
+        ensures { IfOk result (λ e. AreChanges e (meant_at ending self.now)) }
+    {
+        Ok(Changes {
+            ending,
+            changed: self.heap.changes(self.alloc)?,
+        })
     }
 
     /// What stands at the end of a request that ends so.

@@ -3,7 +3,7 @@ ghost use Rattle.std.specs.Prelude.{◌≡◌, IfOk};
 ghost use Rattle.fab_language.specs.Meaning.{ending_at, meaning as what_is_meant};
 ghost use Rattle.fab_rights.specs.Computed.{has_bit};
 ghost use Rattle.fab_erasure.specs.Erased.{erased};
-ghost use Rattle.fab_meaning.specs.Ends.{EndsIn, IsMeant};
+ghost use Rattle.fab_meaning.specs.Ends.{EndsIn, AreChanges, IsMeant};
 ghost use Rattle.fab_meaning.specs.Gives.{end_of};
 ghost use Rattle.fab_meaning.specs.Sights.{sees, shows};
 
@@ -11,7 +11,7 @@ use crate::halt::{End, Halt};
 use crate::setting::{Setting, Sight};
 use crate::state::State;
 use crate::statements::called;
-use fab_base::{NoMemory, Oid, Seq, Tid, Value};
+use fab_base::{NoMemory, Object, Oid, Seq, Tid, Value};
 use fab_erasure::everything_seen;
 use fab_language::Ending;
 use fab_map::ObjectMap;
@@ -31,6 +31,14 @@ pub struct Meant {
     pub made: Seq<Oid>,
     pub touches: Seq<(u16, Oid)>,
     pub downs: Seq<(u16, Value)>,
+}
+
+/// What a request changes: how it ends, and the objects that were written in it and then those that were
+/// made, as they then stand.
+#[derive(Drop)]
+pub struct Changes {
+    pub ending: Ending,
+    pub changed: Seq<(Oid, Object)>,
 }
 
 /// What a request means in a program, as far as it can be computed by who sees the labels and is shown
@@ -73,6 +81,33 @@ pub fn plain_meaning(
 {
     everything_seen();
     found(alloc, program, Sight::Whole, known, &[], request, tid, fuel)
+}
+
+/// What a request changes, as far as it can be computed by who sees the labels and is shown the classes
+/// that have their bits. The map that it is done over isn't copied.
+pub fn effect(
+    alloc: Global,
+    program: &Resolved,
+    seen: &Seen,
+    known: &ObjectMap,
+    given: &[Value],
+    request: &Request,
+    tid: Tid,
+    fuel: u32,
+) -> Result<Changes, NoMemory>
+    ensures { IfOk result (λ e. AreChanges e (erased (has_bit seen.now.labels) (has_bit seen.now.classes) program.now known.now request.now tid fuel given.now)) }
+{
+    let mut state = State::begin(alloc, known, fuel, given)?;
+    let args = Seq::from_slice(alloc, request.args.as_slice())?;
+    let setting = Setting {
+        program,
+        sight: Sight::Part(*seen),
+        tid,
+        depth: DEPTH,
+    };
+    let ended = called(&setting, &mut state, request.method, args);
+    let ending = ending_of(ended)?;
+    state.effect(ending)
 }
 
 fn found(

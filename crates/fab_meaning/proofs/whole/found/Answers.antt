@@ -2,6 +2,7 @@ use Rattle.std.proofs.Common.{◌∙◌, List, Option, subst}
 use Rattle.fab_base.specs.declared.object.Value.{Value}
 use Rattle.fab_language.specs.Meaning.{Run, State}
 use Rattle.fab_erasure.specs.Erased as e
+use Rattle.fab_meaning.specs.Ends.{IsMeant}
 use Rattle.fab_meaning.specs.Gives.{Gives}
 use Rattle.fab_meaning.specs.Points.{state_given}
 use Rattle.fab_meaning.specs.Sights.{sees, shows}
@@ -17,4 +18,4 @@ returns c =
     let from : Gives c.called-ended.result c.called-ended.new.state (call c.args.request.now.args start) =
     subst (λ s. Gives c.called-ended.result c.called-ended.new.state (call c.args.request.now.args s)) c.in_ok-state.ensures
     (subst (λ args. Gives c.called-ended.result c.called-ended.new.state (call args c.in_ok-state.state)) (c.in_ok-args.ensures ∙ c.as_slice.ensures) given) in
-    found_meant c.called-ended.result c.called-ended.new.state (call c.args.request.now.args start) c.in_ok-ending.ending c.meant.result from c.in_ok-ending.ensures c.meant.ensures
+    found_meant IsMeant c.called-ended.result c.called-ended.new.state (call c.args.request.now.args start) c.in_ok-ending.ending c.meant.result from c.in_ok-ending.ensures c.meant.ensures
