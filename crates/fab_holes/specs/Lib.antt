@@ -1,0 +1,3 @@
+pub mod Holes
+pub mod Open
+pub mod Least
