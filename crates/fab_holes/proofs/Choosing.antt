@@ -2,6 +2,7 @@
 use Rattle.std.proofs.Common.{◌≡◌, ℕ, zero, suc, ◌+◌, ◌-◌, ◌<◌, ◌≤◌, ◌⊎◌, inl, inr, nat_lt, true, false, if◌then◌else◌, List, [], ◌∷◌, ◌++◌, length, Some, None, refl, sym, ap, ◌∙◌, subst, arith, Contains}
 use Rattle.std.specs.Prelude.{slice_get, unwrap_or}
 use Rattle.std.specs.List.{AllByRecursion, AllZip, flat_map}
+use Rattle.std.proofs.lemmas.Bool.{cases_lt}
 use Rattle.std.proofs.lemmas.List.Elements.{Contains-append_left, Contains-append_right, Contains-append_cases}
 use Rattle.fab_base.specs.Principals.{Leads}
 use Rattle.fab_principals.proofs.ChainLemmas.{Leads-append}
@@ -14,7 +15,7 @@ use Rattle.fab_holes.proofs.Renaming.{In, each_of, all_of}
 
 -- ---- numbers
 
-slice_some : {A : Type 0} (xs : List A) (i : ℕ) → i < length xs → (x : A) × (slice_get xs i ≡ Some x)
+pub slice_some : {A : Type 0} (xs : List A) (i : ℕ) → i < length xs → (x : A) × (slice_get xs i ≡ Some x)
 slice_some [] i h = absurd (omega (arith, h))
 slice_some (x ∷ xs) zero h = (x, refl)
 slice_some (x ∷ xs) (suc i) h = slice_some xs i (omega (arith, h))
@@ -24,23 +25,11 @@ slice_none [] i h = refl
 slice_none (x ∷ xs) zero h = absurd (omega (arith, h))
 slice_none (x ∷ xs) (suc i) h = slice_none xs i (omega (arith, h))
 
-lt_true : (a b : ℕ) → a < b → nat_lt a b ≡ true
+pub lt_true : (a b : ℕ) → a < b → nat_lt a b ≡ true
 lt_true a b h = search (arith, h)
 
-lt_false : (a b : ℕ) → b ≤ a → nat_lt a b ≡ false
+pub lt_false : (a b : ℕ) → b ≤ a → nat_lt a b ≡ false
 lt_false a b h = search (arith, h)
-
-below_or_not : (a b : ℕ) → (a < b) ⊎ (b ≤ a)
-below_or_not a b = elim (nat_lt a b) as (λ t. nat_lt a b ≡ t → (a < b) ⊎ (b ≤ a)) [
-  | true ↦ λ e. inl (below e)
-  | false ↦ λ e. inr (above e)
-] refl
-  where
-    below : nat_lt a b ≡ true → a < b
-    below e = grind arith
-
-    above : nat_lt a b ≡ false → b ≤ a
-    above e = grind arith
 
 -- a declared label stays
 pub stays_below : (n : ℕ) (choice : List ℕ) (l : ℕ) → l < n → chosen_label n choice l ≡ l
@@ -71,14 +60,14 @@ pub data Kind (n m : ℕ) : ℕ → Type 0 where
   neither : (i : ℕ) → m ≤ i → Kind n m (n + i)
 
 pub kind_of : (n m l : ℕ) → Kind n m l
-kind_of n m l = elim (below_or_not l n) [
+kind_of n m l = elim (cases_lt l n) [
   | inl below ↦ declared l below
-  | inr above ↦ let e : n + (l - n) ≡ l = omega (arith, above) in subst (Kind n m) e (elim (below_or_not (l - n) m) [ inl within ↦ hole (l - n) within | inr past ↦ neither (l - n) past ])
+  | inr above ↦ let e : n + (l - n) ≡ l = omega (arith, above) in subst (Kind n m) e (elim (cases_lt (l - n) m) [ inl within ↦ hole (l - n) within | inr past ↦ neither (l - n) past ])
 ]
 
--- the sources of flows are among the first labels
+-- the sources of flows are among the first labels, if there are any
 abbrev pub IsWithin : ℕ → Claim → Type 0
-IsWithin n (flows a b) = a < n
+IsWithin n (flows a b) = 0 < n → a < n
 IsWithin n (conf a b) = Unit {0}
 IsWithin n (nowhere a) = Unit {0}
 IsWithin n (declassifies a b ps) = Unit {0}
@@ -117,7 +106,7 @@ module _ (r : Resolved) where
   Source a b x = (x.claim ≡ flows a b) × (n ≤ b)
 
   of_claim : (c : Claim) (a b : ℕ) → Contains (into_hole r c) (a, b) → (c ≡ flows a b) × (n ≤ b)
-  of_claim (flows s t) a b h = elim (below_or_not t n) [
+  of_claim (flows s t) a b h = elim (cases_lt t n) [
     | inl below ↦ absurd (none (subst (λ v. Contains {X = ℕ × ℕ} (if v then [] else (s, t) ∷ []) (a, b)) (lt_true t n below) h))
     | inr above ↦ one above (subst (λ v. Contains {X = ℕ × ℕ} (if v then [] else (s, t) ∷ []) (a, b)) (lt_false t n above) h)
   ]
@@ -231,7 +220,7 @@ module _ (r : Resolved) where
               goes_trans (g a) (chosen_label n d a) (g b) (lower a) (goes_same (chosen_label n d a) (chosen_label n d a) (chosen_label n d b) (g b) refl (stays_below n d b below ∙ sym (stays_below n c b below)) h)
           to b (hole j more) e h =
               let s = slice_some c j more in
-              goes_same (g a) (g a) s.0 (g (n + j)) refl (sym (at_hole n c j s.0 s.1)) (to_hole a j s.0 s.1 (kind_of n (length c) a) inside (pair_of all x a (n + j) i e (omega arith)))
+              goes_same (g a) (g a) s.0 (g (n + j)) refl (sym (at_hole n c j s.0 s.1)) (to_hole a j s.0 s.1 (kind_of n (length c) a) (inside (omega (arith, more))) (pair_of all x a (n + j) i e (omega arith)))
           to b (neither j past) e h =
               goes_trans (g a) (chosen_label n d a) (g (n + j)) (lower a)
               (goes_same (chosen_label n d a) (chosen_label n d a) (chosen_label n d (n + j)) (g (n + j)) refl (stays_behind n d j (subst (λ z. z ≤ j) (sym many) past) ∙ sym (stays_behind n c j past)) h)

@@ -1,5 +1,7 @@
 pub mod Choosing
+pub mod Conditions
+pub mod Filling
 mod HoleExamples
-pub mod Named
+pub mod Numbering
 pub mod Renaming
 pub mod Whole

@@ -30,7 +30,7 @@ use Rattle.fab_labelling.specs.Obligations as ob
 use Rattle.fab_labelling.specs.Obligations.{Claim, flows, conf, nowhere, holds, Owed, owe, all_flow, all_conf, all_fail, under, class_of_sort, class_of_local, label_of_local, label_of_class, Part, Tail, division, local_labels, class_behind, asking, reaching, tail_owes, form_step, part}
 use Rattle.fab_labelling.proofs.Forms.{form_part, operand_part}
 use Rattle.fab_holes.specs.Open.{renamed_claim, renamed_method, with_label}
-use Rattle.fab_holes.proofs.Named.{named_by_right, labels_step, labels_in, labels_in_block}
+use Rattle.fab_views.proofs.Labels.{named_by_right, labels_step, labels_in, labels_in_block}
 
 -- it stands in a list
 abbrev pub In : {A : Type 0} → A → List A → Type 0

@@ -17,7 +17,7 @@ use Rattle.fab_labelling.specs.Obligations.{Claim, Owed, all_flow, part, label_o
 use Rattle.fab_laws.proofs.Values.{all_map}
 use Rattle.fab_shapes.proofs.Lists.{at_index, of_all, in_both}
 use Rattle.fab_holes.specs.Open.{renamed_claim, renamed_method, renamed}
-use Rattle.fab_holes.proofs.Named.{labels_in, labels_in_block}
+use Rattle.fab_views.proofs.Labels.{labels_in, labels_in_block}
 use Rattle.fab_holes.proofs.Renaming.{Both, none_both, join, Like, like_map, like_part, both_kept, IsFixed, HeadKept, expressions, statements, each_of}
 
 -- the labels of a method's head, and those that its statements name, keep their numbers

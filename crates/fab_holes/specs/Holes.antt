@@ -42,17 +42,14 @@ abbrev pub named_as : Option LabelText → Name → Name
 named_as None x = x
 named_as (Some l) x = record { text = l.name.text; at = x.at }
 
-module _ (start : Start) (choice : List ℕ) where
-  -- the label that is chosen for the hole of this number
-  abbrev pub chosen : ℕ → Name → Name
-  chosen k x = chosen_as (slice_get choice k)
-    where
-      chosen_as : Option ℕ → Name
-      chosen_as None = x
-      chosen_as (Some l) = named_as (slice_get start.program.labels l) x
+-- the name of the label that is chosen, at this place
+abbrev pub chosen_name : Start → Option ℕ → Name → Name
+chosen_name start None x = x
+chosen_name start (Some l) x = named_as (slice_get start.program.labels l) x
 
+module _ (start : Start) (choice : List ℕ) where
   abbrev pub filled_name : Name → Numbered Name
-  filled_name x k = if is_hole start x then (chosen k x, suc k) else (x, k)
+  filled_name x k = if is_hole start x then (chosen_name start (slice_get choice k) x, suc k) else (x, k)
 
   abbrev pub filled_parameter : Parameter → Numbered Parameter
   filled_parameter p = made_of (λ l. record p { label = l }) (filled_name p.label)
