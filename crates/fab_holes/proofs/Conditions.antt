@@ -1,9 +1,8 @@
 -- What is known of a bundle whose names are right but for its holes.
-use Rattle.std.proofs.Common.{◌≡◌, ℕ, zero, suc, ◌+◌, ◌<◌, ◌≤◌, inl, inr, nat_lt, Bool, true, false, if◌then◌else◌, List, [], ◌∷◌, ◌++◌, map, length, Some, refl, sym, ap, ◌∙◌, subst, arith}
+use Rattle.std.proofs.Common.{◌≡◌, ℕ, suc, ◌+◌, ◌<◌, ◌≤◌, inl, inr, nat_lt, Bool, true, false, if◌then◌else◌, List, [], ◌∷◌, ◌++◌, map, length, refl, sym, ap, subst, arith}
 use Rattle.std.specs.Prelude.{slice_get}
 use Rattle.std.specs.List.{AllByRecursion, flat_map}
 use Rattle.std.proofs.lemmas.Bool.{cases_lt}
-use Rattle.std.proofs.lemmas.List.{length-map}
 use Rattle.fab_tree.specs.declared.name.Name.{Name}
 use Rattle.fab_tree.specs.declared.program.Parameter.{Parameter}
 use Rattle.fab_tree.specs.declared.program.Method.{Method}
@@ -11,15 +10,13 @@ use Rattle.fab_tree.specs.declared.start.Start.{Start}
 use Rattle.fab_tree.specs.declared.resolved.Class.{Class}
 use Rattle.fab_tree.specs.declared.resolved.Local.{Local}
 use Rattle.fab_tree.specs.declared.resolved.Method.{Method as NumberedMethod}
-use Rattle.fab_tree.specs.declared.resolved.Resolved.{Resolved}
 use Rattle.fab_tree.specs.Limits.{locals_of}
 use Rattle.fab_language.specs.Unknown.{unknown}
-use Rattle.fab_language.specs.Doubled.{doubled, repeats, in_class, in_method, is_workers}
+use Rattle.fab_language.specs.Doubled.{doubled, repeats, in_class, in_method}
 use Rattle.fab_language.specs.Roles.{misplaced}
 use Rattle.fab_language.specs.Arity.{miscounted}
 use Rattle.fab_language.specs.Types.{mistyped}
-use Rattle.fab_language.specs.Faults.{faults}
-use Rattle.fab_language.specs.Names.{node_name, label_name, class_name, method_name, root_name, session_name}
+use Rattle.fab_language.specs.Names.{node_name, label_name, class_name, method_name, root_name}
 use Rattle.fab_language.specs.Uses.{label_use}
 use Rattle.fab_language.specs.MethodNumbers.{in_turn, numbered_local, method_of, methods_of}
 use Rattle.fab_language.specs.Numbers.{resolved}
@@ -55,9 +52,9 @@ module _ (count : ℕ) where
   local_below : (room : ℕ) (x : Local) (h : ℕ) → (opened_local count x h).1 ≤ room → IsBelow room (opened_local count x h).0 × (h ≤ (opened_local count x h).1)
   local_below room x h = elim (nat_lt x.label.number count) as (λ b. nat_lt x.label.number count ≡ b → (if◌then◌else◌ {A = Local × ℕ} b (x, h) (with_label (count + h) x, suc h)).1 ≤ room
       → IsBelow room (if◌then◌else◌ {A = Local × ℕ} b (x, h) (with_label (count + h) x, suc h)).0 × (h ≤ (if◌then◌else◌ {A = Local × ℕ} b (x, h) (with_label (count + h) x, suc h)).1)) [
-    | true ↦ λ e l. (below e, omega arith)
-    | false ↦ λ e l. (omega (arith, l), omega arith)
-  ] refl
+        | true ↦ λ e l. (below e, omega arith)
+        | false ↦ λ e l. (omega (arith, l), omega arith)
+      ] refl
     where
       below : nat_lt x.label.number count ≡ true → x.label.number < count + room
       below e = grind arith

@@ -1,5 +1,5 @@
 -- A bundle with labels for its holes has the numbers of the one with holes, but for those of its locals' labels.
-use Rattle.std.proofs.Common.{◌≡◌, ℕ, zero, suc, ◌+◌, true, false, cond, if◌then◌else◌, List, [], ◌∷◌, ◌++◌, map, length, option_map, Option, Some, None, refl, sym, ap, ◌∙◌, subst}
+use Rattle.std.proofs.Common.{◌≡◌, ℕ, zero, suc, true, false, cond, if◌then◌else◌, List, [], ◌∷◌, ◌++◌, map, length, option_map, Option, Some, None, refl, sym, ap, ◌∙◌, subst}
 use Rattle.std.specs.List.{flat_map}
 use Rattle.std.proofs.lemmas.List.{map-append, length-map}
 use Rattle.fab_tree.specs.declared.name.Name.{Name}
@@ -19,7 +19,6 @@ use Rattle.fab_tree.specs.declared.resolved.Expression.{Expression as NumberedEx
 use Rattle.fab_tree.specs.declared.resolved.Form.{Form as NumberedForm}
 use Rattle.fab_tree.specs.declared.resolved.Form.TheVariants as nf
 use Rattle.fab_tree.specs.declared.resolved.Operand.{Operand as NumberedOperand}
-use Rattle.fab_tree.specs.declared.resolved.Right.{Right as NumberedRight}
 use Rattle.fab_tree.specs.declared.resolved.Right.TheVariants as nr
 use Rattle.fab_tree.specs.declared.resolved.Statement.{Statement as NumberedStatement}
 use Rattle.fab_tree.specs.declared.resolved.Statement.TheVariants as ns
@@ -27,8 +26,8 @@ use Rattle.fab_tree.specs.declared.resolved.Return.{Return as NumberedReturn}
 use Rattle.fab_tree.specs.declared.resolved.Method.{Method as NumberedMethod}
 use Rattle.fab_tree.specs.Limits.{joined, declared_in, declared_step, locals_of}
 use Rattle.fab_language.specs.Names.{is_same_name, named, number_of, local_name, method_name, field_name}
-use Rattle.fab_language.specs.Uses.{class_use, node_use, label_use, method_use, principal_use, local_use, fields_of_local, field_number}
-use Rattle.fab_language.specs.MethodNumbers.{Numbered, siteless, made_of, made_of_two, made_of_three, at_site, in_turn, form_step, expression_step, operand_step, expression_of, expressions_of, right_of, statement_step, statement_of, block_of, result_of, numbered_local, returns_of, method_of, otherwise_of}
+use Rattle.fab_language.specs.Uses.{class_use, node_use, label_use, principal_use, fields_of_local, field_number}
+use Rattle.fab_language.specs.MethodNumbers.{Numbered, siteless, made_of, made_of_two, made_of_three, at_site, in_turn, form_step, expression_step, operand_step, expression_of, expressions_of, right_of, statement_step, statement_of, block_of, result_of, numbered_local, returns_of, method_of}
 use Rattle.fab_language.proofs.NumberedForms.{statement_numbers}
 use Rattle.fab_holes.specs.Holes.{filled_name, filled_parameter, filled_step, filled_statement, filled_method, filled}
 

@@ -4,4 +4,5 @@ pub mod Filling
 mod HoleExamples
 pub mod Numbering
 pub mod Renaming
+pub mod Solving
 pub mod Whole

@@ -1,6 +1,6 @@
 -- Numbering a bundle with labels for its holes is renaming the numbered one: each hole's number becomes that of its label.
-use Rattle.std.proofs.Common.{◌≡◌, ℕ, zero, suc, ◌+◌, ◌-◌, ◌<◌, ◌≤◌, ◌⊎◌, inl, inr, nat_lt, Bool, true, false, cond, if◌then◌else◌, List, [], ◌∷◌, ◌++◌, map, length, Option, Some, None, refl, sym, ap, ◌∙◌, subst, codes, append_assoc, arith, filter, true≢false}
-use Rattle.std.specs.Prelude.{slice_get, unwrap_or}
+use Rattle.std.proofs.Common.{◌≡◌, ℕ, zero, suc, ◌+◌, ◌<◌, ◌≤◌, ◌⊎◌, inl, inr, nat_lt, Bool, true, false, cond, if◌then◌else◌, List, [], ◌∷◌, ◌++◌, map, length, Some, refl, sym, ap, ◌∙◌, subst, codes, append_assoc, arith, filter}
+use Rattle.std.specs.Prelude.{slice_get}
 use Rattle.std.specs.List.{AllByRecursion, flat_map, list_any}
 use Rattle.std.specs.Str.{bytes_eq}
 use Rattle.std.proofs.lemmas.Bool.{and_parts, or_parts, not-true}
@@ -14,7 +14,6 @@ use Rattle.fab_tree.specs.declared.start.Session.{Session}
 use Rattle.fab_tree.specs.declared.start.Start.{Start}
 use Rattle.fab_tree.specs.declared.resolved.Local.{Local}
 use Rattle.fab_tree.specs.declared.resolved.Method.{Method as NumberedMethod}
-use Rattle.fab_tree.specs.declared.resolved.Resolved.{Resolved}
 use Rattle.fab_tree.specs.Limits.{locals_of}
 use Rattle.fab_language.specs.declared.rule.Fault.{Fault}
 use Rattle.fab_language.specs.Doubled.{repeats_behind, repeats}
@@ -24,7 +23,7 @@ use Rattle.fab_language.specs.MethodNumbers.{Numbered, in_turn, numbered_local, 
 use Rattle.fab_language.specs.Numbers.{label_of, asked_from, session_of, values_of, resolved}
 use Rattle.fab_shapes.proofs.Lists.{right_nil}
 use Rattle.fab_shapes.proofs.Named.{number_same, same_name, same_text}
-use Rattle.fab_holes.specs.Holes.{is_infer, has_holes, is_hole, holes_in, holes, chosen_name, named_as, filled_name, filled_parameter, filled_method, filled}
+use Rattle.fab_holes.specs.Holes.{is_infer, has_holes, is_hole, holes_in, holes, chosen_name, named_as, filled_parameter, filled_method, filled}
 use Rattle.fab_holes.specs.Open.{with_label, opened_local, opened_method, opened, renamed_method, renamed}
 use Rattle.fab_holes.specs.Least.{chosen_label}
 use Rattle.fab_holes.proofs.Choosing.{stays_below, at_hole, lt_true, lt_false}
@@ -161,7 +160,7 @@ module _ (start : Start) where
         let its : number_of label_name start.program.labels text ≡ g.0 = number_same label_name start.program.labels text x.name refl ∙ number_at label_name start.program.labels g.0 x gives.once g.3 in
         let put : f (many + h) ≡ g.0 = at_hole many choice h g.0 g.2 in
         let same : numbered_local start (record p { label = chosen_name start (slice_get choice h) p.label }) ≡ other (with_label (many + h) (numbered_local start p)) =
-            ap (λ w. numbered_local start (record p { label = w })) named ∙ ap (λ k. with_label k (numbered_local start p)) (its ∙ sym put) in
+        ap (λ w. numbered_local start (record p { label = w })) named ∙ ap (λ k. with_label k (numbered_local start p)) (its ∙ sym put) in
         subst (λ b. FilledSame p h b (nat_lt (label_use start p.label).number many)) (sym hole)
         (subst (λ c. FilledSame p h true c) (sym (lt_false (label_use start p.label).number many (at_least (label_use start p.label).number many number))) (same, refl))
       where
@@ -222,13 +221,13 @@ module _ (start : Start) where
         let is = method_filled start choice m h k in
         let next : (method_of (new start choice) a.0 k).1 ≡ x.1 = ap (λ (t : NumberedMethod × ℕ). t.1) is in
         let head : (method_of (new start choice) a.0 k).0 ≡ renamed_method f o.0 =
-            ap (λ (t : NumberedMethod × ℕ). t.0) is ∙ ap (λ ls. record x.0 { locals = ls }) locals.0 in
+        ap (λ (t : NumberedMethod × ℕ). t.0) is ∙ ap (λ ls. record x.0 { locals = ls }) locals.0 in
         let count : a.1 ≡ o.1 = ends ∙ locals.1 in
         let others = same_methods ms a.1 x.1 fine.1 bound in
         let ys = (methods_of start ms x.1).0 in (
           ap (λ z. z ∷ (methods_of (new start choice) rest.0 (method_of (new start choice) a.0 k).1).0) head
-          ∙ ap (λ n. renamed_method f o.0 ∷ (methods_of (new start choice) rest.0 n).0) next
-          ∙ ap (λ l. renamed_method f o.0 ∷ l) (others.0 ∙ ap (λ n. map (renamed_method f) (opened_methods ys n).0) count),
+              ∙ ap (λ n. renamed_method f o.0 ∷ (methods_of (new start choice) rest.0 n).0) next
+              ∙ ap (λ l. renamed_method f o.0 ∷ l) (others.0 ∙ ap (λ n. map (renamed_method f) (opened_methods ys n).0) count),
           others.1 ∙ ap (λ n. (opened_methods ys n).1) count,
         )
       where
