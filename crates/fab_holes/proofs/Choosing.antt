@@ -65,9 +65,9 @@ kind_of n m l = elim (cases_lt l n) [
   | inr above ↦ let e : n + (l - n) ≡ l = omega (arith, above) in subst (Kind n m) e (elim (cases_lt (l - n) m) [ inl within ↦ hole (l - n) within | inr past ↦ neither (l - n) past ])
 ]
 
--- the sources of flows are among the first labels, if there are any
+-- flows are between labels of the first, if there are any
 abbrev pub IsWithin : ℕ → Claim → Type 0
-IsWithin n (flows a b) = 0 < n → a < n
+IsWithin n (flows a b) = 0 < n → (a < n) × (b < n)
 IsWithin n (conf a b) = Unit {0}
 IsWithin n (nowhere a) = Unit {0}
 IsWithin n (declassifies a b ps) = Unit {0}
@@ -124,7 +124,7 @@ module _ (r : Resolved) where
   of_claim (holds store class) a b h = absurd (omega (arith, h.1))
   of_claim (answers_for worker method p) a b h = absurd (omega (arith, h.1))
 
-  of_pair : (xs : List Owed) (a b : ℕ) → Contains (flat_map (λ (y : Owed). into_hole r y.claim) xs) (a, b) → (x : Owed) × In x xs × (x.claim ≡ flows a b) × (n ≤ b)
+  pub of_pair : (xs : List Owed) (a b : ℕ) → Contains (flat_map (λ (y : Owed). into_hole r y.claim) xs) (a, b) → (x : Owed) × In x xs × (x.claim ≡ flows a b) × (n ≤ b)
   of_pair [] a b h = absurd (omega (arith, h.1))
   of_pair (y ∷ ys) a b h = elim (Contains-append_cases (into_hole r y.claim) (flat_map (λ (z : Owed). into_hole r z.claim) ys) (a, b) h) [
     | inl here ↦ let t = of_claim y.claim a b here in (y, inl refl, t.0, t.1)
@@ -220,7 +220,7 @@ module _ (r : Resolved) where
               goes_trans (g a) (chosen_label n d a) (g b) (lower a) (goes_same (chosen_label n d a) (chosen_label n d a) (chosen_label n d b) (g b) refl (stays_below n d b below ∙ sym (stays_below n c b below)) h)
           to b (hole j more) e h =
               let s = slice_some c j more in
-              goes_same (g a) (g a) s.0 (g (n + j)) refl (sym (at_hole n c j s.0 s.1)) (to_hole a j s.0 s.1 (kind_of n (length c) a) (inside (omega (arith, more))) (pair_of all x a (n + j) i e (omega arith)))
+              goes_same (g a) (g a) s.0 (g (n + j)) refl (sym (at_hole n c j s.0 s.1)) (to_hole a j s.0 s.1 (kind_of n (length c) a) (inside (omega (arith, more))).0 (pair_of all x a (n + j) i e (omega arith)))
           to b (neither j past) e h =
               goes_trans (g a) (chosen_label n d a) (g (n + j)) (lower a)
               (goes_same (chosen_label n d a) (chosen_label n d a) (chosen_label n d (n + j)) (g (n + j)) refl (stays_behind n d j (subst (λ z. z ≤ j) (sym many) past) ∙ sym (stays_behind n c j past)) h)

@@ -34,10 +34,10 @@ use Rattle.fab_holes.proofs.Numbering.{many, IsFine, AreFine, Gives}
 use Rattle.fab_holes.proofs.Whole.{MethodStays, Stays, whole}
 
 -- the labels of a method's head, and those that its statements name, are declared
-record IsDeclared (n : ℕ) (m : NumberedMethod) : Type 0 where
-  returns : AreBelow n (label_of_returns m.returns)
-  begin : m.begin.number < n
-  body : AreBelow n (labels_in_block m.body)
+pub record IsDeclared (n : ℕ) (m : NumberedMethod) : Type 0 where
+  pub returns : AreBelow n (label_of_returns m.returns)
+  pub begin : m.begin.number < n
+  pub body : AreBelow n (labels_in_block m.body)
 
 module _ (count : ℕ) where
   opened_declared : (n : ℕ) (xs : List NumberedMethod) (h : ℕ) → AllByRecursion (IsDeclared n) xs → AllByRecursion (IsDeclared n) (in_turn (map (opened_method count) xs) h).0
@@ -101,7 +101,7 @@ clamped n l h = elim (cases_lt l n) [
 ]
 
 clamped_claim : (n : ℕ) (c : Claim) → IsWithin n (renamed_claim (clamp n) c)
-clamped_claim n (flows a b) = clamped n a
+clamped_claim n (flows a b) = λ some. (clamped n a some, clamped n b some)
 clamped_claim n (conf a b) = tt
 clamped_claim n (nowhere a) = tt
 clamped_claim n (declassifies a b ps) = tt
@@ -184,6 +184,12 @@ module _ (start : Start) (named : IsNamed start) where
     once = once;
   }
 
+  pub declared_methods : AllByRecursion (IsDeclared (many start)) (opened (resolved start)).methods
+  declared_methods = opened_declared (many start) (many start) (resolved start).methods 0 parts.1
+
+  pub declared_classes : AllByRecursion (λ (c : Class). c.label.number < many start) (resolved start).classes
+  declared_classes = all_more (IsLabelledClass (many start)) (λ (c : Class). c.label.number < many start) (resolved start).classes (λ c h. h.label) labelled.classes
+
   -- numbers that leave declared labels as they are leave those of heads, and those that statements name
   pub stay : (f : ℕ → ℕ) → ((l : ℕ) → l < many start → f l ≡ l) → Stays f (opened (resolved start))
   stay f keeps = record {
@@ -192,7 +198,7 @@ module _ (start : Start) (named : IsNamed start) where
       begin = keeps m.begin.number h.begin;
       returns = all_more (λ l. l < many start) (λ l. f l ≡ l) (label_of_returns m.returns) keeps h.returns;
       body = all_more (λ l. l < many start) (λ l. f l ≡ l) (labels_in_block m.body) keeps h.body;
-    }) (opened_declared (many start) (many start) (resolved start).methods 0 parts.1);
+    }) declared_methods;
   }
 
   -- what flows is a declared label or a hole

@@ -1,5 +1,5 @@
 -- Numbering a bundle with labels for its holes is renaming the numbered one: each hole's number becomes that of its label.
-use Rattle.std.proofs.Common.{◌≡◌, ℕ, zero, suc, ◌+◌, ◌<◌, ◌≤◌, ◌⊎◌, inl, inr, nat_lt, Bool, true, false, cond, if◌then◌else◌, List, [], ◌∷◌, ◌++◌, map, length, Some, refl, sym, ap, ◌∙◌, subst, codes, append_assoc, arith, filter}
+use Rattle.std.proofs.Common.{◌≡◌, ℕ, zero, suc, ◌+◌, ◌<◌, ◌≤◌, ◌⊎◌, inl, inr, nat_lt, not, Bool, true, false, cond, if◌then◌else◌, List, [], ◌∷◌, ◌++◌, map, length, Some, refl, sym, ap, ◌∙◌, subst, codes, append_assoc, arith, filter}
 use Rattle.std.specs.Prelude.{slice_get}
 use Rattle.std.specs.List.{AllByRecursion, flat_map, list_any}
 use Rattle.std.specs.Str.{bytes_eq}
@@ -90,6 +90,14 @@ module _ (start : Start) where
 
   abbrev pub AreFine : Method → Type 0
   AreFine m = AllByRecursion IsFine (locals_of m)
+
+  -- which of the two shows in the number
+  pub hole_or_not : (p : Parameter) → IsFine p → not (nat_lt (label_use start p.label).number many) ≡ is_hole start p.label
+  hole_or_not p (inl hole) = ap not (lt_false (label_use start p.label).number many (at_least (label_use start p.label).number many (hole_number p.label hole ∙ sym (many_is)))) ∙ sym hole
+    where
+      at_least : (a b : ℕ) → a ≡ b → b ≤ a
+      at_least a b e = omega (arith, e)
+  hole_or_not p (inr (none, below)) = ap not (lt_true (label_use start p.label).number many below) ∙ sym none
 
   -- ---- how many holes there are
 

@@ -72,7 +72,9 @@ module _ (start : Start) (choice : List ℕ) where
   filled_statement = fold-Statement (Numbered Statement) filled_step
 
   abbrev pub filled_method : Method → Numbered Method
-  filled_method m = made_of_two (λ ps body. record m { parameters = ps; body = body }) (in_turn (map filled_parameter m.parameters)) (in_turn (map filled_statement m.body))
+  filled_method m =
+      made_of_two (λ ps body. record m { parameters = ps; body = body })
+      (in_turn (map filled_parameter m.parameters)) (in_turn (map filled_statement m.body))
 
   -- the bundle with these labels for its holes; all places stay
   abbrev pub filled : Start

@@ -3,4 +3,7 @@
 
 mod laws;
 
-pub use laws::{filling_is_renaming, least_labels_solve, one_answer, solutions_meet_what_is_owed};
+pub use laws::{
+    filling_is_renaming, holes_are_filled_in_turn, lasting_masks_have_what_lies_below,
+    least_labels_solve, one_answer, solutions_meet_what_is_owed,
+};
