@@ -1,5 +1,5 @@
 -- What the calls of a journal do to what it holds, and when they may fail.
-use Rattle.std.specs.Prelude.{◌≡◌, ◌↔◌, ◌≤◌, ℕ, Bool, true, false, IsTrue, List, ◌++◌, length, take, Result, Ok, Err, IsOk, IsErrOf, Contains, min, ◌==◌, ◌&&◌}
+use Rattle.std.specs.Prelude.{◌≡◌, ◌↔◌, ◌⊎◌, ◌<◌, ◌≤◌, ℕ, Bool, true, false, IsTrue, List, ◌++◌, length, take, Result, Ok, Err, IsOk, IsErr, IsErrOf, Contains, min, ◌==◌, ◌&&◌}
 use Rattle.fab_base.specs.Faults.{Rose, Calls, next_call, after_call}
 use Rattle.fab_device.specs.declared.traits.JournalError.{JournalError}
 use Rattle.fab_device.specs.declared.traits.JournalError.TheVariants.{Failed, Memory}
@@ -26,6 +26,11 @@ pub record JournalCause {T : Type 0} (before now : ℕ) (result : Result T Journ
   pub memory : IsErrOf result Memory → now ≡ before
   pub success : IsOk result → now ≡ before
 
+-- a call of a journal that has failed before doesn't work, and what it holds stays
+pub record StaysStopped {T E : Type 0} (faults : ℕ) (old new : List ℕ) (result : Result T E) : Type 0 where
+  pub fails : 0 < faults → IsErr result
+  pub same : 0 < faults → new ≡ old
+
 -- a call keeps whether the journal is sure, and at one that is sure it doesn't fail
 pub record KeepsSure (before now : Bool) (Fails : Type 0) : Type 0 where
   pub kept : now ≡ before
@@ -50,9 +55,14 @@ synced_of held = min held.synced (length held.content)
 abbrev pub never_fails : Calls → Bool
 never_fails calls = (length calls.fails == 0) && (calls.faults == 0)
 
--- a call that is counted: it fails exactly where it is listed, and then it changes nothing of what is held; only a failure counts as a fault
+-- the call that comes next is listed, or one before it has failed
+abbrev pub FailsNext : Calls → Type 0
+FailsNext calls = (0 < calls.faults) ⊎ Contains calls.fails (next_call calls)
+
+-- a call that is counted: it fails exactly where it is listed or one before it has failed, and then it changes nothing of what is held; only a
+-- failure counts as a fault
 pub record CountsCall (old new : HeldWithCalls) (Fails : Type 0) : Type 0 where
-  pub listed : Fails ↔ Contains old.calls.fails (next_call old.calls)
+  pub listed : Fails ↔ FailsNext old.calls
   pub nothing : Fails → new.held ≡ old.held
   pub made : new.calls.made ≡ next_call old.calls
   pub list : new.calls.fails ≡ old.calls.fails

@@ -11,6 +11,14 @@ pub record Entry : Type 0 where
   pub synced : ℕ
   pub faults : ℕ
 
+-- What contracts see of who makes journals and takes them back: the nodes whose journals may ever fail, the nodes for which it made one and the
+-- journals that it was given to keep, each in order, where it tells them; and how often it has failed, a count that stays at its last value, 2^64 - 1.
+pub record Makers : Type 0 where
+  pub may_fail : Option (List (List ℕ))
+  pub made : Option (List (List ℕ))
+  pub kept : Option (List Entry)
+  pub faults : ℕ
+
 -- It is told which nodes' journals may ever fail, and this node isn't one of them.
 abbrev pub CannotFail : Option (List (List ℕ)) → List ℕ → Type 0
 CannotFail None node = ⊥
@@ -19,6 +27,10 @@ CannotFail (Some nodes) node = Contains nodes node → ⊥
 -- the list with one more entry, where it is told
 abbrev pub with_entry : Option (List Entry) → Entry → Option (List Entry)
 with_entry kept entry = option_map (λ entries. entries ++ entry ∷ []) kept
+
+-- the list with one more name, where it is told
+abbrev pub with_name : Option (List (List ℕ)) → List ℕ → Option (List (List ℕ))
+with_name made node = option_map (λ names. names ++ node ∷ []) made
 
 -- what stands under a name, in order
 abbrev pub all_under : {T : Type 0} → List ℕ → List (List ℕ × T) → List T
@@ -35,7 +47,13 @@ sure_entry pair = record { node = pair.0; content = pair.1.content; synced = syn
 abbrev pub mem_entry : List ℕ × HeldWithCalls → Entry
 mem_entry pair = record (sure_entry (pair.0, pair.1.held)) { faults = pair.1.calls.faults }
 
--- Which calls of which nodes' journals fail, and the journals that were kept.
+-- The nodes for which journals were made, and the journals that were kept.
+pub record SureKeeper : Type 0 where
+  pub made : List (List ℕ)
+  pub kept : List (List ℕ × Held)
+
+-- The same, and which calls of which nodes' journals fail.
 pub record MemKeeper : Type 0 where
   pub fails : List (List ℕ × ℕ)
+  pub made : List (List ℕ)
   pub kept : List (List ℕ × HeldWithCalls)

@@ -1,5 +1,6 @@
 //! Journals in files, the trusted edge: what a contract says of their content is said of a copy in
-//! memory, and a file that turns out to hold other bytes counts as a failure.
+//! memory, and a file that turns out to hold other bytes counts as a failure. Behind its first failure a journal
+//! doesn't touch its file.
 ghost use Rattle.std.specs.Prelude.{◌≡◌, [], IfOk};
 
 use crate::sure::SureJournal;
@@ -57,14 +58,14 @@ impl<F: Read + Write + Seek + OpenFile + Drop> Journal for FileJournal<F> {
     ghost unfailed = { λ j sure. Prim.cc };
 
     fn append(&mut self, bytes: &[u8]) -> Result<(), JournalError> {
-        self.copy.reserve(bytes.len() as u64)?;
-        match write_from(&mut self.file, self.copy.bytes().len() as u64, bytes) {
-            Ok(()) => self.copy.append(bytes),
-            Err(_) => {
-                self.faults = self.faults.saturating_add(1);
-                Err(JournalError::Failed)
+        if self.faults == 0 {
+            self.copy.reserve(bytes.len() as u64)?;
+            if write_from(&mut self.file, self.copy.bytes().len() as u64, bytes).is_ok() {
+                return self.copy.append(bytes);
             }
         }
+        self.faults = self.faults.saturating_add(1);
+        Err(JournalError::Failed)
     }
 
     fn reserve(&mut self, more: u64) -> Result<(), NoMemory> {
@@ -72,34 +73,30 @@ impl<F: Read + Write + Seek + OpenFile + Drop> Journal for FileJournal<F> {
     }
 
     fn sync(&mut self) -> Result<(), Failed> {
-        match self.file.sync_all() {
-            Ok(()) => self.copy.sync(),
-            Err(_) => {
-                self.faults = self.faults.saturating_add(1);
-                Err(Failed)
-            }
+        if self.faults == 0 && self.file.sync_all().is_ok() {
+            return self.copy.sync();
         }
+        self.faults = self.faults.saturating_add(1);
+        Err(Failed)
     }
 
     fn read(&mut self) -> Result<Seq<u8>, JournalError> {
-        let copy = self.copy.read()?;
-        match file_holds(&mut self.file, copy.as_slice()) {
-            Ok(true) => Ok(copy),
-            _ => {
-                self.faults = self.faults.saturating_add(1);
-                Err(JournalError::Failed)
+        if self.faults == 0 {
+            let copy = self.copy.read()?;
+            if let Ok(true) = file_holds(&mut self.file, copy.as_slice()) {
+                return Ok(copy);
             }
         }
+        self.faults = self.faults.saturating_add(1);
+        Err(JournalError::Failed)
     }
 
     fn restart(&mut self, keep: u64) -> Result<(), Failed> {
-        match cut_to(&mut self.file, keep) {
-            Ok(()) => self.copy.restart(keep),
-            Err(_) => {
-                self.faults = self.faults.saturating_add(1);
-                Err(Failed)
-            }
+        if self.faults == 0 && cut_to(&mut self.file, keep).is_ok() {
+            return self.copy.restart(keep);
         }
+        self.faults = self.faults.saturating_add(1);
+        Err(Failed)
     }
 }
 
@@ -133,7 +130,7 @@ fn file_holds<F: Read + Seek>(file: &mut F, bytes: &[u8]) -> io::Result<bool> {
     Ok(rest.is_empty())
 }
 
-/// Makes journals over files `journals/NAME.journal`. It doesn't tell which may fail, nor what it
+/// Makes journals over files `journals/NAME.journal`. It doesn't tell which may fail, which it made, nor what it
 /// was given to keep, which it drops.
 #[derive(Drop)]
 pub struct FileJournals<'r, R: Files> {
@@ -148,7 +145,7 @@ where
 {
     /// None has failed yet.
     pub fn new(rt: &'r R, alloc: Global) -> Self
-        ensures { ⟦<FileJournals<'r, R> as Journals>⟧.faults result ≡ 0 }
+        ensures { (⟦<FileJournals<'r, R> as Journals>⟧.seen result).faults ≡ 0 }
     {
         FileJournals {
             rt,
@@ -166,11 +163,7 @@ where
 
     type Item = FileJournal<R::File>;
 
-    ghost may_fail = { λ _. None };
-
-    ghost kept = { λ _. None };
-
-    ghost faults = { λ s. s.faults };
+    ghost seen = { λ s. record { may_fail = None; made = None; kept = None; faults = s.faults } };
 
     /// Makes the folder where it isn't there, and makes the file or empties it.
     fn make(&mut self, node: &str) -> Result<FileJournal<R::File>, JournalError> {

@@ -4,6 +4,7 @@
 mod files;
 mod memory;
 mod shelf;
+mod stopping;
 mod sure;
 mod traits;
 

@@ -1,22 +1,24 @@
 //! A journal in memory, with a list of the calls that fail.
 ghost use Rattle.std.specs.Prelude.{◌≡◌, ◌+◌, ◌≤◌, ◌++◌, ◌∷◌, [], Some, IsTrue, length, take, map, IsOk, IfOk, OnOk, OnErr, IsErr, IsErrOf};
 ghost use Rattle.fab_base.specs.Faults.{opening_calls, HasCause};
-ghost use Rattle.fab_device.specs.Devices.{AppendAdds, IsFrontFrom, JournalCause, KeepsSure, CountsCall, synced_of, never_fails};
+ghost use Rattle.fab_device.specs.Devices.{AppendAdds, IsFrontFrom, JournalCause, KeepsSure, StaysStopped, CountsCall, synced_of, never_fails};
 ghost use Rattle.std.specs.Option.{option_copied};
 ghost use Rattle.fab_device.specs.Kept.{CannotFail, mem_entry, all_under, last_under};
 
 use crate::shelf::{last_of, numbers_under};
+use crate::stopping::StoppingCalls;
 use crate::sure::SureJournal;
 use crate::traits::{Journal, JournalError, Journals};
-use fab_base::{Failed, FailingCalls, NoMemory, Seq, Text};
+use fab_base::{Failed, NoMemory, Seq, Text};
 use std::alloc::Global;
 use std::marker::Model;
 
-/// Bytes in memory; some calls of `append`, `sync`, `read` and `restart` fail and do nothing.
+/// Bytes in memory; some calls of `append`, `sync`, `read` and `restart` fail and do nothing, and so do all behind
+/// the first of these that came.
 #[derive(Debug, Drop)]
 pub struct MemJournal {
     journal: SureJournal,
-    calls: FailingCalls,
+    calls: StoppingCalls,
 }
 
 impl Model for MemJournal {
@@ -28,7 +30,7 @@ impl Model for MemJournal {
 }
 
 impl MemJournal {
-    /// An empty journal; the calls with these numbers fail. `reserve` isn't counted.
+    /// An empty journal; the first call with one of these numbers fails, and all behind it. `reserve` isn't counted.
     pub fn with_fails(alloc: Global, fails: Seq<u32>) -> Result<MemJournal, NoMemory>
         ensures content { IfOk result (λ j. j.held.content ≡ []) }
         ensures synced { IfOk result (λ j. j.held.synced ≡ 0) }
@@ -36,7 +38,7 @@ impl MemJournal {
     {
         Ok(MemJournal {
             journal: SureJournal::new(alloc)?,
-            calls: FailingCalls::new(fails),
+            calls: StoppingCalls::new(fails),
         })
     }
 
@@ -79,6 +81,7 @@ impl Journal for MemJournal {
         ensures fits { length bytes.now ≤ self.old.held.room → IsErrOf result JournalError.Memory → ⊥ }
         ensures memory { IsErrOf result JournalError.Memory → self.old.held.room ≤ self.new.held.room }
         ensures cause { JournalCause self.old.calls.faults self.new.calls.faults result }
+        ensures stopped { StaysStopped self.old.calls.faults self.old.held.content self.new.held.content result }
         ensures sure { KeepsSure (never_fails self.old.calls) (never_fails self.new.calls) (IsErrOf result JournalError.Failed) }
         ensures counted { CountsCall self.old self.new (IsErrOf result JournalError.Failed) }
     {
@@ -110,6 +113,7 @@ impl Journal for MemJournal {
         ensures room { self.old.held.room ≤ self.new.held.room }
         ensures cause { HasCause self.old.calls.faults self.new.calls.faults result }
         ensures success { OnOk result (self.new.calls.faults ≡ self.old.calls.faults) }
+        ensures stopped { StaysStopped self.old.calls.faults self.old.held.content self.new.held.content result }
         ensures sure { KeepsSure (never_fails self.old.calls) (never_fails self.new.calls) (IsErr result) }
         ensures counted { CountsCall self.old self.new (IsErr result) }
     {
@@ -125,6 +129,7 @@ impl Journal for MemJournal {
         ensures synced { synced_of self.new.held ≡ synced_of self.old.held }
         ensures room { self.old.held.room ≤ self.new.held.room }
         ensures cause { JournalCause self.old.calls.faults self.new.calls.faults result }
+        ensures stopped { StaysStopped self.old.calls.faults self.old.held.content self.new.held.content result }
         ensures sure { KeepsSure (never_fails self.old.calls) (never_fails self.new.calls) (IsErrOf result JournalError.Failed) }
         ensures counted { CountsCall self.old self.new (IsErrOf result JournalError.Failed) }
     {
@@ -144,6 +149,7 @@ impl Journal for MemJournal {
         ensures room { self.old.held.room ≤ self.new.held.room }
         ensures cause { HasCause self.old.calls.faults self.new.calls.faults result }
         ensures success { OnOk result (self.new.calls.faults ≡ self.old.calls.faults) }
+        ensures stopped { StaysStopped self.old.calls.faults self.old.held.content self.new.held.content result }
         ensures sure { KeepsSure (never_fails self.old.calls) (never_fails self.new.calls) (IsErr result) }
         ensures counted { CountsCall self.old self.new (IsErr result) }
     {
@@ -159,6 +165,7 @@ impl Journal for MemJournal {
 pub struct MemJournals {
     alloc: Global,
     fails: Seq<(Text, u32)>,
+    made: Vec<Text>,
     kept: Vec<(Text, MemJournal)>,
 }
 
@@ -167,17 +174,18 @@ impl Model for MemJournals {
 
     ghost Value = { MemKeeper };
 
-    ghost view = { λ s. record { fails = s.fails; kept = s.kept.items } };
+    ghost view = { λ s. record { fails = s.fails; made = s.made.items; kept = s.kept.items } };
 }
 
 impl MemJournals {
-    /// Nothing is kept yet; of each node's journal the calls that are listed with its name fail.
+    /// None is made yet; of each node's journal the first call that is listed with its name fails, and all behind it.
     pub fn with_fails(alloc: Global, fails: Seq<(Text, u32)>) -> Result<MemJournals, NoMemory>
-        ensures { IfOk result (λ s. s ≡ record { fails = fails; kept = [] }) }
+        ensures { IfOk result (λ s. s ≡ record { fails = fails; made = []; kept = [] }) }
     {
         Ok(MemJournals {
             alloc,
             fails,
+            made: Vec::new(alloc),
             kept: Vec::new(alloc),
         })
     }
@@ -195,11 +203,7 @@ impl Journals for MemJournals {
 
     type Item = MemJournal;
 
-    ghost may_fail = { λ s. Some (map (λ pair. pair.0) s.fails) };
-
-    ghost kept = { λ s. Some (map mem_entry s.kept) };
-
-    ghost faults = { λ _. 0 };
+    ghost seen = { λ s. record { may_fail = Some (map (λ pair. pair.0) s.fails); made = Some s.made; kept = Some (map mem_entry s.kept); faults = 0 } };
 
     fn make(&mut self, node: &str) -> Result<MemJournal, JournalError>
         ensures content { IfOk result (λ journal. journal.held.content ≡ []) }
@@ -209,18 +213,25 @@ impl Journals for MemJournals {
             → IfOk result (λ journal. IsTrue (never_fails journal.calls)) }
         ensures never { IsErrOf result JournalError.Failed → ⊥ }
         ensures cause { JournalCause 0 0 result }
-        ensures same { self.new ≡ self.old }
+        ensures made { OnOk result (self.new.made ≡ self.old.made ++ node.now ∷ []) }
+        ensures unmade { OnErr result (self.new.made ≡ self.old.made) }
+        ensures kept { self.new.kept ≡ self.old.kept }
+        ensures fails { self.new.fails ≡ self.old.fails }
 
         // Of this node's journal the calls that are listed with its name fail.
         ensures calls { IfOk result (λ journal. journal.calls ≡ opening_calls (all_under node.now self.old.fails)) }
     {
         let fails = numbers_under(self.alloc, self.fails.as_slice(), node)?;
-        Ok(MemJournal::with_fails(self.alloc, Seq::from_vec(fails))?)
+        let journal = MemJournal::with_fails(self.alloc, Seq::from_vec(fails))?;
+        let name = Text::make(self.alloc, node)?;
+        self.made.push(name)?;
+        Ok(journal)
     }
 
     fn keep(&mut self, node: &str, journal: MemJournal) -> Result<(), NoMemory>
         ensures kept { OnOk result (self.new.kept ≡ self.old.kept ++ (node.now, journal) ∷ []) }
-        ensures err { OnErr result (self.new ≡ self.old) }
+        ensures err { OnErr result (self.new.kept ≡ self.old.kept) }
+        ensures made { self.new.made ≡ self.old.made }
         ensures fails { self.new.fails ≡ self.old.fails }
     {
         let name = Text::make(self.alloc, node)?;

@@ -103,32 +103,33 @@ impl Journal for SureJournal {
 #[derive(Debug, Drop)]
 pub struct SureJournals {
     alloc: Global,
+    made: Vec<Text>,
     kept: Vec<(Text, SureJournal)>,
 }
 
 impl Model for SureJournals {
-    ghost use Rattle.std.specs.Prelude.{List, ℕ};
-    ghost use Rattle.fab_device.specs.Devices.{Held};
+    ghost use Rattle.fab_device.specs.Kept.{SureKeeper};
 
-    ghost Value = { List (List ℕ × Held) };
+    ghost Value = { SureKeeper };
 
-    ghost view = { λ s. s.kept.items };
+    ghost view = { λ s. record { made = s.made.items; kept = s.kept.items } };
 }
 
 impl SureJournals {
-    /// Nothing is kept yet.
+    /// None is made yet.
     pub fn new(alloc: Global) -> Result<SureJournals, NoMemory>
-        ensures { IfOk result (λ s. s ≡ []) }
+        ensures { IfOk result (λ s. s ≡ record { made = []; kept = [] }) }
     {
         Ok(SureJournals {
             alloc,
+            made: Vec::new(alloc),
             kept: Vec::new(alloc),
         })
     }
 
     /// The last journal that was kept under this name.
     pub fn kept(&self, node: &str) -> Option<&SureJournal>
-        ensures { option_copied result ≡ last_under node.now self.now }
+        ensures { option_copied result ≡ last_under node.now self.now.kept }
     {
         last_of(self.kept.as_slice(), node)
     }
@@ -140,24 +141,26 @@ impl Journals for SureJournals {
 
     type Item = SureJournal;
 
-    ghost may_fail = { λ _. Some [] };
+    ghost seen = { λ s. record { may_fail = Some []; made = Some s.made; kept = Some (map sure_entry s.kept); faults = 0 } };
 
-    ghost kept = { λ s. Some (map sure_entry s) };
-
-    ghost faults = { λ _. 0 };
-
-    fn make(&mut self, _node: &str) -> Result<SureJournal, JournalError>
+    fn make(&mut self, node: &str) -> Result<SureJournal, JournalError>
         ensures content { IfOk result (λ journal. journal.content ≡ []) }
         ensures synced { IfOk result (λ journal. journal.synced ≡ 0) }
         ensures never { IsErrOf result JournalError.Failed → ⊥ }
-        ensures same { self.new ≡ self.old }
+        ensures made { OnOk result (self.new.made ≡ self.old.made ++ node.now ∷ []) }
+        ensures unmade { OnErr result (self.new.made ≡ self.old.made) }
+        ensures kept { self.new.kept ≡ self.old.kept }
     {
-        Ok(SureJournal::new(self.alloc)?)
+        let journal = SureJournal::new(self.alloc)?;
+        let name = Text::make(self.alloc, node)?;
+        self.made.push(name)?;
+        Ok(journal)
     }
 
     fn keep(&mut self, node: &str, journal: SureJournal) -> Result<(), NoMemory>
-        ensures kept { OnOk result (self.new ≡ self.old ++ (node.now, journal) ∷ []) }
-        ensures err { OnErr result (self.new ≡ self.old) }
+        ensures kept { OnOk result (self.new.kept ≡ self.old.kept ++ (node.now, journal) ∷ []) }
+        ensures err { OnErr result (self.new.kept ≡ self.old.kept) }
+        ensures made { self.new.made ≡ self.old.made }
     {
         let name = Text::make(self.alloc, node)?;
         self.kept.push((name, journal))?;

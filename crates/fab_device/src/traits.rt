@@ -1,7 +1,7 @@
-ghost use Rattle.std.specs.Prelude.{◌≡◌, ◌+◌, ◌≤◌, ℕ, Bool, IsTrue, List, Option, [], length, take, MatchResult, IsOk, IfOk, OnOk, OnErr, IsErr, IsErrOf};
+ghost use Rattle.std.specs.Prelude.{◌≡◌, ◌+◌, ◌≤◌, ℕ, Bool, IsTrue, List, [], length, take, IsOk, IfOk, OnOk, OnErr, IsErr, IsErrOf};
 ghost use Rattle.fab_base.specs.Faults.{HasCause};
-ghost use Rattle.fab_device.specs.Devices.{AppendAdds, IsFrontFrom, JournalCause, KeepsSure};
-ghost use Rattle.fab_device.specs.Kept.{Entry, CannotFail, with_entry};
+ghost use Rattle.fab_device.specs.Devices.{AppendAdds, IsFrontFrom, JournalCause, KeepsSure, StaysStopped};
+ghost use Rattle.fab_device.specs.Kept.{CannotFail, Makers, with_entry, with_name};
 ghost use Rattle.fab_device.specs.declared.traits.JournalError.TheVariants.{Memory};
 
 use fab_base::{Failed, NoMemory, Seq};
@@ -30,7 +30,9 @@ impl<T: Drop> From<AllocFailed<T>> for JournalError {
     }
 }
 
-/// Bytes that are appended. A crash leaves a front of them that has all synced ones.
+/// Bytes that are appended. A crash leaves a front of them that has all synced ones. It is fail-stop: behind its
+/// first failure no call works, and what it holds stays, since of a disk that failed once nothing may be concluded
+/// from a later call that works.
 pub trait Journal {
     /// All that was appended and not cut off.
     ghost content: { Self → List ℕ };
@@ -55,6 +57,7 @@ pub trait Journal {
         ensures fits { length bytes.now ≤ room self.old → IsErrOf result JournalError.Memory → ⊥ }
         ensures memory { IsErrOf result JournalError.Memory → room self.old ≤ room self.new }
         ensures cause { JournalCause (faults self.old) (faults self.new) result }
+        ensures stopped { StaysStopped (faults self.old) (content self.old) (content self.new) result }
         ensures sure { KeepsSure (sure self.old) (sure self.new) (IsErrOf result JournalError.Failed) };
 
     /// Makes room, and changes nothing else.
@@ -75,6 +78,7 @@ pub trait Journal {
         ensures room { room self.old ≤ room self.new }
         ensures cause { HasCause (faults self.old) (faults self.new) result }
         ensures success { OnOk result (faults self.new ≡ faults self.old) }
+        ensures stopped { StaysStopped (faults self.old) (content self.old) (content self.new) result }
         ensures sure { KeepsSure (sure self.old) (sure self.new) (IsErr result) };
 
     /// The whole content.
@@ -84,6 +88,7 @@ pub trait Journal {
         ensures synced { synced self.new ≡ synced self.old }
         ensures room { room self.old ≤ room self.new }
         ensures cause { JournalCause (faults self.old) (faults self.new) result }
+        ensures stopped { StaysStopped (faults self.old) (content self.old) (content self.new) result }
         ensures sure { KeepsSure (sure self.old) (sure self.new) (IsErrOf result JournalError.Failed) };
 
     /// Cuts off all but the first bytes, which are then synced. After a failure there may be more.
@@ -97,6 +102,7 @@ pub trait Journal {
         ensures room { room self.old ≤ room self.new }
         ensures cause { HasCause (faults self.old) (faults self.new) result }
         ensures success { OnOk result (faults self.new ≡ faults self.old) }
+        ensures stopped { StaysStopped (faults self.old) (content self.old) (content self.new) result }
         ensures sure { KeepsSure (sure self.old) (sure self.new) (IsErr result) };
 
     /// No more bytes are synced than there are.
@@ -110,32 +116,29 @@ pub trait Journal {
 pub trait Journals {
     type Item: Journal + Send + Drop;
 
-    /// The nodes whose journals may ever fail, where it tells them.
-    ghost may_fail: { Self → Option (List (List ℕ)) };
-
-    /// The journals that were kept, in order, where it tells them.
-    ghost kept: { Self → Option (List Entry) };
-
-    /// How often it has failed. The count stays at its last value, 2^64 - 1.
-    ghost faults: { Self → ℕ };
+    /// What contracts see of it.
+    ghost seen: { Self → Makers };
 
     /// An empty journal for a node.
     fn make(&mut self, node: &str) -> Result<Self::Item, JournalError>
         ensures content { IfOk result (λ journal. Self.Item.content journal ≡ []) }
         ensures synced { IfOk result (λ journal. Self.Item.synced journal ≡ 0) }
         ensures unfailed { IfOk result (λ journal. Self.Item.faults journal ≡ 0) }
-        ensures sure { CannotFail (may_fail self.old) node.now
+        ensures sure { CannotFail (seen self.old).may_fail node.now
             → IfOk result (λ journal. IsTrue (Self.Item.sure journal)) }
-        ensures never { CannotFail (may_fail self.old) node.now → IsErrOf result JournalError.Failed → ⊥ }
-        ensures cause { JournalCause (faults self.old) (faults self.new) result }
-        ensures told { may_fail self.new ≡ may_fail self.old }
-        ensures kept { kept self.new ≡ kept self.old };
+        ensures never { CannotFail (seen self.old).may_fail node.now → IsErrOf result JournalError.Failed → ⊥ }
+        ensures cause { JournalCause (seen self.old).faults (seen self.new).faults result }
+        ensures told { (seen self.new).may_fail ≡ (seen self.old).may_fail }
+        ensures made { OnOk result ((seen self.new).made ≡ with_name (seen self.old).made node.now) }
+        ensures unmade { OnErr result ((seen self.new).made ≡ (seen self.old).made) }
+        ensures kept { (seen self.new).kept ≡ (seen self.old).kept };
 
     /// Takes a node's journal back.
     fn keep(&mut self, node: &str, journal: Self::Item) -> Result<(), NoMemory>
-        ensures kept { OnOk result (kept self.new ≡ with_entry (kept self.old)
+        ensures kept { OnOk result ((seen self.new).kept ≡ with_entry (seen self.old).kept
             (record { node = node.now; content = Self.Item.content journal; synced = Self.Item.synced journal; faults = Self.Item.faults journal })) }
-        ensures err { OnErr result (kept self.new ≡ kept self.old) }
-        ensures faults { faults self.new ≡ faults self.old }
-        ensures told { may_fail self.new ≡ may_fail self.old };
+        ensures err { OnErr result ((seen self.new).kept ≡ (seen self.old).kept) }
+        ensures faults { (seen self.new).faults ≡ (seen self.old).faults }
+        ensures told { (seen self.new).may_fail ≡ (seen self.old).may_fail }
+        ensures made { (seen self.new).made ≡ (seen self.old).made };
 }

@@ -7,5 +7,5 @@ use Rattle.fab_device.proofs.memory.MemJournalsJournals.make.Goals as goal
 pub returns-clause-sure : goal.returns-clause-sure
 returns-clause-sure c = λ never.
     let none : all_under c.args.node.now c.args.self.now.fails ≡ [] = none_under _ _ never in
-    let opened : c.in_ok-with_fails.field-0.calls ≡ opening_calls (all_under c.args.node.now c.args.self.now.fails) = search rules in
+    let opened : c.in_ok-journal.journal.calls ≡ opening_calls (all_under c.args.node.now c.args.self.now.fails) = search rules in
     rw (opened, none) refl
