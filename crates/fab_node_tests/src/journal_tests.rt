@@ -171,8 +171,8 @@ fn entries_come_back(rt: HostRuntime) -> Result<(), Fail> {
 #[test]
 fn a_failing_journal(rt: HostRuntime) -> Result<(), Fail> {
     let alloc = rt.alloc();
-    // The first call is an append, the second a sync, the third an append that fails, the fifth a sync.
-    let mut journal = MemJournal::with_fails(alloc, Seq::from_slice(alloc, &[3, 5])?)?;
+    // The first call is an append, the second a sync, and the third an append that fails, as do all behind it.
+    let mut journal = MemJournal::with_fails(alloc, Seq::from_slice(alloc, &[3])?)?;
     append_synced(&mut journal, &[1, 2])?;
     assert_eq!(rt;
         append_synced(&mut journal, &[3]),
@@ -183,8 +183,10 @@ fn a_failing_journal(rt: HostRuntime) -> Result<(), Fail> {
         append_synced(&mut journal, &[4]),
         Err(JournalError::Failed)
     );
-    assert_eq!(rt; journal.bytes(), [1, 2, 4].as_slice());
-    assert_eq!(rt; journal.calls(), 5);
+    assert!(rt; journal.sync().is_err());
+    assert!(rt; matches!(journal.read(), Err(JournalError::Failed)));
+    assert_eq!(rt; journal.bytes(), [1, 2].as_slice());
+    assert_eq!(rt; journal.calls(), 6);
     Ok(())
 }
 

@@ -1,8 +1,9 @@
 -- What a run leaves where it ends: its journals, and that none failed of which it is told that it can't.
-use Rattle.std.specs.Prelude.{◌≡◌, ◌<◌, ◌==◌, ℕ, Bool, true, false, IsTrue, List, [], map, take, Option, Some, None, Result, Ok, IfOk, OnErr}
+use Rattle.std.specs.Prelude.{◌≡◌, ◌<◌, ◌==◌, ℕ, Bool, true, false, IsTrue, List, [], map, take, Option, Some, None, Result, Ok, Err, IfOk, OnErr}
 use Rattle.std.proofs.Common.{refl, sym, ap, ◌∙◌, subst, true≢false}
 use Rattle.std.proofs.lemmas.Bool.{false_from_ne_true}
-use Rattle.fab_device.specs.Kept.{Entry}
+use Rattle.fab_device.specs.Kept.{CannotFail, Entry, Makers}
+use Rattle.fab_language.specs.Words.{node_text}
 use Rattle.fab_rights.specs.Computed.{has_bit}
 use Rattle.fab_world.specs.Machine.{Move}
 use Rattle.fab_node.specs.Standing.{GivenModel, IsGiven, IsJournalOf, JournalModel}
@@ -16,7 +17,7 @@ use Rattle.fab_command.specs.declared.command.Telling.{Telling}
 use Rattle.fab_replay.specs.Courses.{HasRun, IsAtStart, IsCourse}
 use Rattle.fab_replay.specs.Integral.{IsExcluded, IsIntegral}
 use Rattle.fab_replay.specs.Isolated.{IsIsolated}
-use Rattle.fab_replay.specs.Kept.{IsCutShort, IsEntryAt, IsOfRun, IsPossible, IsReplayed, OfRun, has_mark, with_more}
+use Rattle.fab_replay.specs.Kept.{IsCutShort, IsEntryAt, IsOfRun, IsPossible, IsReplayed, KeepsSome, MakesAll, OfRun, Unkept, has_mark, with_more}
 use Rattle.fab_replay.specs.Replays.{StopsIn, Tells, events_of}
 use Rattle.fab_replay.specs.Running.{AreBehind, AreMarked, AreSure, AreUnfailed, ComesTo, HasMore, IsBehind, IsMarked, entries_of, failed_by}
 use Rattle.fab_replay.specs.declared.replayed.Replayed.{Replayed}
@@ -27,7 +28,7 @@ use Rattle.fab_replay.specs.declared.running.Ran.{Ran}
 use Rattle.fab_replay.specs.declared.running.Ran.TheVariants as ran
 use Rattle.fab_replay.proofs.Aligned.{StandsAt, entries_for}
 use Rattle.fab_replay.proofs.Numbered.{honest_within, in_order}
-use Rattle.fab_replay.proofs.Keeping.{positive}
+use Rattle.fab_replay.proofs.Keeping.{all_front, positive}
 use Rattle.fab_replay.proofs.Moves.{marked_moves, unmarked_moves}
 use Rattle.fab_replay.proofs.Told.{faulty_has}
 use Rattle.fab_replay.proofs.Viewing.{if_ok_weaker}
@@ -105,9 +106,9 @@ module _ {J : Type 0} (seen : J → JournalModel) (core : CoreModel) (program : 
       ∙ ap (λ (r : Resolved). entries_of r nodes (those_in core.journals)) p
       ∙ ap (λ ns. entries_of core.given.program ns (those_in core.journals)) q
 
-  module _ (told : Option (List (List ℕ))) (wanted : Wanted) (answer : Replayed) (kept new : Option (List Entry)) (run : IsRun (setting core.given) core.moves) (tells : Tells core.given wanted core.moves answer) where
-    pub ended : AreSure told core.given core.journals → ((nodes : ℕ) (ex : ℕ → Bool) → IsExcluded core.given nodes ex → IsIntegral core.given core.moves (has_bit nodes) ex) → IsIsolated core.given core.moves
-        → new ≡ with_more kept (entries_of program nodes (map seen journals)) → IsOfRun told core.given wanted answer kept new
+  module _ (wanted : Wanted) (answer : Replayed) (old new : Makers) (run : IsRun (setting core.given) core.moves) (tells : Tells core.given wanted core.moves answer) where
+    pub ended : AreSure old.may_fail core.given core.journals → ((nodes : ℕ) (ex : ℕ → Bool) → IsExcluded core.given nodes ex → IsIntegral core.given core.moves (has_bit nodes) ex) → IsIsolated core.given core.moves
+        → new.kept ≡ with_more old.kept (entries_of program nodes (map seen journals)) → IsOfRun core.given wanted answer old new
     ended sure whole apart k = record {
       moves = core.moves;
       run = run;
@@ -115,14 +116,14 @@ module _ {J : Type 0} (seen : J → JournalModel) (core : CoreModel) (program : 
       sure = λ n cannot. (marked n).never (sure n cannot);
       integral = whole;
       isolated = apart;
-      kept = record { entries = entries; each = are; kept = k ∙ ap (with_more kept) are_those };
+      kept = record { entries = entries; each = are; kept = k ∙ ap (with_more old.kept) are_those };
     }
 
     -- memory ran out in the midst of keeping them
-    pub cut_short : HasMore kept new (entries_of program nodes (map seen journals)) → IsCutShort core.given wanted kept new
+    pub cut_short : HasMore old.kept new.kept (entries_of program nodes (map seen journals)) → KeepsSome core.given wanted old.kept new.kept
     cut_short h =
         OfRun core.moves answer run tells
-        (record { entries = entries; many = h.many; each = are; kept = h.kept ∙ ap (λ xs. with_more kept (take h.many xs)) are_those })
+        (record { entries = entries; many = h.many; each = are; kept = h.kept ∙ ap (λ xs. with_more old.kept (take h.many xs)) are_those })
 
 -- ---- behind a run that nodes made by themselves
 
@@ -141,21 +142,49 @@ ran_on {x = x} makes may comes wanted told first last result course is made none
     subst (λ x. IfOk x (HasRun first)) was run
 
 -- an answer that tells of moves has a run
-is_replayed : (told : Option (List (List ℕ))) (g : GivenModel) (wanted : Wanted) (answer : Replayed) (old new : Option (List Entry)) (before now : ℕ)
-    → IsOfRun told g wanted answer old new → now ≡ before → IsReplayed told g wanted answer old new before now
-is_replayed told g wanted (r.Done bytes) old new before now h same = (h, same)
-is_replayed told g wanted (r.NotEnabled number) old new before now h same = (h, same)
-is_replayed told g wanted (r.JournalFault node None) old new before now h same = absurd h.told
-is_replayed told g wanted (r.JournalFault node (Some bytes)) old new before now h same = (h, same)
+is_replayed : (g : GivenModel) (wanted : Wanted) (answer : Replayed) (old new : Makers) → IsOfRun g wanted answer old new → MakesAll g old new → new.faults ≡ old.faults
+    → IsReplayed g wanted answer old new
+is_replayed g wanted (r.Done bytes) old new h made same = (h, made, same)
+is_replayed g wanted (r.NotEnabled number) old new h made same = (h, made, same)
+is_replayed g wanted (r.JournalFault node None) old new h made same = absurd h.told
+is_replayed g wanted (r.JournalFault node (Some bytes)) old new h made same = (h, made, same)
 
-module _ {E : Type 0} (g h : GivenModel) (same : h ≡ g) (wanted : Wanted) (result : Result Replayed E) (old mid new : Option (List Entry)) (kept : mid ≡ old) where
-  pub ran_to : (told still : Option (List (List ℕ))) (before between now : ℕ) → still ≡ told → between ≡ before → now ≡ between → IfOk result (λ answer. IsOfRun still h wanted answer mid new)
-      → IfOk result (λ answer. IsReplayed told g wanted answer old new before now)
-  ran_to told still before between now alike was is of =
-      if_ok_weaker result (λ answer k. is_replayed told g wanted answer old new before now k (is ∙ was))
-      (subst (λ t. IfOk result (λ answer. IsOfRun t g wanted answer old new)) alike
-      (subst (λ (x : GivenModel). IfOk result (λ answer. IsOfRun still x wanted answer old new)) same (subst (λ k. IfOk result (λ answer. IsOfRun still h wanted answer k new)) kept of)))
+-- the makers were as before where the run began, but for what they made
+pub record HaveMade (g : GivenModel) (old mid : Makers) : Type 0 where
+  pub told : mid.may_fail ≡ old.may_fail
+  pub made : MakesAll g old mid
+  pub kept : mid.kept ≡ old.kept
+  pub same : mid.faults ≡ old.faults
 
-  pub ran_short : OnErr result (IsCutShort h wanted mid new) → OnErr result (IsCutShort g wanted old new)
-  ran_short cut =
-      subst (λ (x : GivenModel). OnErr result (IsCutShort x wanted old new)) same (subst (λ k. OnErr result (IsCutShort h wanted k new)) kept cut)
+-- memory ran out in the midst of it
+pub begun_short : (g : GivenModel) (wanted : Wanted) (old mid : Makers) → HaveMade g old mid → IsCutShort g wanted old mid
+begun_short g wanted old mid begun = record { kept = Unkept begun.kept; made = all_front g old mid begun.made; faults = begun.same }
+
+module _ {E : Type 0} (g h : GivenModel) (same : h ≡ g) (wanted : Wanted) (result : Result Replayed E) (old mid new : Makers) (begun : HaveMade g old mid)
+    (made : new.made ≡ mid.made) (faults : new.faults ≡ mid.faults) where
+  from : (answer : Replayed) → IsOfRun h wanted answer mid new → IsOfRun g wanted answer old new
+  from answer k =
+      let there : IsOfRun g wanted answer mid new = subst (λ (x : GivenModel). IsOfRun x wanted answer mid new) same k in
+      record {
+        moves = there.moves;
+        run = there.run;
+        told = there.told;
+        kept = record { entries = there.kept.entries; each = there.kept.each; kept = there.kept.kept ∙ ap (λ k. with_more k there.kept.entries) begun.kept };
+        sure = λ n cannot. there.sure n (subst (λ t. CannotFail t (node_text g.program n)) (sym begun.told) cannot);
+        integral = there.integral;
+        isolated = there.isolated;
+      }
+
+  pub ran_to : IfOk result (λ answer. IsOfRun h wanted answer mid new) → IfOk result (λ answer. IsReplayed g wanted answer old new)
+  ran_to of = if_ok_weaker result (λ answer k. is_replayed g wanted answer old new (from answer k) (made ∙ begun.made) (faults ∙ begun.same)) of
+
+  pub ran_short : OnErr result (KeepsSome h wanted mid.kept new.kept) → OnErr result (IsCutShort g wanted old new)
+  ran_short = by result
+    where
+      by : (result : Result Replayed E) → OnErr result (KeepsSome h wanted mid.kept new.kept) → OnErr result (IsCutShort g wanted old new)
+      by (Ok answer) k = tt
+      by (Err problem) k = record {
+        kept = subst (λ (x : GivenModel). KeepsSome x wanted old.kept new.kept) same (subst (λ k. KeepsSome h wanted k new.kept) begun.kept k);
+        made = all_front g old new (made ∙ begun.made);
+        faults = faults ∙ begun.same;
+      }

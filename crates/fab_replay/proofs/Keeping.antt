@@ -3,15 +3,17 @@ use Rattle.std.specs.Prelude.{◌≡◌, ◌<◌, ℕ, suc, Bool, false, IsTrue,
 use Rattle.std.specs.List.{AllByRecursion}
 use Rattle.std.proofs.Common.{refl, sym, ap, ◌∙◌, subst, arith, append_assoc, true≢false}
 use Rattle.std.proofs.lemmas.List.{map-append, length-append, append-nil, length-map, reverse-append}
+use Rattle.std.proofs.Math.Seq.{take-append_seam, take-length}
 use Rattle.fab_base.specs.Faults.{Rose}
-use Rattle.fab_device.specs.Kept.{CannotFail, Entry, with_entry}
+use Rattle.fab_device.specs.Kept.{CannotFail, Entry, Makers, with_entry, with_name}
 use Rattle.fab_language.specs.Words.{node_text}
 use Rattle.fab_tree.specs.declared.resolved.Resolved.{Resolved}
 use Rattle.fab_node.specs.Standing.{GivenModel, JournalModel}
 use Rattle.fab_core.specs.Starts.{AreBack, IsLeft, honest_below}
 use Rattle.fab_core.proofs.AtStart.{key_of}
 use Rattle.fab_core.specs.Honest.{AreFor, honest_up}
-use Rattle.fab_replay.specs.Kept.{IsEntryBehind, with_more}
+use Rattle.fab_replay.specs.Kept.{IsEntryBehind, MakesAll, MakesFront, names_in, with_more}
+use Rattle.fab_replay.specs.Making.{HasMadeSome}
 use Rattle.fab_replay.specs.Running.{AreNew, IsNew, IsUnfailed, entries_of}
 use Rattle.fab_core.proofs.Honest.{IsPlace, for_long, honest_long, place_of}
 
@@ -67,9 +69,38 @@ module _ {J : Type 0} (seen : J → JournalModel) (told : Option (List (List ℕ
 
 -- ---- journals that are kept
 
-pub more_none : (k : Option (List Entry)) → k ≡ with_more k []
+-- what was done is a front of the whole
+pub front_of : {T : Type 0} (done rest all : List T) → done ++ rest ≡ all → done ≡ take (length done) all
+front_of done rest all e = sym (take-append_seam done rest) ∙ ap (take (length done)) e
+
+pub more_none : {T : Type 0} (k : Option (List T)) → k ≡ with_more k []
 more_none None = refl
 more_none (Some xs) = ap Some (sym (append-nil xs))
+
+-- all that were made are a front of them
+pub all_front : (g : GivenModel) (old new : Makers) → MakesAll g old new → MakesFront g old new
+all_front g old new made = record { many = length (names_in g); made = made ∙ ap (with_more old.made) (sym (take-length (names_in g))) }
+
+-- memory ran out behind the first so many
+pub some_made : (r : Resolved) (nodes : List ℕ) (old new : Makers) (done rest : List ℕ) → done ++ rest ≡ nodes → new.made ≡ with_more old.made (map (node_text r) done) → new.faults ≡ old.faults
+    → HasMadeSome r nodes old new
+some_made r nodes old new done rest parts made same = record {
+  many = length (map (node_text r) done);
+  made =
+      made
+      ∙ ap (with_more old.made)
+      (front_of (map (node_text r) done) (map (node_text r) rest) (map (node_text r) nodes) (sym (map-append (node_text r) done rest) ∙ ap (map (node_text r)) parts));
+  same = same;
+}
+
+-- one more was made
+pub named_one : (r : Resolved) (made : Option (List (List ℕ))) (done : List ℕ) (n : ℕ) (name : List ℕ) → name ≡ node_text r n
+    → with_name (with_more made (map (node_text r) done)) name ≡ with_more made (map (node_text r) (done ++ n ∷ []))
+named_one r None done n name e = refl
+named_one r (Some xs) done n name e =
+    ap Some
+    (append_assoc xs (map (node_text r) done) (name ∷ []) ∙ ap (λ t. xs ++ (map (node_text r) done ++ t ∷ [])) e
+    ∙ ap (λ ys. xs ++ ys) (sym (map-append (node_text r) done (n ∷ []))))
 
 pub more_one : (k : Option (List Entry)) (done : List Entry) (x : Entry) → with_entry (with_more k done) x ≡ with_more k (done ++ x ∷ [])
 more_one None done x = refl
@@ -85,14 +116,6 @@ kept_on seen r done n after rest items more j name all parts last named h =
     ∙ ap (λ js. done ++ entries_of r (n ∷ after) (map seen js)) (sym (ap reverse last ∙ reverse-append more (j ∷ [])))
     ∙ ap (λ ns. done ++ entries_of r ns (map seen (reverse items))) (sym parts)
     ∙ h
-
--- what was kept is a front of the whole
-pub front_of : (done rest all : List Entry) → done ++ rest ≡ all → done ≡ take (length done) all
-front_of done rest all e = sym (take_front done rest) ∙ ap (take (length done)) e
-  where
-    take_front : (xs ys : List Entry) → take (length xs) (xs ++ ys) ≡ xs
-    take_front [] ys = refl
-    take_front (x ∷ xs) ys = ap (λ zs. x ∷ zs) (take_front xs ys)
 
 -- ---- a count that rose
 
@@ -134,6 +157,14 @@ at_its_place P key node k (n ∷ front) rest (b ∷ before) behind [] long e h =
 at_its_place P key node k [] rest (b ∷ before) behind xs long e h = absurd (omega (arith, long))
 at_its_place P key node k (n ∷ front) rest [] behind xs long e h = absurd (omega (arith, long))
 
+pub apart_below : (node : ℕ) (ks : List ℕ) → AllByRecursion (λ k. k < node) ks → AllByRecursion (λ k. k ≡ node → ⊥) ks
+apart_below node [] h = tt
+apart_below node (k ∷ ks) h = let first = h.0 in ((λ e. omega (arith, first, e)), apart_below node ks h.1)
+
+pub apart_above : (node : ℕ) (ks : List ℕ) → AllByRecursion (λ k. node < k) ks → AllByRecursion (λ k. k ≡ node → ⊥) ks
+apart_above node [] h = tt
+apart_above node (k ∷ ks) h = let first = h.0 in ((λ e. omega (arith, first, e)), apart_above node ks h.1)
+
 module _ {J : Type 0} (seen : J → JournalModel) (told : Option (List (List ℕ))) (g : GivenModel) (node m : ℕ) (few : node < m)
     (olds backs : List J) (new : AreNew told g.program (honest_up g m) (map seen olds))
     (back : AreBack g node (map (λ j. key_of (seen j)) olds) (map (λ j. key_of (seen j)) backs)) where
@@ -142,14 +173,6 @@ module _ {J : Type 0} (seen : J → JournalModel) (told : Option (List (List ℕ
 
   long : length (honest_up g node) ≡ length back.before
   long = honest_long g node ∙ sym back.place
-
-  apart_below : (ks : List ℕ) → AllByRecursion (λ k. k < node) ks → AllByRecursion (λ k. k ≡ node → ⊥) ks
-  apart_below [] h = tt
-  apart_below (k ∷ ks) h = let first = h.0 in ((λ e. omega (arith, first, e)), apart_below ks h.1)
-
-  apart_above : (ks : List ℕ) → AllByRecursion (λ k. node < k) ks → AllByRecursion (λ k. k ≡ node → ⊥) ks
-  apart_above [] h = tt
-  apart_above (k ∷ ks) h = let first = h.0 in ((λ e. omega (arith, first, e)), apart_above ks h.1)
 
   keys_none : (ns : List ℕ) (js : List J) → AreNew told g.program ns (map seen js) → AllByRecursion (λ (k : ℕ × Bool). k.0 ≡ 0) (map (λ j. key_of (seen j)) js)
   keys_none [] [] h = tt
@@ -169,8 +192,8 @@ module _ {J : Type 0} (seen : J → JournalModel) (told : Option (List (List ℕ
   counts : AreFor (IsCount node) (honest_up g m) (map (λ j. key_of (seen j)) backs)
   counts =
       let none = subst (AllByRecursion (λ (k : ℕ × Bool). k.0 ≡ 0)) back.old_is (keys_none (honest_up g m) olds new) in
-      let all = counted node back.was back.now (honest_up g node) place.rest back.before back.behind long more (apart_below (honest_up g node) place.front)
-      (apart_above place.rest place.others) none back.rose
+      let all = counted node back.was back.now (honest_up g node) place.rest back.before back.behind long more (apart_below node (honest_up g node) place.front)
+      (apart_above node place.rest place.others) none back.rose
       in
       subst (λ ns. AreFor (IsCount node) ns (map (λ j. key_of (seen j)) backs)) (sym place.parts)
       (subst (AreFor (IsCount node) (honest_up g node ++ node ∷ place.rest)) (sym back.new_is) all)

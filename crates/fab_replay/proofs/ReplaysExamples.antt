@@ -1,7 +1,8 @@
 -- Examples of replays, computed.
-use Rattle.std.specs.Prelude.{◌≡◌, ◌<◌, ◌==◌, ℕ, zero, suc, Bool, true, false, List, [], ◌∷◌, ◌++◌, map, Option, Some, None, Ok, Err, IfOk, codes, pos}
+use Rattle.std.specs.Prelude.{◌≡◌, ◌<◌, ◌==◌, ℕ, zero, suc, Bool, true, false, List, [], ◌∷◌, ◌++◌, map, take, Option, Some, None, Ok, Err, IfOk, codes, pos}
 use Rattle.std.proofs.Common.{refl, sym, ap, ◌∙◌, subst, arith, get_or, length, lit<, true≢false}
 use Rattle.std.specs.Fmt.{digits}
+use Rattle.std.proofs.lemmas.List.{length-take}
 use Rattle.std.proofs.lemmas.Bool.{eqb-true, false≢true, ne_eqb}
 use Rattle.fab_base.specs.declared.label.Policy.{Policy}
 use Rattle.fab_base.specs.declared.object.Value.TheVariants.{Int}
@@ -20,7 +21,7 @@ use Rattle.fab_tree.specs.declared.name.Name.{Name}
 use Rattle.fab_tree.specs.declared.resolved.Class.{Class}
 use Rattle.fab_tree.specs.declared.resolved.NamedLabel.{NamedLabel}
 use Rattle.fab_tree.specs.declared.resolved.Principal.{Principal}
-use Rattle.fab_device.specs.Kept.{Entry}
+use Rattle.fab_device.specs.Kept.{Entry, Makers}
 use Rattle.fab_net.specs.declared.event.Event.TheVariants as e
 use Rattle.fab_net.specs.declared.event.Inner.TheVariants as i
 use Rattle.fab_tree.specs.declared.resolved.Resolved.{Resolved}
@@ -37,7 +38,7 @@ use Rattle.fab_command.specs.declared.command.Telling.{Telling}
 use Rattle.fab_command.specs.declared.command.Telling.TheVariants as telling
 use Rattle.fab_replay.specs.Courses.{HasRun, IsAtStart, IsCourse}
 use Rattle.fab_replay.specs.Integral.{IsExcluded, IsIntegral}
-use Rattle.fab_replay.specs.Kept.{IsEntryAt, IsEntryBehind, IsPossible, Unmade, has_mark, with_more}
+use Rattle.fab_replay.specs.Kept.{IsEntryAt, IsEntryBehind, IsPossible, MakesAll, MakesFront, Unmade, Unwritten, has_mark, with_more}
 use Rattle.fab_replay.specs.Making.{HasNoJournal}
 use Rattle.fab_replay.specs.Replays.{IsRunOver, is_scheduled, StopsBefore, Tells, event_of, first_mark, moves_of, report_of}
 use Rattle.fab_replay.specs.Running.{IsMarked}
@@ -268,16 +269,61 @@ not_without_its_store h = let e = h.held in cc
 
 -- ---- starts
 
-no_start_without_its_journal : HasNoJournal g None None None 0 1 1
-no_start_without_its_journal = record { honest = refl; unmade = Unmade refl (omega arith); possible = λ cannot. cannot }
+abbrev makers : Option (List (List ℕ)) → List (List ℕ) → ℕ → Makers
+makers told made faults = record { may_fail = told; made = Some made; kept = None; faults = faults }
+
+-- each node's name
+abbrev each : List ℕ
+each = codes "x"
+
+-- where the journal of t can't be made, that of w was
+no_start_without_its_journal : HasNoJournal g (makers None [] 0) (makers None (each ∷ []) 1) 1
+unfolding honest_up
+no_start_without_its_journal = record { honest = refl; unmade = Unmade refl refl (omega arith); possible = λ cannot. cannot }
+
+-- and no other
+none_behind_it : HasNoJournal g (makers None [] 0) (makers None (each ∷ each ∷ []) 1) 1 → ⊥
+unfolding honest_up
+none_behind_it h = elim h.unmade [
+  | Unmade kept made rose ↦ (let e : ◌≡◌ {A = Option (List (List ℕ))} (Some (each ∷ each ∷ [])) (Some (each ∷ [])) = made in cc)
+  | Unwritten kept made same ↦ omega (arith, same)
+]
 
 -- a hostile node has no journal that could fail
-not_of_h : HasNoJournal g None None None 0 1 2 → ⊥
+not_of_h : HasNoJournal g (makers None [] 0) (makers None (each ∷ []) 1) 2 → ⊥
 not_of_h h = false≢true h.honest
 
 -- one that can't fail doesn't
-not_of_a_sure_one : HasNoJournal g (Some []) None None 0 1 1 → ⊥
+not_of_a_sure_one : HasNoJournal g (makers (Some []) [] 0) (makers (Some []) (each ∷ []) 1) 1 → ⊥
 not_of_a_sure_one h = h.possible (λ c. omega (arith, c.1))
+
+-- a run has a journal of each honest node, behind what was made before
+one_set : MakesAll g (makers None (codes "old" ∷ []) 0) (makers None (codes "old" ∷ each ∷ each ∷ []) 0)
+unfolding honest_up
+one_set = refl
+
+-- a second set isn't made, nor is one left out
+no_second_set : MakesAll g (makers None [] 0) (makers None (each ∷ each ∷ each ∷ each ∷ []) 0) → ⊥
+unfolding honest_up
+no_second_set h = let e : ◌≡◌ {A = Option (List (List ℕ))} (Some (each ∷ each ∷ each ∷ each ∷ [])) (Some (each ∷ each ∷ [])) = h in cc
+
+none_missing : MakesAll g (makers None [] 0) (makers None (each ∷ []) 0) → ⊥
+unfolding honest_up
+none_missing h = let e : ◌≡◌ {A = Option (List (List ℕ))} (Some (each ∷ [])) (Some (each ∷ each ∷ [])) = h in cc
+
+-- nor where memory runs out
+some_of_a_set : MakesFront g (makers None [] 0) (makers None (each ∷ []) 0)
+unfolding honest_up
+some_of_a_set = record { many = 1; made = refl }
+
+no_more_than_a_set : MakesFront g (makers None [] 0) (makers None (each ∷ each ∷ each ∷ []) 0) → ⊥
+unfolding honest_up
+no_more_than_a_set h =
+    let e : ◌≡◌ {A = Option (List (List ℕ))} (Some (each ∷ each ∷ each ∷ [])) (Some (take h.many (each ∷ each ∷ []))) = h.made in
+    let same : ◌≡◌ {A = List (List ℕ)} (each ∷ each ∷ each ∷ []) (take h.many (each ∷ each ∷ [])) = cc in
+    let long = ap length same in
+    let most = length-take h.many (each ∷ each ∷ []) in
+    omega (arith, long, most)
 
 -- ---- runs that nodes make by themselves: with no request, no post and no crash line nothing is due
 

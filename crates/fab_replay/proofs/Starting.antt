@@ -1,7 +1,8 @@
 -- What is told where there is no core, and what one is made of.
-use Rattle.std.specs.Prelude.{◌≡◌, ℕ, List, map, length, take, Contains, Option, Some, None}
-use Rattle.std.proofs.Common.{refl, sym, ap, ◌∙◌, subst}
-use Rattle.fab_device.specs.Kept.{CannotFail, Entry}
+use Rattle.std.specs.Prelude.{◌≡◌, ℕ, IsTrue, List, [], ◌∷◌, ◌++◌, map, length, take, Contains, Option, Some, None}
+use Rattle.std.specs.List.{AllByRecursion}
+use Rattle.std.proofs.Common.{refl, sym, ap, ◌∙◌, subst, arith}
+use Rattle.fab_device.specs.Kept.{CannotFail, Makers}
 use Rattle.fab_language.specs.Words.{node_text}
 use Rattle.fab_tree.specs.declared.resolved.Resolved.{Resolved}
 use Rattle.fab_world.specs.Machine.{Move}
@@ -10,9 +11,10 @@ use Rattle.fab_core.specs.Cores.{CoreModel, is_honest, slot, world_by}
 use Rattle.fab_core.specs.Starts.{AreBack, IsLeft, honest_below, journals_faults}
 use Rattle.fab_core.specs.Telling.{IsJournalAt, those_in}
 use Rattle.fab_core.proofs.AtStart.{key_of}
-use Rattle.fab_core.specs.Honest.{AreFor, honest_in}
-use Rattle.fab_replay.specs.Kept.{IsCutShort, IsEntryBehind, IsReplayed, OfStart, Unkept, Unmade as CouldNotBeMade, Unwritten, with_more}
-use Rattle.fab_replay.specs.Making.{HasFailed, HasNoJournal, IsStartCut, IsUnstarted, NoneKept, OfHeaders}
+use Rattle.fab_core.specs.Honest.{AreFor, honest_in, honest_up}
+use Rattle.fab_core.proofs.Honest.{IsPlace, place_of}
+use Rattle.fab_replay.specs.Kept.{IsCutShort, IsEntryBehind, IsReplayed, KeepsSome, MakesAll, OfStart, Unkept, Unmade as CouldNotBeMade, Unwritten, names_in, with_more}
+use Rattle.fab_replay.specs.Making.{HasFailed, HasFailedAt, HasNoJournal, IsStartCut, IsStartShort, IsUnstarted, NoneKept, OfHeaders}
 use Rattle.fab_replay.specs.Running.{AreNew, AreUnfailed, HasMore, IsUnfailed, entries_of}
 use Rattle.fab_replay.specs.declared.journals.Unstarted.{Unstarted}
 use Rattle.fab_replay.specs.declared.journals.Unstarted.TheVariants as u
@@ -20,7 +22,7 @@ use Rattle.fab_replay.specs.declared.replayed.Replayed.TheVariants as r
 use Rattle.fab_replay.specs.declared.replayed.Wanted.{Wanted}
 use Rattle.fab_replay.proofs.Aligned.{StandsAt}
 use Rattle.fab_replay.proofs.Numbered.{at_place, honest_member, honest_within}
-use Rattle.fab_replay.proofs.Keeping.{back_entries, back_possible, new_many, unfailed}
+use Rattle.fab_replay.proofs.Keeping.{all_front, apart_above, apart_below, back_entries, back_possible, behind_first, more_none, new_many, unfailed}
 
 -- ---- no journal has failed
 
@@ -44,18 +46,62 @@ are_unfailed told g moves js given at h n = by (slot js n) refl
 
 -- ---- journals that couldn't all be made
 
-pub unmade : (told : Option (List (List ℕ))) (g : GivenModel) (program : Resolved) (nodes : List ℕ) (old new : Option (List Entry)) (before now : ℕ) (why : Unstarted) → program ≡ g.program
-    → nodes ≡ honest_in g → HasFailed told program nodes before now why → (why ≡ u.Memory → now ≡ before) → new ≡ old → IsUnstarted g told old new before now why
-unmade told g program nodes old new before now (u.Failed node) is are h wanting kept = record {
-  honest = honest_member g 64 node (subst (λ ns. Contains ns node) are h.among);
-  unmade = CouldNotBeMade kept h.rose;
-  possible = λ cannot. h.possible (subst (λ (p : Resolved). CannotFail told (node_text p node)) (sym is) cannot);
-}
-unmade told g program nodes old new before now u.Memory is are h wanting kept = (NoneKept kept, wanting refl)
+-- a list that has a number once has the same before it, however it is parted there
+before_it : (n : ℕ) (xs ys front rest : List ℕ) → AllByRecursion (λ k. k ≡ n → ⊥) front → AllByRecursion (λ k. k ≡ n → ⊥) rest → xs ++ n ∷ ys ≡ front ++ n ∷ rest → xs ≡ front
+before_it n [] ys [] rest far apart e = refl
+before_it n [] ys (k ∷ front) rest far apart e = let here : k ≡ n = cc in absurd (far.0 here)
+before_it n (x ∷ xs) ys [] rest far apart e = let there : xs ++ n ∷ ys ≡ rest = cc in absurd (within xs (subst (AllByRecursion (λ k. k ≡ n → ⊥)) (sym there) apart))
+  where
+    within : (zs : List ℕ) → AllByRecursion (λ k. k ≡ n → ⊥) (zs ++ n ∷ ys) → ⊥
+    within [] h = h.0 refl
+    within (z ∷ zs) h = within zs h.1
+before_it n (x ∷ xs) ys (k ∷ front) rest far apart e =
+    let first : x ≡ k = cc in
+    let later : xs ++ n ∷ ys ≡ front ++ n ∷ rest = cc in
+    ap (λ m. m ∷ xs) first ∙ ap (λ ms. k ∷ ms) (before_it n xs ys front rest far.1 apart later)
+
+among : (n : ℕ) (front rest : List ℕ) → Contains (front ++ n ∷ rest) n
+among n [] rest = (0, omega arith, refl)
+among n (x ∷ front) rest = behind_first x n (front ++ n ∷ rest) (among n front rest)
+
+module _ (g : GivenModel) (given : IsGiven g) (program : Resolved) (nodes : List ℕ) (old new : Makers) (is : program ≡ g.program) (are : nodes ≡ honest_in g) (kept : new.kept ≡ old.kept) where
+  no_journal : (node : ℕ) → HasFailedAt program nodes old new node → HasNoJournal g old new node
+  no_journal node h =
+      let parts : honest_in g ≡ h.before ++ node ∷ h.behind = sym are ∙ h.parts in
+      let honest : IsTrue (is_honest g node) = honest_member g 64 node (subst (λ ns. Contains ns node) (sym parts) (among node h.before h.behind)) in
+      let place : IsPlace g node 64 = place_of g node 64 honest (honest_within g given node honest) in
+      let before : h.before ≡ honest_up g node =
+      before_it node h.before h.behind (honest_up g node) place.rest (apart_below node (honest_up g node) place.front) (apart_above node place.rest place.others) (sym parts ∙ place.parts)
+      in
+      record {
+        honest = honest;
+        unmade = CouldNotBeMade kept (h.made ∙ ap (λ (p : Resolved). with_more old.made (map (node_text p) h.before)) is ∙ ap (λ ns. with_more old.made (map (node_text g.program) ns)) before) h.rose;
+        possible = λ cannot. h.possible (subst (λ (p : Resolved). CannotFail old.may_fail (node_text p node)) (sym is) cannot);
+      }
+
+  pub unmade : (why : Unstarted) → HasFailed program nodes old new why → IsUnstarted g old new why
+  unmade (u.Failed node) h = no_journal node h
+  unmade u.Memory h = record {
+    kept = NoneKept kept;
+    made = record {
+      many = h.many;
+      made = h.made ∙ ap (λ (p : Resolved). with_more old.made (take h.many (map (node_text p) nodes))) is ∙ ap (λ ns. with_more old.made (take h.many (map (node_text g.program) ns))) are;
+    };
+    faults = h.same;
+  }
+
+-- the names of all nodes for which one is made
+pub names_of : (g : GivenModel) (made : Option (List (List ℕ))) (program : Resolved) (nodes : List ℕ) → program ≡ g.program → nodes ≡ honest_in g
+    → with_more made (map (node_text program) nodes) ≡ with_more made (names_in g)
+names_of g made program nodes is are = ap (λ (p : Resolved). with_more made (map (node_text p) nodes)) is ∙ ap (λ ns. with_more made (map (node_text g.program) ns)) are
 
 -- memory ran out before
-pub none_made : (told : Option (List (List ℕ))) (g : GivenModel) (old new : Option (List Entry)) (before now : ℕ) → new ≡ old → now ≡ before → IsUnstarted g told old new before now u.Memory
-none_made told g old new before now kept same = (NoneKept kept, same)
+pub none_made : (g : GivenModel) (old : Makers) → IsUnstarted g old old u.Memory
+none_made g old = record { kept = NoneKept refl; made = record { many = 0; made = more_none old.made }; faults = refl }
+
+-- or behind it
+pub all_made : (g : GivenModel) (old new : Makers) → new.kept ≡ old.kept → MakesAll g old new → new.faults ≡ old.faults → IsUnstarted g old new u.Memory
+all_made g old new kept made same = record { kept = NoneKept kept; made = all_front g old new made; faults = same }
 
 -- ---- a core of journals that were made
 
@@ -82,42 +128,47 @@ module _ {J : Type 0} (seen : J → JournalModel) (told : Option (List (List ℕ
     are_left : AreFor (IsEntryBehind g node) (honest_in g) (entries_of g.program (honest_in g) (map seen back))
     are_left = back_entries seen told g node 64 (honest_within g given node h.honest) made back news h left
 
-    module _ (again : Resolved) (all : List ℕ) (old mid last : Option (List Entry)) (same : again ≡ g.program) (alike : all ≡ honest_in g) (still : mid ≡ old) where
+    module _ (again : Resolved) (all : List ℕ) (old mid last : Makers) (same : again ≡ g.program) (alike : all ≡ honest_in g) (still : mid.kept ≡ old.kept)
+        (makes : MakesAll g old last) (count : last.faults ≡ old.faults) where
       -- all were kept
-      pub unwritten : (before now : ℕ) → last ≡ with_more mid (entries_of again all (map seen back)) → now ≡ before → HasNoJournal g told old last before now node
-      unwritten before now kept count = record {
+      pub unwritten : old.may_fail ≡ told → last.kept ≡ with_more mid.kept (entries_of again all (map seen back)) → HasNoJournal g old last node
+      unwritten tells kept = record {
         honest = h.honest;
         unmade = Unwritten (record {
           entries = entries_of g.program (honest_in g) (map seen back);
           each = are_left;
           kept =
               kept ∙ ap (λ k. with_more k (entries_of again all (map seen back))) still
-              ∙ ap (λ (p : Resolved). with_more old (entries_of p all (map seen back))) same
-              ∙ ap (λ ns. with_more old (entries_of g.program ns (map seen back))) alike;
-        }) count;
-        possible = back_possible seen told g node 64 (honest_within g given node h.honest) made back news h;
+              ∙ ap (λ (p : Resolved). with_more old.kept (entries_of p all (map seen back))) same
+              ∙ ap (λ ns. with_more old.kept (entries_of g.program ns (map seen back))) alike;
+        }) makes count;
+        possible = λ cannot. back_possible seen told g node 64 (honest_within g given node h.honest) made back news h (subst (λ t. CannotFail t (node_text g.program node)) tells cannot);
       }
 
       -- or some of them
-      pub partly_kept : HasMore mid last (entries_of again all (map seen back)) → IsStartCut g old last
-      partly_kept kept =
-          OfHeaders node h.honest
-          (record {
-            entries = entries_of g.program (honest_in g) (map seen back);
-            many = kept.many;
-            each = are_left;
-            kept =
-                kept.kept ∙ ap (λ k. with_more k (take kept.many (entries_of again all (map seen back)))) still
-                ∙ ap (λ (p : Resolved). with_more old (take kept.many (entries_of p all (map seen back)))) same
-                ∙ ap (λ ns. with_more old (take kept.many (entries_of g.program ns (map seen back)))) alike;
-          })
+      pub partly_kept : HasMore mid.kept last.kept (entries_of again all (map seen back)) → IsStartShort g old last
+      partly_kept kept = record {
+        kept = OfHeaders node h.honest (record {
+          entries = entries_of g.program (honest_in g) (map seen back);
+          many = kept.many;
+          each = are_left;
+          kept =
+              kept.kept ∙ ap (λ k. with_more k (take kept.many (entries_of again all (map seen back)))) still
+              ∙ ap (λ (p : Resolved). with_more old.kept (take kept.many (entries_of p all (map seen back)))) same
+              ∙ ap (λ ns. with_more old.kept (take kept.many (entries_of g.program ns (map seen back)))) alike;
+        });
+        made = all_front g old last makes;
+        faults = count;
+      }
 
 -- ---- what a run comes to that has no start
 
-pub no_start : (g : GivenModel) (told : Option (List (List ℕ))) (old new : Option (List Entry)) (before now node : ℕ) (wanted : Wanted) → HasNoJournal g told old new before now node
-    → IsReplayed told g wanted (r.JournalFault node None) old new before now
-no_start g told old new before now node wanted h = (h.honest, h.unmade)
+pub no_start : (g : GivenModel) (old new : Makers) (node : ℕ) (wanted : Wanted) → HasNoJournal g old new node → IsReplayed g wanted (r.JournalFault node None) old new
+no_start g old new node wanted h = (h.honest, h.unmade)
 
-pub cut_at_start : (g : GivenModel) (old new : Option (List Entry)) (wanted : Wanted) → IsStartCut g old new → IsCutShort g wanted old new
-cut_at_start g old new wanted (NoneKept same) = Unkept same
-cut_at_start g old new wanted (OfHeaders node honest front) = OfStart node honest front
+pub cut_at_start : (g : GivenModel) (old new : Makers) (wanted : Wanted) → IsStartShort g old new → IsCutShort g wanted old new
+cut_at_start g old new wanted h = record { kept = by h.kept; made = h.made; faults = h.faults }
+  where
+    by : IsStartCut g old.kept new.kept → KeepsSome g wanted old.kept new.kept
+    by (NoneKept same) = Unkept same
+    by (OfHeaders node honest front) = OfStart node honest front

@@ -1,8 +1,8 @@
 -- What a replay leaves of the journals, and what it answers where a journal couldn't be made.
-use Rattle.std.specs.Prelude.{◌≡◌, ◌<◌, ◌==◌, ◌&&◌, ◌++◌, ℕ, Bool, true, false, IsTrue, List, Option, None, option_map, take}
+use Rattle.std.specs.Prelude.{◌≡◌, ◌<◌, ◌==◌, ◌&&◌, ◌++◌, ℕ, Bool, true, false, IsTrue, List, Option, None, map, option_map, take}
 use Rattle.std.specs.List.{list_any}
 use Rattle.fab_base.specs.Faults.{Rose}
-use Rattle.fab_device.specs.Kept.{Entry, CannotFail}
+use Rattle.fab_device.specs.Kept.{Entry, CannotFail, Makers}
 use Rattle.fab_language.specs.Words.{node_text}
 use Rattle.fab_rights.specs.Computed.{has_bit}
 use Rattle.fab_tree.specs.declared.resolved.Resolved.{Resolved}
@@ -11,7 +11,7 @@ use Rattle.fab_world.specs.Serial.{IsRun}
 use Rattle.fab_node.specs.Standing.{GivenModel, IsJournalOf}
 use Rattle.fab_core.specs.Cores.{is_honest, setting, world_by}
 use Rattle.fab_core.specs.Moved.{node_at}
-use Rattle.fab_core.specs.Honest.{AreFor, honest_in}
+use Rattle.fab_core.specs.Honest.{AreFor, honest_in, honest_up}
 use Rattle.fab_core.specs.Starts.{IsLeft}
 use Rattle.fab_replay.specs.Integral.{IsExcluded, IsIntegral}
 use Rattle.fab_replay.specs.Isolated.{IsIsolated}
@@ -41,9 +41,9 @@ pub record IsEntryBehind (g : GivenModel) (node n : ℕ) (x : Entry) : Type 0 wh
   pub sound : (n ≡ node → ⊥) → x.faults ≡ 0
   pub failed : n ≡ node → 0 < x.faults
 
--- where it is told what is kept, there are these entries more
-abbrev pub with_more : Option (List Entry) → List Entry → Option (List Entry)
-with_more kept more = option_map (λ entries. entries ++ more) kept
+-- where it is told what there was, there is this more
+abbrev pub with_more : {T : Type 0} → Option (List T) → List T → Option (List T)
+with_more had more = option_map (λ xs. xs ++ more) had
 
 -- what is kept is one entry more for each honest node
 pub record Keeps (g : GivenModel) (P : ℕ → Entry → Type 0) (old new : Option (List Entry)) : Type 0 where
@@ -58,37 +58,63 @@ pub record KeepsFront (g : GivenModel) (P : ℕ → Entry → Type 0) (old new :
   pub each : AreFor P (honest_in g) entries
   pub kept : new ≡ with_more old (take many entries)
 
+-- ---- what was made
+
+-- the names of the honest nodes below this number, in order, and of all
+abbrev pub names_below : GivenModel → ℕ → List (List ℕ)
+names_below g n = map (node_text g.program) (honest_up g n)
+
+abbrev pub names_in : GivenModel → List (List ℕ)
+names_in g = map (node_text g.program) (honest_in g)
+
+-- a journal was made for each honest node, once, in order, and no other
+abbrev pub MakesAll : GivenModel → Makers → Makers → Type 0
+MakesAll g old new = new.made ≡ with_more old.made (names_in g)
+
+-- or for the first so many of them
+pub record MakesFront (g : GivenModel) (old new : Makers) : Type 0 where
+  pub many : ℕ
+  pub made : new.made ≡ with_more old.made (take many (names_in g))
+
 -- ---- answers
 
 -- There are moves of a run of which the answer tells, and the journals are as these left them; none failed of which it is told that it can't.
 -- Whichever nodes are distrusted, what the others then hold is what their commits give, and what they have sent to those is the public replay of
 -- what the run released.
-pub record IsOfRun (may_fail : Option (List (List ℕ))) (g : GivenModel) (wanted : Wanted) (answer : Replayed) (old new : Option (List Entry)) : Type 0 where
+pub record IsOfRun (g : GivenModel) (wanted : Wanted) (answer : Replayed) (old new : Makers) : Type 0 where
   pub moves : List Move
   pub run : IsRun (setting g) moves
   pub told : Tells g wanted moves answer
-  pub kept : Keeps g (IsEntryAt g moves) old new
-  pub sure : (n : ℕ) → CannotFail may_fail (node_text g.program n) → has_mark moves n ≡ false
+  pub kept : Keeps g (IsEntryAt g moves) old.kept new.kept
+  pub sure : (n : ℕ) → CannotFail old.may_fail (node_text g.program n) → has_mark moves n ≡ false
   pub integral : (nodes : ℕ) (ex : ℕ → Bool) → IsExcluded g nodes ex → IsIntegral g moves (has_bit nodes) ex
   pub isolated : IsIsolated g moves
 
--- the journal of this node couldn't be made, for which there is a cause, and nothing is kept; or its header couldn't be written
-pub data IsUnmade (g : GivenModel) (node : ℕ) (old new : Option (List Entry)) (before now : ℕ) : Type 0 where
-  Unmade : new ≡ old → Rose before now → IsUnmade g node old new before now
-  Unwritten : Keeps g (IsEntryBehind g node) old new → now ≡ before → IsUnmade g node old new before now
+-- the journal of this node couldn't be made, for which there is a cause, those before it were, and nothing is kept; or all were made, and its
+-- header couldn't be written
+pub data IsUnmade (g : GivenModel) (node : ℕ) (old new : Makers) : Type 0 where
+  Unmade : new.kept ≡ old.kept → new.made ≡ with_more old.made (names_below g node) → Rose old.faults new.faults → IsUnmade g node old new
+  Unwritten : Keeps g (IsEntryBehind g node) old.kept new.kept → MakesAll g old new → new.faults ≡ old.faults → IsUnmade g node old new
 
--- What is kept of old is new, and the makers of journals have failed so often before and now: no more often, unless a journal couldn't be made.
-abbrev pub IsReplayed : Option (List (List ℕ)) → GivenModel → Wanted → Replayed → Option (List Entry) → Option (List Entry) → ℕ → ℕ → Type 0
-IsReplayed may_fail g wanted (r.JournalFault node None) old new before now = IsTrue (is_honest g node) × IsUnmade g node old new before now
-IsReplayed may_fail g wanted answer old new before now = IsOfRun may_fail g wanted answer old new × (now ≡ before)
+-- The makers of journals were as old, and are as new. They have made one for each honest node, and failed no more often, unless one couldn't be
+-- made.
+abbrev pub IsReplayed : GivenModel → Wanted → Replayed → Makers → Makers → Type 0
+IsReplayed g wanted (r.JournalFault node None) old new = IsTrue (is_honest g node) × IsUnmade g node old new
+IsReplayed g wanted answer old new = IsOfRun g wanted answer old new × MakesAll g old new × (new.faults ≡ old.faults)
 
--- Memory ran out: no journal was kept, or the first of those that a run of which some answer tells had left, or that were left where the header
--- of one couldn't be written.
-pub data IsCutShort (g : GivenModel) (wanted : Wanted) (old new : Option (List Entry)) : Type 0 where
-  Unkept : new ≡ old → IsCutShort g wanted old new
+-- No journal was kept, or the first of those that a run of which some answer tells had left, or that were left where the header of one couldn't
+-- be written.
+pub data KeepsSome (g : GivenModel) (wanted : Wanted) (old new : Option (List Entry)) : Type 0 where
+  Unkept : new ≡ old → KeepsSome g wanted old new
   OfRun : (moves : List Move) (answer : Replayed) → IsRun (setting g) moves → Tells g wanted moves answer
-      → KeepsFront g (IsEntryAt g moves) old new → IsCutShort g wanted old new
-  OfStart : (node : ℕ) → IsTrue (is_honest g node) → KeepsFront g (IsEntryBehind g node) old new → IsCutShort g wanted old new
+      → KeepsFront g (IsEntryAt g moves) old new → KeepsSome g wanted old new
+  OfStart : (node : ℕ) → IsTrue (is_honest g node) → KeepsFront g (IsEntryBehind g node) old new → KeepsSome g wanted old new
+
+-- Memory ran out.
+pub record IsCutShort (g : GivenModel) (wanted : Wanted) (old new : Makers) : Type 0 where
+  pub kept : KeepsSome g wanted old.kept new.kept
+  pub made : MakesFront g old new
+  pub faults : new.faults ≡ old.faults
 
 -- the node of which a fault is told isn't one of which it is told that its journal can't fail
 abbrev pub IsPossible : Option (List (List ℕ)) → Resolved → Replayed → Type 0

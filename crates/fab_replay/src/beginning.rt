@@ -5,6 +5,7 @@ ghost use Rattle.fab_language.specs.Numbers.{resolved};
 ghost use Rattle.fab_settings.specs.Settings.{IsAcceptedWith};
 ghost use Rattle.fab_tree.specs.declared.start.Start.{Start};
 ghost use Rattle.fab_core.specs.Starts.{given_by};
+ghost use Rattle.fab_replay.specs.Kept.{MakesAll};
 ghost use Rattle.fab_replay.specs.Making.{IsUnstarted};
 ghost use Rattle.fab_replay.specs.Running.{AreUnfailed};
 
@@ -29,12 +30,13 @@ pub fn started<M: Journals>(
     requires { (s : Start) × (resolved s ≡ program.value) × IsAcceptedWith s rights }
     ensures given { IfOk result (λ core. core.given ≡ given_by program.value rights) }
     ensures moves { IfOk result (λ core. core.moves ≡ []) }
-    ensures unfailed { IfOk result (λ core. AreUnfailed (M.may_fail journals.old) core.given core.journals) }
-    ensures kept { OnOk result (M.kept journals.new ≡ M.kept journals.old) }
-    ensures same { OnOk result (M.faults journals.new ≡ M.faults journals.old) }
-    ensures failed { IfErr result (IsUnstarted (given_by program.value rights) (M.may_fail journals.old) (M.kept journals.old) (M.kept journals.new) (M.faults journals.old) (M.faults journals.new)) }
-    ensures later { M.faults journals.old ≤ M.faults journals.new }
-    ensures told { M.may_fail journals.new ≡ M.may_fail journals.old }
+    ensures unfailed { IfOk result (λ core. AreUnfailed (M.seen journals.old).may_fail core.given core.journals) }
+    ensures kept { OnOk result ((M.seen journals.new).kept ≡ (M.seen journals.old).kept) }
+    ensures made { OnOk result (MakesAll (given_by program.value rights) (M.seen journals.old) (M.seen journals.new)) }
+    ensures same { OnOk result ((M.seen journals.new).faults ≡ (M.seen journals.old).faults) }
+    ensures failed { IfErr result (IsUnstarted (given_by program.value rights) (M.seen journals.old) (M.seen journals.new)) }
+    ensures later { (M.seen journals.old).faults ≤ (M.seen journals.new).faults }
+    ensures told { (M.seen journals.new).may_fail ≡ (M.seen journals.old).may_fail }
 {
     let nodes = honest_nodes(alloc, &program, &rights)?;
     let made = make_journals(alloc, &program, nodes.as_slice(), journals)?;

@@ -98,12 +98,11 @@ fn by_themselves<C: Course<Core<M::Item>>, M: Journals>(
     requires made { IsTrue (C.makes wanted.now) }
     requires course { IsCourse C.makes (C.may course.now) (C.comes course.now) }
     requires accepted { (s : Start) × (resolved s ≡ program.value) × IsAcceptedWith s rights }
-    ensures answer { IfOk result (λ answer. IsReplayed (M.may_fail journals.old) (given_by program.value rights) wanted.now answer (M.kept journals.old) (M.kept journals.new) (M.faults journals.old) (M.faults journals.new)) }
-    ensures possible { IfOk result (IsPossible (M.may_fail journals.old) program.value) }
-    ensures later { M.faults journals.old ≤ M.faults journals.new }
-    ensures memory { OnErr result (IsCutShort (given_by program.value rights) wanted.now (M.kept journals.old) (M.kept journals.new)) }
-    ensures unfailed { OnErr result (M.faults journals.new ≡ M.faults journals.old) }
-    ensures told { M.may_fail journals.new ≡ M.may_fail journals.old }
+    ensures answer { IfOk result (λ answer. IsReplayed (given_by program.value rights) wanted.now answer (M.seen journals.old) (M.seen journals.new)) }
+    ensures possible { IfOk result (IsPossible (M.seen journals.old).may_fail program.value) }
+    ensures later { (M.seen journals.old).faults ≤ (M.seen journals.new).faults }
+    ensures memory { OnErr result (IsCutShort (given_by program.value rights) wanted.now (M.seen journals.old) (M.seen journals.new)) }
+    ensures told { (M.seen journals.new).may_fail ≡ (M.seen journals.old).may_fail }
 {
     let core = match started(alloc, program, rights, journals) {
         Ok(core) => core,
@@ -133,12 +132,11 @@ pub fn make_run<C: Course<Core<M::Item>>, M: Journals>(
     requires course { IsCourse C.makes (C.may course.now) (C.comes course.now) }
     requires accepted { (s : Start) × (resolved s ≡ program.value) × IsAcceptedWith s rights }
     requires ready { IsReady (given_by program.value rights) wanted.now }
-    ensures answer { IfOk result (λ answer. IsReplayed (M.may_fail journals.old) (given_by program.value rights) wanted.now answer (M.kept journals.old) (M.kept journals.new) (M.faults journals.old) (M.faults journals.new)) }
-    ensures possible { IfOk result (IsPossible (M.may_fail journals.old) program.value) }
-    ensures later { M.faults journals.old ≤ M.faults journals.new }
-    ensures memory { OnErr result (IsCutShort (given_by program.value rights) wanted.now (M.kept journals.old) (M.kept journals.new)) }
-    ensures unfailed { OnErr result (M.faults journals.new ≡ M.faults journals.old) }
-    ensures told { M.may_fail journals.new ≡ M.may_fail journals.old }
+    ensures answer { IfOk result (λ answer. IsReplayed (given_by program.value rights) wanted.now answer (M.seen journals.old) (M.seen journals.new)) }
+    ensures possible { IfOk result (IsPossible (M.seen journals.old).may_fail program.value) }
+    ensures later { (M.seen journals.old).faults ≤ (M.seen journals.new).faults }
+    ensures memory { OnErr result (IsCutShort (given_by program.value rights) wanted.now (M.seen journals.old) (M.seen journals.new)) }
+    ensures told { (M.seen journals.new).may_fail ≡ (M.seen journals.old).may_fail }
 {
     match wanted {
         Wanted::Run(telling) => {

@@ -1,7 +1,7 @@
 //! What holds of a run that has ended, and its journals.
 
 ghost use Rattle.std.specs.Prelude.{◌≡◌, IfOk, OnErr};
-ghost use Rattle.fab_replay.specs.Kept.{IsCutShort, IsOfRun, IsPossible};
+ghost use Rattle.fab_replay.specs.Kept.{IsOfRun, IsPossible, KeepsSome};
 ghost use Rattle.fab_replay.specs.Replays.{IsTold};
 ghost use Rattle.fab_replay.specs.Running.{AreMarked, AreSure};
 
@@ -26,12 +26,13 @@ pub fn finished<M: Journals>(
 ) -> Result<Replayed, NoMemory>
     requires answer { IsTold core.given wanted.now core.moves answer }
     requires marked { AreMarked core.moves core.journals }
-    requires sure { AreSure (M.may_fail journals.old) core.given core.journals }
-    ensures answer { IfOk result (λ answer. IsOfRun (M.may_fail journals.old) core.given wanted.now answer (M.kept journals.old) (M.kept journals.new)) }
-    ensures possible { IfOk result (IsPossible (M.may_fail journals.old) core.given.program) }
-    ensures memory { OnErr result (IsCutShort core.given wanted.now (M.kept journals.old) (M.kept journals.new)) }
-    ensures faults { M.faults journals.new ≡ M.faults journals.old }
-    ensures told { M.may_fail journals.new ≡ M.may_fail journals.old }
+    requires sure { AreSure (M.seen journals.old).may_fail core.given core.journals }
+    ensures answer { IfOk result (λ answer. IsOfRun core.given wanted.now answer (M.seen journals.old) (M.seen journals.new)) }
+    ensures possible { IfOk result (IsPossible (M.seen journals.old).may_fail core.given.program) }
+    ensures memory { OnErr result (KeepsSome core.given wanted.now (M.seen journals.old).kept (M.seen journals.new).kept) }
+    ensures made { (M.seen journals.new).made ≡ (M.seen journals.old).made }
+    ensures faults { (M.seen journals.new).faults ≡ (M.seen journals.old).faults }
+    ensures told { (M.seen journals.new).may_fail ≡ (M.seen journals.old).may_fail }
 {
     let _wanted = wanted;
     core.is_a_run();

@@ -1,6 +1,7 @@
 //! The nodes' journals: made before a run, and kept behind it.
 
-ghost use Rattle.std.specs.Prelude.{◌≡◌, ◌≤◌, Err, IfOk, IfErr, OnOk, OnErr, map};
+ghost use Rattle.std.specs.Prelude.{◌≡◌, ◌≤◌, IfOk, IfErr, OnOk, OnErr, map};
+ghost use Rattle.fab_language.specs.Words.{node_text};
 ghost use Rattle.fab_replay.specs.Kept.{with_more};
 ghost use Rattle.fab_replay.specs.Making.{HasFailed};
 ghost use Rattle.fab_replay.specs.Running.{AreNew, HasMore, entries_of, seen_by};
@@ -35,13 +36,13 @@ pub(crate) fn make_journals<M: Journals>(
     nodes: &[u16],
     journals: &mut M,
 ) -> Result<Seq<M::Item>, Unstarted>
-    ensures made { IfOk result (λ made. AreNew (M.may_fail journals.old) program.now nodes.now (map (seen_by M.Item.content M.Item.synced M.Item.room M.Item.faults M.Item.sure) made)) }
-    ensures failed { IfErr result (HasFailed (M.may_fail journals.old) program.now nodes.now (M.faults journals.old) (M.faults journals.new)) }
-    ensures later { M.faults journals.old ≤ M.faults journals.new }
-    ensures same { OnOk result (M.faults journals.new ≡ M.faults journals.old) }
-    ensures wanting { result ≡ Err Wanting → M.faults journals.new ≡ M.faults journals.old }
-    ensures kept { M.kept journals.new ≡ M.kept journals.old }
-    ensures told { M.may_fail journals.new ≡ M.may_fail journals.old }
+    ensures made { IfOk result (λ made. AreNew (M.seen journals.old).may_fail program.now nodes.now (map (seen_by M.Item.content M.Item.synced M.Item.room M.Item.faults M.Item.sure) made)) }
+    ensures failed { IfErr result (HasFailed program.now nodes.now (M.seen journals.old) (M.seen journals.new)) }
+    ensures later { (M.seen journals.old).faults ≤ (M.seen journals.new).faults }
+    ensures same { OnOk result ((M.seen journals.new).faults ≡ (M.seen journals.old).faults) }
+    ensures all { OnOk result ((M.seen journals.new).made ≡ with_more (M.seen journals.old).made (map (node_text program.now) nodes.now)) }
+    ensures kept { (M.seen journals.new).kept ≡ (M.seen journals.old).kept }
+    ensures told { (M.seen journals.new).may_fail ≡ (M.seen journals.old).may_fail }
 {
     let mut made = Seq::new(alloc);
     let mut rest = nodes;
@@ -68,12 +69,13 @@ pub(crate) fn keep_all<M: Journals>(
     all: Seq<M::Item>,
     journals: &mut M,
 ) -> Result<(), NoMemory>
-    ensures kept { OnOk result (M.kept journals.new
-        ≡ with_more (M.kept journals.old) (entries_of program.now nodes.now (map (seen_by M.Item.content M.Item.synced M.Item.room M.Item.faults M.Item.sure) all))) }
-    ensures part { OnErr result (HasMore (M.kept journals.old) (M.kept journals.new)
+    ensures kept { OnOk result ((M.seen journals.new).kept
+        ≡ with_more (M.seen journals.old).kept (entries_of program.now nodes.now (map (seen_by M.Item.content M.Item.synced M.Item.room M.Item.faults M.Item.sure) all))) }
+    ensures part { OnErr result (HasMore (M.seen journals.old).kept (M.seen journals.new).kept
         (entries_of program.now nodes.now (map (seen_by M.Item.content M.Item.synced M.Item.room M.Item.faults M.Item.sure) all))) }
-    ensures faults { M.faults journals.new ≡ M.faults journals.old }
-    ensures told { M.may_fail journals.new ≡ M.may_fail journals.old }
+    ensures made { (M.seen journals.new).made ≡ (M.seen journals.old).made }
+    ensures faults { (M.seen journals.new).faults ≡ (M.seen journals.old).faults }
+    ensures told { (M.seen journals.new).may_fail ≡ (M.seen journals.old).may_fail }
 {
     let mut left = all.into_vec();
     left.reverse();

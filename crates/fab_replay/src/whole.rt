@@ -5,7 +5,7 @@ ghost use Rattle.fab_language.specs.Numbers.{resolved};
 ghost use Rattle.fab_settings.specs.Settings.{IsAcceptedWith};
 ghost use Rattle.fab_tree.specs.declared.start.Start.{Start};
 ghost use Rattle.fab_core.specs.Starts.{given_by};
-ghost use Rattle.fab_replay.specs.Kept.{IsCutShort, IsOfRun, IsPossible, IsReplayed};
+ghost use Rattle.fab_replay.specs.Kept.{IsCutShort, IsOfRun, IsPossible, IsReplayed, KeepsSome};
 ghost use Rattle.fab_replay.specs.Replays.{IsReady, is_scheduled};
 ghost use Rattle.fab_replay.specs.Running.{AreUnfailed};
 
@@ -33,12 +33,13 @@ fn over<M: Journals>(
     requires moves { core.moves ≡ [] }
     requires scheduled { IsTrue (is_scheduled wanted.now) }
     requires ready { IsReady core.given wanted.now }
-    requires unfailed { AreUnfailed (M.may_fail journals.old) core.given core.journals }
-    ensures answer { IfOk result (λ answer. IsOfRun (M.may_fail journals.old) core.given wanted.now answer (M.kept journals.old) (M.kept journals.new)) }
-    ensures possible { IfOk result (IsPossible (M.may_fail journals.old) core.given.program) }
-    ensures memory { OnErr result (IsCutShort core.given wanted.now (M.kept journals.old) (M.kept journals.new)) }
-    ensures faults { M.faults journals.new ≡ M.faults journals.old }
-    ensures told { M.may_fail journals.new ≡ M.may_fail journals.old }
+    requires unfailed { AreUnfailed (M.seen journals.old).may_fail core.given core.journals }
+    ensures answer { IfOk result (λ answer. IsOfRun core.given wanted.now answer (M.seen journals.old) (M.seen journals.new)) }
+    ensures possible { IfOk result (IsPossible (M.seen journals.old).may_fail core.given.program) }
+    ensures memory { OnErr result (KeepsSome core.given wanted.now (M.seen journals.old).kept (M.seen journals.new).kept) }
+    ensures made { (M.seen journals.new).made ≡ (M.seen journals.old).made }
+    ensures faults { (M.seen journals.new).faults ≡ (M.seen journals.old).faults }
+    ensures told { (M.seen journals.new).may_fail ≡ (M.seen journals.old).may_fail }
 {
     let mut core = core;
     core.is_a_run();
@@ -63,12 +64,11 @@ pub fn replay<M: Journals>(
     requires scheduled { IsTrue (is_scheduled wanted.now) }
     requires accepted { (s : Start) × (resolved s ≡ program.value) × IsAcceptedWith s rights }
     requires ready { IsReady (given_by program.value rights) wanted.now }
-    ensures answer { IfOk result (λ answer. IsReplayed (M.may_fail journals.old) (given_by program.value rights) wanted.now answer (M.kept journals.old) (M.kept journals.new) (M.faults journals.old) (M.faults journals.new)) }
-    ensures possible { IfOk result (IsPossible (M.may_fail journals.old) program.value) }
-    ensures later { M.faults journals.old ≤ M.faults journals.new }
-    ensures memory { OnErr result (IsCutShort (given_by program.value rights) wanted.now (M.kept journals.old) (M.kept journals.new)) }
-    ensures unfailed { OnErr result (M.faults journals.new ≡ M.faults journals.old) }
-    ensures told { M.may_fail journals.new ≡ M.may_fail journals.old }
+    ensures answer { IfOk result (λ answer. IsReplayed (given_by program.value rights) wanted.now answer (M.seen journals.old) (M.seen journals.new)) }
+    ensures possible { IfOk result (IsPossible (M.seen journals.old).may_fail program.value) }
+    ensures later { (M.seen journals.old).faults ≤ (M.seen journals.new).faults }
+    ensures memory { OnErr result (IsCutShort (given_by program.value rights) wanted.now (M.seen journals.old) (M.seen journals.new)) }
+    ensures told { (M.seen journals.new).may_fail ≡ (M.seen journals.old).may_fail }
 {
     match started(alloc, program, rights, journals) {
         Ok(core) => over(alloc, core, wanted, journals),

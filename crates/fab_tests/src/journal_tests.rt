@@ -278,11 +278,12 @@ fn journals_are_kept(rt: HostRuntime) -> Result<(), Fail> {
     Ok(())
 }
 
-/// A maker of journals that refuses one node's, and counts those that it is given to keep.
+/// A maker of journals that refuses one node's, and counts those that it made and those that it is given to keep.
 #[derive(Drop)]
 struct Refusing {
     alloc: Global,
     node: &'static str,
+    made: u16,
     kept: u32,
     faults: u64,
 }
@@ -292,17 +293,14 @@ impl Journals for Refusing {
 
     type Item = SureJournal;
 
-    ghost may_fail = { λ _. None };
-
-    ghost kept = { λ _. None };
-
-    ghost faults = { λ s. s.faults };
+    ghost seen = { λ s. record { may_fail = None; made = None; kept = None; faults = s.faults } };
 
     fn make(&mut self, node: &str) -> Result<SureJournal, JournalError> {
         if node == self.node {
             self.faults = self.faults.saturating_add(1);
             return Err(JournalError::Failed);
         }
+        self.made = self.made.saturating_add(1);
         Ok(SureJournal::new(self.alloc)?)
     }
 
@@ -313,19 +311,21 @@ impl Journals for Refusing {
     }
 }
 
-/// Where a node's journal can't be made, it is this node's fault, nothing is written, and none is kept.
+/// Where a node's journal can't be made, it is this node's fault, nothing is written, none behind it is made, and none
+/// is kept. Where each can, each is made once, and kept.
 #[test]
 fn journals_cannot_be_made(rt: HostRuntime) -> Result<(), Fail> {
     let alloc = rt.alloc();
     let schedule = events_between(alloc, 0, COUNT)?;
     let text = format!(in alloc; "{TRANSFER}{schedule}}}}}")?;
-    for (name, node) in [("w1", 0), ("s1", 1)] {
+    for (name, node) in [("w1", 0), ("s1", 1), ("none", 2)] {
         let words = words_of(alloc, "replay")?;
         let mut source = SureSource::new(Seq::from_slice(alloc, text.as_str().as_bytes())?);
         let mut sink = SureSink::new(alloc)?;
         let mut journals = Refusing {
             alloc,
             node: name,
+            made: 0,
             kept: 0,
             faults: 0,
         };
@@ -338,9 +338,15 @@ fn journals_cannot_be_made(rt: HostRuntime) -> Result<(), Fail> {
             &mut journals,
             &OpenGate,
         );
-        assert_eq!(&rt; status, Status::JournalFault { node });
-        assert_eq!(&rt; sink.bytes(), b"".as_slice());
-        assert_eq!(&rt; journals.kept, 0);
+        assert_eq!(&rt; journals.made, node);
+        if node == 2 {
+            assert_eq!(&rt; status, Status::Ok);
+            assert_eq!(&rt; journals.kept, 2);
+        } else {
+            assert_eq!(&rt; status, Status::JournalFault { node });
+            assert_eq!(&rt; sink.bytes(), b"".as_slice());
+            assert_eq!(&rt; journals.kept, 0);
+        }
     }
     Ok(())
 }

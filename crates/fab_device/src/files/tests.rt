@@ -106,8 +106,8 @@ fn syncs_of_a_file(rt: HostRuntime) -> Result<(), Fail> {
     Ok(())
 }
 
-/// The first write of the second append takes four bytes, and the next one fails: the third append
-/// stands where the second began.
+/// The first write of the second append takes four bytes, and the next one fails. Behind that no call works,
+/// though the file would take more, and none touches it.
 #[test]
 fn an_append_that_fails_halfway(rt: HostRuntime) -> Result<(), Fail> {
     let mut journal = over_fake(rt.alloc(), 3)?;
@@ -117,10 +117,13 @@ fn an_append_that_fails_halfway(rt: HostRuntime) -> Result<(), Fail> {
         Err(JournalError::Failed)
     );
     assert_eq!(rt; journal.file.bytes.get_ref().len(), 6);
-    journal.append(&[9, 10, 11, 12, 13])?;
-    let whole = [1, 2, 9, 10, 11, 12, 13];
+    assert_eq!(rt; journal.append(&[9]), Err(JournalError::Failed));
+    assert!(rt; journal.sync().is_err());
+    assert!(rt; matches!(journal.read(), Err(JournalError::Failed)));
+    assert_eq!(rt; journal.file.writes, 3);
+    assert_eq!(rt; journal.file.syncs.get(), 0);
+    let whole = [1, 2, 3, 4, 5, 6];
     assert_eq!(rt; journal.file.bytes.get_ref().as_slice(), whole.as_slice());
-    assert_eq!(rt; journal.read()?.as_slice(), whole.as_slice());
     Ok(())
 }
 
@@ -133,8 +136,5 @@ fn a_change_in_a_later_piece(rt: HostRuntime) -> Result<(), Fail> {
     journal.file.bytes.set_position(1050);
     journal.file.bytes.write(&[8])?;
     assert!(rt; matches!(journal.read(), Err(JournalError::Failed)));
-    journal.file.bytes.set_position(1050);
-    journal.file.bytes.write(&[7])?;
-    assert_eq!(rt; journal.read()?.len(), 1100);
     Ok(())
 }

@@ -12,11 +12,12 @@ invariant-nodes g l =
     let J = g.M.Item.Journal in
     record {
       done : List Entry;
-      kept : M.kept l.journals ≡ with_more (M.kept l.fn.journals) done;
+      kept : (M.seen l.journals).kept ≡ with_more (M.seen l.fn.journals).kept done;
       parts : done ++ entries_of l.program l.rest (map (seen_by J.content J.synced J.room J.faults J.sure) (reverse l.left.items))
           ≡ entries_of l.program l.fn.nodes (map (seen_by J.content J.synced J.room J.faults J.sure) l.fn.all);
-      faults : M.faults l.journals ≡ M.faults l.fn.journals;
-      told : M.may_fail l.journals ≡ M.may_fail l.fn.journals;
+      made : (M.seen l.journals).made ≡ (M.seen l.fn.journals).made;
+      faults : (M.seen l.journals).faults ≡ (M.seen l.fn.journals).faults;
+      told : (M.seen l.journals).may_fail ≡ (M.seen l.fn.journals).may_fail;
     }
 
 abbrev pub decreases-nodes : goal.decreases-nodes

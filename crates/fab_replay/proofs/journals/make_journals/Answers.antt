@@ -1,9 +1,12 @@
-use Rattle.std.proofs.Common.{refl, ap, Err, ◌≡◌, ◌∷◌, ◌++◌, [], List, length, map, rules, arith, sym, ◌∙◌, subst}
-use Rattle.std.specs.Prelude.{Contains}
+use Rattle.std.proofs.Common.{refl, ap, Err, ◌≡◌, ◌∷◌, ◌++◌, [], List, length, map, rules, arith, sym, ◌∙◌, subst, append_assoc, append-nil}
 use Rattle.std.proofs.lemmas.List.{nil_from_length}
+use Rattle.fab_base.specs.Faults.{Rose}
+use Rattle.fab_device.specs.Kept.{CannotFail, with_name}
+use Rattle.fab_language.specs.Words.{node_text}
 use Rattle.fab_node.specs.Standing.{JournalModel}
 use Rattle.fab_replay.specs.Running.{AreNew, seen_by}
-use Rattle.fab_replay.proofs.Keeping.{behind_first, made_all, made_on, new_one}
+use Rattle.fab_replay.specs.Kept.{with_more}
+use Rattle.fab_replay.proofs.Keeping.{made_all, made_on, more_none, named_one, new_one, some_made}
 use Rattle.fab_replay.proofs.journals.make_journals.Goals as goal
 
 pub nodes-preserved : goal.nodes-preserved
@@ -14,7 +17,7 @@ nodes-preserved g c =
     let parts : c.nodes.rest.now ≡ c.in-Some.node.now ∷ c.in-Some.after.now = search rules in
     let pushed : c.push.new.self ≡ c.nodes.made ++ c.in-Ok.journal ∷ [] = search rules in
     let made = c.in-Ok.ensures in
-    let told = M.may_fail c.args.journals.now in
+    let told = (M.seen c.args.journals.now).may_fail in
     let one = new_one told _ _ _ (seen_by J.content J.synced J.room J.faults J.sure c.in-Ok.journal)
     inv.told c.node_name.ensures made.content made.synced made.unfailed made.sure in
     record {
@@ -23,9 +26,13 @@ nodes-preserved g c =
           (made_on (seen_by J.content J.synced J.room J.faults J.sure) told c.args.program.now c.in-Some.node.now c.in-Some.after.now c.args.nodes.now c.nodes.made c.in-Ok.journal one
           (subst (λ ns. (js : List JournalModel) → AreNew told c.args.program.now ns js
           → AreNew told c.args.program.now c.args.nodes.now (map (seen_by J.content J.synced J.room J.faults J.sure) c.nodes.made ++ js)) parts inv.made) more new);
-      among = λ n there. inv.among n (subst (λ ns. Contains ns n) (sym parts) (behind_first c.in-Some.node.now n c.in-Some.after.now there));
       later = let before = inv.later in let now = made.cause.later in omega (arith, before, now);
       same = made.cause.success refl ∙ inv.same;
+      done = inv.done ++ c.in-Some.node.now ∷ [];
+      parts = append_assoc inv.done (c.in-Some.node.now ∷ []) c.in-Some.after.now ∙ ap (λ ns. inv.done ++ ns) (sym parts) ∙ inv.parts;
+      names =
+          made.made ∙ ap (λ k. with_name k c.node_name.result.now) inv.names
+          ∙ named_one c.args.program.now (M.seen c.args.journals.now).made inv.done c.in-Some.node.now c.node_name.result.now c.node_name.ensures;
       kept = made.kept ∙ inv.kept;
       told = made.told ∙ inv.told;
     }
@@ -36,11 +43,68 @@ returns-clause-made g c =
     let none : length c.nodes.rest.now ≡ 0 = search (rules, c.in_default.ensures.cases) in
     made_all (seen_by J.content J.synced J.room J.faults J.sure) _ c.args.program.now c.nodes.rest.now c.args.nodes.now c.nodes.made (nil_from_length c.nodes.rest.now none) c.nodes.invariant.made
 
-pub returns-then-is_err-clause-wanting : goal.returns-then-is_err-clause-wanting
-returns-then-is_err-clause-wanting g c e = c.in-Ok.ensures.cause.success refl ∙ c.nodes.invariant.same
+pub nodes-init : goal.nodes-init
+nodes-init g c =
+    let J = g.M.Item.Journal in
+    let M = g.M.Journals in
+    let none : c.new-made.result ≡ [] = search rules in
+    record {
+      made = λ more new.
+          subst (λ xs. AreNew (M.seen c.args.journals.now).may_fail c.args.program.now c.args.nodes.now (map (seen_by J.content J.synced J.room J.faults J.sure) xs ++ more)) (sym none) new;
+      later = omega arith;
+      same = refl;
+      done = [];
+      parts = refl;
+      names = more_none (M.seen c.args.journals.now).made;
+      kept = refl;
+      told = refl;
+    }
 
-pub returns-in-Err-Memory-clause-wanting : goal.returns-in-Err-Memory-clause-wanting
-returns-in-Err-Memory-clause-wanting g c e = c.in-Err-Memory.ensures.cause.memory (ap Err c.in-Err-Memory.field-0-is) ∙ c.nodes.invariant.same
+pub returns-clause-all : goal.returns-clause-all
+returns-clause-all g c =
+    let M = g.M.Journals in
+    let inv = c.nodes.invariant in
+    let none : length c.nodes.rest.now ≡ 0 = search (rules, c.in_default.ensures.cases) in
+    let parts : inv.done ≡ c.args.nodes.now = sym (append-nil inv.done) ∙ ap (λ ns. inv.done ++ ns) (sym (nil_from_length c.nodes.rest.now none)) ∙ inv.parts in
+    inv.names ∙ ap (λ ns. with_more (M.seen c.args.journals.now).made (map (node_text c.args.program.now) ns)) parts
+
+pub returns-then-is_err-clause-failed : goal.returns-then-is_err-clause-failed
+returns-then-is_err-clause-failed g c =
+    let M = g.M.Journals in
+    let inv = c.nodes.invariant in
+    let parts : c.nodes.rest.now ≡ c.in-Some.node.now ∷ c.in-Some.after.now = search rules in
+    let made = c.in-Ok.ensures in
+    some_made c.args.program.now c.args.nodes.now (M.seen c.args.journals.now) (M.seen c.make.new.self) (inv.done ++ c.in-Some.node.now ∷ []) c.in-Some.after.now
+    (append_assoc inv.done (c.in-Some.node.now ∷ []) c.in-Some.after.now ∙ ap (λ ns. inv.done ++ ns) (sym parts) ∙ inv.parts)
+    (made.made ∙ ap (λ k. with_name k c.node_name.result.now) inv.names
+    ∙ named_one c.args.program.now (M.seen c.args.journals.now).made inv.done c.in-Some.node.now c.node_name.result.now c.node_name.ensures)
+    (made.cause.success refl ∙ inv.same)
+
+pub returns-in-Err-Memory-clause-failed : goal.returns-in-Err-Memory-clause-failed
+returns-in-Err-Memory-clause-failed g c =
+    let M = g.M.Journals in
+    let inv = c.nodes.invariant in
+    let made = c.in-Err-Memory.ensures in
+    some_made c.args.program.now c.args.nodes.now (M.seen c.args.journals.now) (M.seen c.make.new.self) inv.done c.nodes.rest.now inv.parts (made.unmade ∙ inv.names)
+    (made.cause.memory (ap Err c.in-Err-Memory.field-0-is) ∙ inv.same)
+
+pub returns-in-Err-Failed-clause-failed : goal.returns-in-Err-Failed-clause-failed
+returns-in-Err-Failed-clause-failed g c =
+    let M = g.M.Journals in
+    let inv = c.nodes.invariant in
+    let parts : c.nodes.rest.now ≡ c.in-Some.node.now ∷ c.in-Some.after.now = search rules in
+    let made = c.in-Err-Failed.ensures in
+    let failed = ap Err c.in-Err-Failed.field-0-is in
+    record {
+      before = inv.done;
+      behind = c.in-Some.after.now;
+      parts = sym (ap (λ ns. inv.done ++ ns) (sym parts) ∙ inv.parts);
+      made = made.unmade ∙ inv.names;
+      rose = subst (λ n. Rose n (M.seen c.make.new.self).faults) inv.same (made.cause.failed failed);
+      possible = λ cannot.
+          made.never (subst (λ t. CannotFail t c.node_name.result.now) (sym inv.told)
+          (subst (CannotFail (M.seen c.args.journals.now).may_fail) (sym c.node_name.ensures) cannot)) failed;
+    }
 
 pub returns-clause-same : goal.returns-clause-same
 returns-clause-same g c = c.nodes.invariant.same
