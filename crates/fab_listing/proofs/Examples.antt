@@ -7,7 +7,7 @@ use Rattle.fab_tree.specs.declared.resolved.Principal.{Principal}
 use Rattle.fab_tree.specs.declared.resolved.Resolved.{Resolved}
 use Rattle.fab_rights.specs.Computed.{has_bit}
 use Rattle.fab_listing.specs.Listing.{listing, node_count}
-use Rattle.fab_listing.specs.Named.{are_node_names, is_named, is_node_name}
+use Rattle.fab_front.specs.Named.{are_node_names, is_named, is_node_name}
 
 -- ---- a program: the principal P, then the worker w, the store s and the hostile worker h
 

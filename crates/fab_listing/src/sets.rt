@@ -6,7 +6,7 @@ ghost use Rattle.fab_language.specs.Names.{is_hostile as is_hostile_role};
 ghost use Rattle.fab_language.specs.Words.{has_number};
 ghost use Rattle.fab_labelling.specs.Placement.{role_of};
 ghost use Rattle.fab_rights.specs.Computed.{has_bit};
-ghost use Rattle.fab_listing.specs.Named.{are_node_names, is_named, is_node_name};
+ghost use Rattle.fab_front.specs.Named.{are_node_names, is_named, is_node_name};
 
 use fab_base::Text;
 use fab_places::principal_of;

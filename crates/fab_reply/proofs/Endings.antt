@@ -4,18 +4,22 @@ use Rattle.std.specs.Io.KnownBytes.{Appends, Keeps, IsAtEnd, Consumes}
 use Rattle.fab_base.specs.declared.limit.What.TheVariants.{Bytes}
 use Rattle.fab_command.specs.declared.command.Command.{Command}
 use Rattle.fab_command.specs.declared.command.Command.TheVariants.{Check, Evaluate, Flows, Format, Replay, Run, View}
-use Rattle.fab_reply.specs.declared.status.Status.{Status}
-use Rattle.fab_reply.specs.declared.status.Status.TheVariants.{Ok, Usage, ReadFault, WriteFault, Memory, Syntax, Limit, Name, Label as Labelled, NotEnabled, JournalFault}
-use Rattle.fab_reply.specs.declared.front.Outcome.TheVariants as outcome
-use Rattle.fab_reply.specs.Front.{IsFront, IsTooLong}
-use Rattle.fab_reply.specs.Reply.{Answers, one_reply, interrupted, ran, in_run, before, sound, faulty, IsNoRefusal, Interrupted, IsComplete, IsJournalFault, Ran, Replies, usage, syntax, limit, formatted, misnamed, mislabelled, checked, evaluated, unlabelled, flow, unnamed, replayed, barred}
-use Rattle.fab_reply.specs.Reply.{AreCut, cut_short, untouched, AreLeft, JournalsAre, RepliesInPart, IsReply, IsInput, unasked, read, RepliesWith, Ends, ComesTo, SpeaksOfText, line, what_word}
-use Rattle.fab_reply.specs.Replays.{Makers, MakesRuns}
-use Rattle.fab_reply.proofs.Answering.{short}
-use Rattle.fab_reply.proofs.Fronts.{one_of_long}
+use Rattle.fab_front.specs.declared.status.Status.{Status}
+use Rattle.fab_front.specs.declared.status.Status.TheVariants.{Ok, Usage, ReadFault, WriteFault, Memory, Syntax, Limit, Name, Label as Labelled, NotEnabled, JournalFault}
+use Rattle.fab_front.specs.declared.texts.Outcome.TheVariants as outcome
+use Rattle.fab_front.specs.Front.{IsFront, IsTooLong}
+use Rattle.fab_front.specs.Lines.{line, what_word}
+use Rattle.fab_reply.specs.Reply.{Answers, one_reply, interrupted, ran, in_run, before, sound, faulty, IsNoRefusal, Interrupted, IsComplete, IsJournalFault, Ran, Replies, usage, said, replayed, barred}
+use Rattle.fab_reply.specs.Reply.{AreCut, cut_short, untouched, AreLeft, JournalsAre, RepliesInPart, IsReply, IsInput, unasked, read, RepliesWith, Ends, ComesTo, SpeaksOfText}
+use Rattle.fab_front.specs.Refused.{syntax, limit, misnamed, unknown, mislabelled}
+use Rattle.fab_answers.specs.Says.{MakesRuns, Says, refused, formatted, checked, evaluated, flow}
+use Rattle.fab_answers.proofs.Saying.{limit_said}
+use Rattle.fab_reply.specs.Replays.{Makers}
+use Rattle.fab_front.proofs.Accepting.{short}
+use Rattle.fab_front.proofs.Fronts.{one_of_long}
 use Rattle.fab_reply.specs.Headline.{Headline, IsPartFor, IsWholeFor}
 use Rattle.fab_reply.proofs.Replaying.{done_headline, fault_headline, no_fault, replay_unfailed}
-use Rattle.fab_reply.proofs.Replying.{limit_reply, no_reply, usage_reply}
+use Rattle.fab_reply.proofs.Replying.{no_reply, said_reply, usage_reply}
 use Rattle.fab_reply.proofs.Wishes.{runs_by}
 
 all_some : {A : Type 0} {P : A → Type 0} (o : Option A) → ((x : A) → P x) → IfSome o P
@@ -30,7 +34,7 @@ some_more (Some x) f h = f x h
 
 -- a reply to a text that is too long
 long_reply : {command : Command} {text : List ℕ} → IsTooLong text → IsReply (Some command) text (Limit Bytes) (line (codes "limit " ++ what_word Bytes))
-long_reply h = limit_reply (one_of_long h)
+long_reply h = said_reply (limit_said (one_of_long h))
 
 reply_of_long : {command : Command} {text reply : List ℕ} {status : Status} (more : List ℕ) → length text ≡ 4194305 → IsReply (Some command) text status reply → IsReply (Some command) (text ++ more) status reply
 reply_of_long {command = command} {text = text} {reply = reply} more l r =
@@ -218,11 +222,23 @@ module _ (command : Option Command) (l l' w w' : Option (List ℕ)) (old new : M
   usage_comes (JournalFault node) e f none = as_usage none e
 
   -- and only there
+  not_usage : {asked : Command} {text reply : List ℕ} {s : Status} → Says asked text s reply → s ≡ Usage → ⊥
+  not_usage (refused (syntax g)) h = absurd (cc)
+  not_usage (refused (limit g)) h = absurd (cc)
+  not_usage (refused (misnamed asks g k)) h = absurd (cc)
+  not_usage (refused (unknown lacks g k)) h = absurd (cc)
+  not_usage (refused (mislabelled asks g k m)) h = absurd (cc)
+  not_usage (formatted g) h = absurd (cc)
+  not_usage (checked g k m) h = absurd (cc)
+  not_usage (evaluated g k m) h = absurd (cc)
+  not_usage (flow g k m n o) h = absurd (cc)
+
   nothing_asked : {asked : Option Command} {text reply : List ℕ} → Answers asked text Usage reply → asked ≡ None
   nothing_asked (one_reply r) = of_usage r.is
     where
       of_usage : {asked : Option Command} {text reply : List ℕ} → Replies asked text Usage reply → asked ≡ None
       of_usage usage = refl
+      of_usage (said x) = absurd (not_usage x refl)
   nothing_asked {asked = asked} {text = text} {reply = reply} (interrupted x) = elim x [ ]
   nothing_asked {asked = asked} {text = text} {reply = reply} (ran x) = elim x [ ]
 
@@ -241,19 +257,21 @@ module _ (command : Option Command) (l l' w w' : Option (List ℕ)) (old new : M
 
   -- ---- runs
 
+  said_no_fault : {asked : Command} {text reply : List ℕ} {s : Status} {node : ℕ} → Says asked text s reply → s ≡ JournalFault node → ⊥
+  said_no_fault (refused (syntax g)) h = absurd (cc)
+  said_no_fault (refused (limit g)) h = absurd (cc)
+  said_no_fault (refused (misnamed asks g k)) h = absurd (cc)
+  said_no_fault (refused (unknown lacks g k)) h = absurd (cc)
+  said_no_fault (refused (mislabelled asks g k m)) h = absurd (cc)
+  said_no_fault (formatted g) h = absurd (cc)
+  said_no_fault (checked g k m) h = absurd (cc)
+  said_no_fault (evaluated g k m) h = absurd (cc)
+  said_no_fault (flow g k m n o) h = absurd (cc)
+
   -- no reply has the status of a journal's fault
   no_journal_fault : {asked : Option Command} {text reply : List ℕ} {s : Status} {node : ℕ} → Replies asked text s reply → s ≡ JournalFault node → ⊥
   no_journal_fault usage h = absurd (cc)
-  no_journal_fault (syntax g) h = absurd (cc)
-  no_journal_fault (limit g) h = absurd (cc)
-  no_journal_fault (formatted g) h = absurd (cc)
-  no_journal_fault (misnamed c g k) h = absurd (cc)
-  no_journal_fault (mislabelled c g k m) h = absurd (cc)
-  no_journal_fault (checked g k m) h = absurd (cc)
-  no_journal_fault (evaluated g k m) h = absurd (cc)
-  no_journal_fault (unlabelled g k m) h = absurd (cc)
-  no_journal_fault (flow g k m n o) h = absurd (cc)
-  no_journal_fault (unnamed g k m) h = absurd (cc)
+  no_journal_fault (said x) h = said_no_fault x h
   no_journal_fault (replayed w g k m) h = absurd (cc)
   no_journal_fault (barred w g k m) h = absurd (cc)
 

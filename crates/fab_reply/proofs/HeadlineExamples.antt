@@ -14,9 +14,9 @@ use Rattle.fab_command.specs.declared.command.Telling.{Telling}
 use Rattle.fab_command.specs.declared.command.Telling.TheVariants as telling
 use Rattle.fab_replay.specs.Replays.{IsRunOver, events_of, first_mark, moves_of, report_of, summary_of_run}
 use Rattle.fab_replay.specs.declared.replayed.Replayed.TheVariants as replays
-use Rattle.fab_reply.specs.declared.front.Outcome.TheVariants as outcome
-use Rattle.fab_reply.specs.declared.status.Status.TheVariants as status
-use Rattle.fab_reply.specs.Front.{Front}
+use Rattle.fab_front.specs.declared.texts.Outcome.TheVariants as outcome
+use Rattle.fab_front.specs.declared.status.Status.TheVariants as status
+use Rattle.fab_front.specs.Front.{Front}
 use Rattle.fab_reply.specs.Headline.{IsPartFor, IsWholeFor}
 use Rattle.fab_reply.specs.Replays.{RunsTo, given_of}
 use Rattle.fab_reply.specs.Reply.{IsComplete}

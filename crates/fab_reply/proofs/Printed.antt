@@ -17,8 +17,8 @@ use Rattle.fab_replay.specs.declared.replayed.Wanted.{Wanted}
 use Rattle.fab_replay.specs.declared.replayed.Wanted.TheVariants.{Report, Run as ByNodes, View as Viewed}
 use Rattle.fab_shown.specs.Shown.{report_of}
 use Rattle.fab_shown.proofs.Shown.{read_back}
-use Rattle.fab_reply.specs.declared.front.Outcome.TheVariants as outcome
-use Rattle.fab_reply.specs.Front.{Front, whole}
+use Rattle.fab_front.specs.declared.texts.Outcome.TheVariants as outcome
+use Rattle.fab_front.specs.Front.{Front, whole}
 use Rattle.fab_reply.specs.Headline.{IsOfFault, IsOfSchedule, IsPartFor, IsWholeFor}
 use Rattle.fab_reply.specs.Printed.{AreReadBack, AreReadBackOf}
 use Rattle.fab_reply.specs.Replays.{Wants, given_of}

@@ -1,5 +1,5 @@
 -- What a run comes to, as a reply to a text, and that the headline holds of its report.
-use Rattle.std.proofs.Common.{◌≡◌, ◌≢◌, ◌⊎◌, inl, inr, ℕ, IsTrue, List, [], length, Option, Some, None, Result, Ok as Fine, Err, IfOk, OnErr, refl, sym, ap, ◌∙◌, subst, append-nil, arith}
+use Rattle.std.proofs.Common.{◌≡◌, ◌≢◌, ◌⊎◌, inl, inr, ℕ, IsTrue, List, [], length, Option, Some, None, Result, Ok as Fine, Err, OnErr, refl, sym, ap, ◌∙◌, subst, append-nil, arith}
 use Rattle.std.proofs.lemmas.List.{take_all}
 use Rattle.std.specs.Io.KnownBytes.{Appends, Keeps}
 use Rattle.fab_command.specs.declared.command.Command.{Command}
@@ -16,25 +16,19 @@ use Rattle.fab_replay.specs.declared.replayed.Replayed.TheVariants as replays
 use Rattle.fab_replay.specs.declared.replayed.Wanted.{Wanted}
 use Rattle.fab_replay.specs.declared.replayed.Wanted.TheVariants.{Report, Run as ByNodes, View as Viewed}
 use Rattle.fab_replay.specs.Kept.{IsCutShort, IsOfRun, IsPossible, IsReplayed, OfRun, with_more}
-use Rattle.fab_reply.specs.declared.front.Outcome.TheVariants as outcome
-use Rattle.fab_reply.specs.declared.status.Status.{Status}
-use Rattle.fab_reply.specs.declared.status.Status.TheVariants.{Ok, JournalFault}
-use Rattle.fab_reply.specs.Front.{Front, IsFront}
+use Rattle.fab_front.specs.declared.texts.Outcome.TheVariants as outcome
+use Rattle.fab_front.specs.declared.status.Status.{Status}
+use Rattle.fab_front.specs.declared.status.Status.TheVariants.{Ok, JournalFault}
+use Rattle.fab_front.specs.Front.{Front, IsFront}
 use Rattle.fab_world.specs.Machine.{Move}
 use Rattle.fab_node.specs.Standing.{GivenModel}
 use Rattle.fab_replay.specs.Replays.{IsFaulty, is_scheduled, text_of as text_by}
 use Rattle.fab_reply.specs.Headline.{Headline, IsPartFor, IsWholeFor}
-use Rattle.fab_reply.specs.Reading.{ReadsText}
+use Rattle.fab_front.specs.Reading.{ReadsText}
 use Rattle.fab_reply.specs.Replays.{Makers, Wants, given_of}
 use Rattle.fab_reply.specs.Reply.{Answers, one_reply, interrupted, ran, in_run, before, sound, faulty, AreCut, cut_short, untouched, AreLeft, IsCut, cut, unmade, IsInput, read, IsJournalFault, IsNotEnabled, IsReplay, status_of, text_of}
 use Rattle.fab_reply.proofs.Replying.{barred_reply, replay_reply}
 use Rattle.fab_reply.proofs.Wishes.{part_for, whole_for, wished}
-
--- what is so of a status and a text is so of what was answered
-pub if_told : {E : Type 0} (P : Status → List ℕ → Type 0) (s : Status) (l : List ℕ) (o : Result (Status × List ℕ) E) → IfOk o (λ r. (r.0 ≡ s) × (r.1 ≡ l)) → P s l
-    → IfOk o (λ r. P r.0 r.1)
-if_told P s l (Fine r) h w = subst (λ x. P x r.1) (sym h.0) (subst (λ x. P s x) (sym h.1) w)
-if_told P s l (Err e) h w = tt
 
 -- where nothing was told, that has a cause
 pub unless_told : {A E P Q R : Type 0} (o : Result A E) → (P → R → Q) → OnErr o P → R → OnErr o Q

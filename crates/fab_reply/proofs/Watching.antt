@@ -21,7 +21,7 @@ use Rattle.fab_tree.specs.declared.resolved.Resolved.{Resolved}
 use Rattle.fab_tree.specs.Limits.{first_passed}
 use Rattle.fab_language.specs.Faults.{faults}
 use Rattle.fab_flows.proofs.Declared.{has_principals}
-use Rattle.fab_listing.specs.Named.{are_node_names, is_named}
+use Rattle.fab_front.specs.Named.{are_node_names, is_named}
 use Rattle.fab_release.specs.Bundles.{public_part}
 use Rattle.fab_tables.proofs.LimitLemmas.{is_within}
 use Rattle.fab_views.specs.Views.{IsSeenBy}

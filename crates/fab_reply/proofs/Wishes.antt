@@ -1,5 +1,5 @@
 -- What a command wants of runs is one text.
-use Rattle.std.proofs.Common.{◌≡◌, ◌≢◌, ℕ, zero, suc, ◌+◌, ◌<◌, ◌≤◌, Bool, IsTrue, not, if◌then◌else◌, List, ◌∷◌, filter, Option, Some, None, refl, sym, ap, subst, ◌∙◌, arith}
+use Rattle.std.proofs.Common.{◌≡◌, ◌≢◌, ℕ, zero, suc, ◌+◌, ◌<◌, ◌≤◌, Bool, IsTrue, not, if◌then◌else◌, List, ◌∷◌, filter, Option, Some, None, refl, sym, ap, subst, ◌∙◌, arith, true≢false}
 use Rattle.std.specs.List.{range_with_len}
 use Rattle.std.specs.Prelude.{is_some}
 use Rattle.std.proofs.lemmas.List.Sums.{count_by-le-length}
@@ -24,8 +24,9 @@ use Rattle.fab_replay.specs.declared.replayed.Wanted.TheVariants.{Report, Run as
 use Rattle.fab_replay.specs.Replays.{HasNoFault, IsFaulty, IsWhole, Tells, is_scheduled, text_of, told_of}
 use Rattle.fab_replay.proofs.Told.{stopped_by, stopped_of, whole_by, whole_of}
 use Rattle.fab_reply.specs.Headline.{IsPartFor, IsWholeFor}
-use Rattle.fab_reply.specs.Replays.{AreNamed, CanMake, IsSetOf, MakesRuns, Wants, given_of}
-use Rattle.fab_reply.specs.Reply.{AsksLabels, AsksNames}
+use Rattle.fab_front.specs.Refused.{AsksLabels, AsksNames, LacksName}
+use Rattle.fab_answers.specs.Says.{MakesRuns}
+use Rattle.fab_reply.specs.Replays.{AreNamed, CanMake, IsSetOf, Wants, given_of}
 
 -- ---- a listing looks at the nodes of a program alone
 
@@ -101,6 +102,11 @@ wished P replay run view Format u h = absurd h
 -- it makes runs
 pub runs_by : (s : Start) (c : Command) (u : Wanted) → Wants s c u → MakesRuns (Some c)
 runs_by s c u h = wished (λ d v. MakesRuns (Some d)) tt (λ x. tt) (λ names nodes seen part named. tt) c u h
+
+-- and all its words name something
+pub names_found : (s : Start) (c : Command) {A : Type 0} (u : Wanted) → Wants s c u → LacksName c s → A
+names_found s c {A} u h =
+    wished (λ d v. LacksName d s → A) (λ l. absurd l) (λ x l. absurd l) (λ names nodes seen part named l. absurd (true≢false (sym named.names_are ∙ l))) c u h
 
 -- without `run` all that is wanted is of the schedule's run
 pub by_hand : (asked : Option Command) → ((x : Telling) → asked ≢ Some (Run x)) → CanMake is_scheduled asked

@@ -15,9 +15,9 @@ use Rattle.fab_replay.specs.declared.replayed.Wanted.{Wanted}
 use Rattle.fab_replay.specs.Replays.{IsRunOver, StopsIn, events_of, first_mark, moves_of, text_of}
 use Rattle.fab_replay.specs.Integral.{IsExcluded, IsIntegral}
 use Rattle.fab_replay.specs.Isolated.{IsIsolated}
-use Rattle.fab_reply.specs.declared.front.Outcome.TheVariants as outcome
-use Rattle.fab_reply.specs.Front.{Front}
-use Rattle.fab_reply.specs.Reading.{ReadsText}
+use Rattle.fab_front.specs.declared.texts.Outcome.TheVariants as outcome
+use Rattle.fab_front.specs.Front.{Front}
+use Rattle.fab_front.specs.Reading.{ReadsText}
 use Rattle.fab_reply.specs.Replays.{Wants, given_of}
 
 -- the run of the schedule, or up to the event in which this node's journal failed

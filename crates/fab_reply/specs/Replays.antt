@@ -1,5 +1,5 @@
 -- What runs of a bundle come to, and what they leave of the journals.
-use Rattle.std.specs.Prelude.{◌≡◌, ◌<◌, ◌||◌, ℕ, Bool, true, false, IsTrue, List, Option, Some, None}
+use Rattle.std.specs.Prelude.{◌≡◌, ◌<◌, ◌||◌, ℕ, Bool, true, IsTrue, List, Option, Some, None}
 use Rattle.fab_tree.specs.declared.start.Start.{Start}
 use Rattle.fab_language.specs.Numbers.{resolved}
 use Rattle.fab_rights.specs.declared.rights.Rights.{Rights}
@@ -14,7 +14,7 @@ use Rattle.fab_core.specs.Starts.{given_by}
 use Rattle.fab_command.specs.declared.command.Command.{Command}
 use Rattle.fab_command.specs.declared.command.Telling.{Telling}
 use Rattle.fab_command.specs.declared.command.Command.TheVariants.{Check, Evaluate, Flows, Format, Replay, Run, View}
-use Rattle.fab_listing.specs.Named.{are_node_names, is_named}
+use Rattle.fab_front.specs.Named.{are_node_names, is_named}
 use Rattle.fab_replay.specs.declared.replayed.Replayed.{Replayed}
 use Rattle.fab_replay.specs.declared.replayed.Wanted.{Wanted}
 use Rattle.fab_replay.specs.declared.replayed.Wanted.TheVariants.{Report, Run as ByNodes, View as Viewed}
@@ -68,18 +68,6 @@ CanMake makes (Some command) = (s : Start) (wanted : Wanted) → Wants s command
 abbrev pub IsSetOf : Start → Command → ℕ → Type 0
 IsSetOf s (View names) nodes = AreNamed s names nodes
 IsSetOf s _ nodes = Unit {0}
-
--- a word of the command names no node
-abbrev pub LacksNode : Start → Command → Type 0
-LacksNode s (View names) = are_node_names (resolved s) names ≡ false
-LacksNode s _ = ⊥
-
--- `replay`, `run` and `view` make runs
-abbrev pub MakesRuns : Option Command → Type 0
-MakesRuns (Some Replay) = Unit {0}
-MakesRuns (Some (Run x)) = Unit {0}
-MakesRuns (Some (View names)) = Unit {0}
-MakesRuns _ = ⊥
 
 -- What those tell who make journals: the nodes whose journals may ever fail, the journals that were kept, and how often they have failed.
 pub record Makers : Type 0 where

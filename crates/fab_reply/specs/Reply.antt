@@ -1,169 +1,34 @@
 -- What the program replies.
-use Rattle.std.specs.Prelude.{◌≡◌, ◌≢◌, ◌⊎◌, ℕ, true, false, IsTrue, List, [], ◌∷◌, ◌++◌, length, Option, Some, None, find, option_map, slice_get, codes}
-use Rattle.std.specs.Fmt.{decimal}
+use Rattle.std.specs.Prelude.{◌≡◌, ◌≢◌, ◌⊎◌, ℕ, IsTrue, List, [], Option, Some, None, codes}
 use Rattle.std.specs.Io.KnownBytes.{Appends, Keeps}
-use Rattle.std.specs.Str.{bytes_eq}
-use Rattle.fab_base.specs.declared.label.Label.{Label}
-use Rattle.fab_base.specs.declared.limit.What.{What}
 use Rattle.fab_base.specs.declared.limit.What.TheVariants as w
 use Rattle.fab_tree.specs.declared.start.Start.{Start}
-use Rattle.fab_tree.specs.Print.{canonical}
-use Rattle.fab_language.specs.declared.rule.Fault.{Fault}
-use Rattle.fab_language.specs.declared.rule.NameRule.{NameRule}
-use Rattle.fab_language.specs.declared.rule.NameRule.TheVariants as rule
-use Rattle.fab_language.specs.Evaluation.{evaluation_text}
-use Rattle.fab_language.specs.Faults.{faults, IsFirst}
-use Rattle.fab_language.specs.Flows.{FlowReply, principal_text}
-use Rattle.fab_language.specs.Words.{text_or}
 use Rattle.fab_language.specs.Numbers.{resolved}
-use Rattle.fab_tree.specs.declared.resolved.Resolved.{Resolved}
-use Rattle.fab_labelling.specs.declared.rule.LabelRule.{LabelRule}
-use Rattle.fab_labelling.specs.declared.rule.LabelRule.TheVariants as labels
-use Rattle.fab_labelling.specs.declared.rule.Refusal.{Refusal}
-use Rattle.fab_labelling.specs.declared.rule.Side.{Side}
-use Rattle.fab_labelling.specs.declared.rule.Side.TheVariants as side
-use Rattle.fab_labelling.specs.Claims.{IsWellLabelled}
-use Rattle.fab_labelling.specs.Refusals.{IsFirstRefusal}
-use Rattle.fab_reply.specs.declared.front.Outcome.{Outcome}
-use Rattle.fab_reply.specs.declared.front.Outcome.TheVariants as outcome
-use Rattle.fab_reply.specs.Front.{Front, IsFront}
-use Rattle.fab_reply.specs.Reading.{ReadsText, WritesFront}
+use Rattle.fab_front.specs.declared.texts.Outcome.{Outcome}
+use Rattle.fab_front.specs.declared.texts.Outcome.TheVariants as outcome
+use Rattle.fab_front.specs.Front.{Front, IsFront}
+use Rattle.fab_front.specs.Lines.{barred_line, line}
+use Rattle.fab_answers.specs.Says.{Says}
+use Rattle.fab_front.specs.Reading.{ReadsText, WritesFront}
 use Rattle.fab_reply.specs.Replays.{Makers, ReplaysTo, RunsTo, Wants, given_of}
 use Rattle.fab_rights.specs.declared.rights.Rights.{Rights}
 use Rattle.fab_settings.specs.Settings.{IsAcceptedWith}
 use Rattle.fab_core.specs.Cores.{is_honest}
 use Rattle.fab_replay.specs.declared.replayed.Replayed.{Replayed}
 use Rattle.fab_replay.specs.declared.replayed.Replayed.TheVariants as replays
-use Rattle.fab_listing.specs.Named.{are_node_names}
 use Rattle.fab_replay.specs.declared.replayed.Wanted.{Wanted}
 use Rattle.fab_replay.specs.Kept.{IsCutShort, IsReplayed, IsPossible}
-use Rattle.fab_reply.specs.declared.status.Status.{Status}
-use Rattle.fab_reply.specs.declared.status.Status.TheVariants.{Ok, Usage, ReadFault, WriteFault, Memory, Syntax, Name, Label as Labelled, Limit, NotEnabled, JournalFault}
+use Rattle.fab_front.specs.declared.status.Status.{Status}
+use Rattle.fab_front.specs.declared.status.Status.TheVariants.{Ok, Usage, ReadFault, WriteFault, Memory, Syntax, Name, Label as Labelled, Limit, NotEnabled, JournalFault}
 use Rattle.fab_command.specs.declared.command.Command.{Command}
 use Rattle.fab_command.specs.declared.command.Telling.{Telling}
-use Rattle.fab_command.specs.declared.command.Command.TheVariants.{Check, Evaluate, Flows, Format, Replay, Run, View}
+use Rattle.fab_command.specs.declared.command.Command.TheVariants.{Replay, Run, View}
 
--- a line of a text
-abbrev pub line : List ℕ → List ℕ
-line letters = letters ++ 10 ∷ []
-
-abbrev pub what_word : What → List ℕ
-what_word w.Bytes = codes "bytes"
-what_word w.Depth = codes "depth"
-what_word w.Principals = codes "principals"
-what_word w.Nodes = codes "nodes"
-what_word w.Labels = codes "labels"
-what_word w.Classes = codes "classes"
-what_word w.Fields = codes "fields"
-what_word w.Methods = codes "methods"
-what_word w.Parameters = codes "parameters"
-what_word w.Locals = codes "locals"
-what_word w.Sites = codes "sites"
-what_word w.Roots = codes "roots"
-what_word w.Requests = codes "requests"
-what_word w.Posts = codes "posts"
-what_word w.Crashes = codes "crashes"
-what_word w.Events = codes "events"
-what_word w.Cache = codes "cache"
-
-abbrev pub rule_word : NameRule → List ℕ
-rule_word rule.Unknown = codes "unknown"
-rule_word rule.Doubled = codes "doubled"
-rule_word rule.Node = codes "node"
-rule_word rule.Arity = codes "arity"
-rule_word rule.Typing = codes "type"
-
--- the line of a name that is refused at a place
-abbrev pub name_line : NameRule → ℕ → List ℕ
-name_line x at = line (codes "name " ++ rule_word x ++ codes " at " ++ decimal at)
-
-abbrev pub label_rule_word : LabelRule → List ℕ
-label_rule_word labels.Placement = codes "placement"
-label_rule_word labels.Begin = codes "begin"
-label_rule_word labels.Atomic = codes "atomic"
-label_rule_word labels.Write = codes "write"
-label_rule_word labels.Access = codes "access"
-label_rule_word labels.Fail = codes "fail"
-label_rule_word labels.Declassify = codes "declassify"
-label_rule_word labels.Endorse = codes "endorse"
-label_rule_word labels.Authority = codes "authority"
-
--- the name of a label or of a principal, `none` for a failure label that isn't there
-abbrev pub side_text : Resolved → Side → List ℕ
-side_text r (side.Label n) = text_or [] (option_map (λ x. x.name.text) (slice_get r.labels n))
-side_text r (side.Principal n) = principal_text r n
-side_text r side.Absent = codes "none"
-
--- the line of what a rule of labels refuses
-abbrev pub label_line : Resolved → Refusal → List ℕ
-label_line r x = line (codes "label " ++ label_rule_word x.rule ++ codes " at " ++ decimal x.at
-    ++ codes " from " ++ side_text r x.source ++ codes " to " ++ side_text r x.target)
-
--- the line of an event of the schedule that may not come, by its number from 1
-abbrev pub barred_line : ℕ → List ℕ
-barred_line event = line (codes "not enabled " ++ decimal event)
-
--- every command but `fmt` asks for the rules of names and types
-abbrev pub AsksNames : Command → Type 0
-AsksNames Check = Unit {0}
-AsksNames Evaluate = Unit {0}
-AsksNames Replay = Unit {0}
-AsksNames (Run x) = Unit {0}
-AsksNames (View names) = Unit {0}
-AsksNames (Flows a b) = Unit {0}
-AsksNames Format = ⊥
-
--- `check`, `eval`, `replay`, `run` and `view` ask for the rules of labels, `view` behind the names of its nodes
-abbrev pub AsksLabels : Command → Start → Type 0
-AsksLabels Check s = Unit {0}
-AsksLabels Evaluate s = Unit {0}
-AsksLabels Replay s = Unit {0}
-AsksLabels (Run x) s = Unit {0}
-AsksLabels (View names) s = are_node_names (resolved s) names ≡ true
-AsksLabels (Flows a b) s = ⊥
-AsksLabels Format s = ⊥
-
--- the label of a word of the command line
-abbrev pub label_of : Start → List ℕ → Option Label
-label_of s word = option_map (λ x. x.label) (find (λ x. bytes_eq x.name.text word) (resolved s).labels)
-
--- one of two words is no label
-abbrev pub LacksLabel : Start → List ℕ → List ℕ → Type 0
-LacksLabel s a b = (label_of s a ≡ None) ⊎ (label_of s b ≡ None)
-
--- Replies command text status written: the status, and what is written, for what is asked and the text that there
--- was. A refusal of the text is the same for every command, and so is one of its names for every command that asks
--- for them.
+-- Replies command text status written: the status, and what is written, for what is asked and the text that there was: what is said of it without a
+-- run; what is wanted of the schedule's run, or the first of its events that may not come.
 pub data Replies : Option Command → List ℕ → Status → List ℕ → Type 0 where
   usage : {text : List ℕ} → Replies None text Usage (line (codes "usage"))
-  syntax : {command : Command} {text : List ℕ} {at : ℕ}
-      → Front text (outcome.Syntax at) → Replies (Some command) text (Syntax at) (line (codes "syntax at " ++ decimal at))
-  limit : {command : Command} {text : List ℕ} {what : What}
-      → Front text (outcome.Limit what) → Replies (Some command) text (Limit what) (line (codes "limit " ++ what_word what))
-  formatted : {text : List ℕ} {s : Start} → Front text (outcome.Bundle s) → Replies (Some Format) text Ok (canonical s)
-  misnamed : {command : Command} {text : List ℕ} {s : Start} {x : Fault}
-      → AsksNames command → Front text (outcome.Bundle s) → IsFirst (faults s) x
-      → Replies (Some command) text (Name x.rule x.at) (name_line x.rule x.at)
-  mislabelled : {command : Command} {text : List ℕ} {s : Start} {x : Refusal}
-      → AsksLabels command s → Front text (outcome.Bundle s) → faults s ≡ [] → IsFirstRefusal (resolved s) x
-      → Replies (Some command) text (Labelled x.rule x.at x.source x.target) (label_line (resolved s) x)
-  checked : {text : List ℕ} {s : Start}
-      → Front text (outcome.Bundle s) → faults s ≡ [] → IsWellLabelled (resolved s) → Replies (Some Check) text Ok (line (codes "ok"))
-  evaluated : {text : List ℕ} {s : Start}
-      → Front text (outcome.Bundle s) → faults s ≡ [] → IsWellLabelled (resolved s)
-      → Replies (Some Evaluate) text Ok (evaluation_text (resolved s))
-  -- a word that is no label is refused as a name behind the text's last byte
-  unlabelled : {a b text : List ℕ} {s : Start}
-      → Front text (outcome.Bundle s) → faults s ≡ [] → LacksLabel s a b
-      → Replies (Some (Flows a b)) text (Name rule.Unknown (length text)) (name_line rule.Unknown (length text))
-  flow : {a b text reply : List ℕ} {s : Start} {from to : Label}
-      → Front text (outcome.Bundle s) → faults s ≡ [] → label_of s a ≡ Some from → label_of s b ≡ Some to
-      → FlowReply (resolved s) from to reply → Replies (Some (Flows a b)) text Ok reply
-  -- so is one that names no node, before the rules of labels
-  unnamed : {names : List (List ℕ)} {text : List ℕ} {s : Start}
-      → Front text (outcome.Bundle s) → faults s ≡ [] → are_node_names (resolved s) names ≡ false
-      → Replies (Some (View names)) text (Name rule.Unknown (length text)) (name_line rule.Unknown (length text))
-  -- what is wanted of the schedule's run, or the first of its events that may not come
+  said : {command : Command} {text reply : List ℕ} {status : Status} → Says command text status reply → Replies (Some command) text status reply
   replayed : {command : Command} {wanted : Wanted} {text reply : List ℕ} {s : Start} {rights : Rights}
       → Wants s command wanted → Front text (outcome.Bundle s) → IsAcceptedWith s rights → ReplaysTo s rights wanted (replays.Done reply)
       → Replies (Some command) text Ok reply

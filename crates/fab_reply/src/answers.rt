@@ -1,126 +1,33 @@
-//! What each command replies to a text that has a bundle.
-ghost use Rattle.std.specs.Prelude.{◌≡◌, ◌≤◌, Some, None as Nothing, [], length, find, option_copied, IfOk, OnErr, MatchOption, MatchResult};
-ghost use Rattle.std.specs.Str.{bytes_eq};
+//! What each command that makes a run replies to a text that has a bundle.
+ghost use Rattle.std.specs.Prelude.{◌≡◌, ◌≤◌, Some, None as Nothing, [], IfOk, OnErr, MatchOption};
 ghost use Rattle.fab_tree.specs.Limits.{first_passed};
-ghost use Rattle.fab_language.specs.Faults.{faults, IsFirst};
+ghost use Rattle.fab_language.specs.Faults.{faults};
 ghost use Rattle.fab_language.specs.Numbers.{resolved as resolved_of};
-ghost use Rattle.fab_language.specs.declared.rule.NameRule.TheVariants.{Unknown};
-ghost use Rattle.fab_command.specs.declared.command.Command.TheVariants as asks;
-ghost use Rattle.fab_reply.specs.Front.{IsFront};
+ghost use Rattle.fab_front.specs.Front.{IsFront};
 ghost use Rattle.fab_tree.specs.declared.start.Start.{Start as AnyStart};
-ghost use Rattle.fab_reply.specs.Accepted.{IsAccepted};
-ghost use Rattle.fab_reply.specs.declared.accepted.Accepted.TheVariants.{Bundle as Whole};
-ghost use Rattle.fab_reply.specs.Replays.{CanMake, IsSetOf, LacksNode, Makers, MakesRuns, Wants, given_of};
+ghost use Rattle.fab_front.specs.Accepted.{IsAccepted};
+ghost use Rattle.fab_front.specs.Refused.{LacksName};
+ghost use Rattle.fab_front.specs.declared.accepted.Accepted.TheVariants.{Bundle as Whole};
+ghost use Rattle.fab_answers.specs.Says.{MakesRuns};
+ghost use Rattle.fab_reply.specs.Replays.{CanMake, IsSetOf, Makers, Wants, given_of};
 ghost use Rattle.fab_replay.specs.Courses.{IsCourse};
 ghost use Rattle.fab_replay.specs.Replays.{IsReady};
 ghost use Rattle.fab_rights.specs.declared.rights.Rights.{Rights as AnyRights};
 ghost use Rattle.fab_settings.specs.Settings.{IsAcceptedWith};
-ghost use Rattle.fab_reply.specs.Reply.{Answers, AreLeft, IsCut, IsNotEnabled, IsReply, label_line, name_line, status_of, text_of};
-ghost use Rattle.fab_reply.specs.declared.front.Outcome.TheVariants.{Bundle};
-ghost use Rattle.fab_reply.specs.declared.status.Status.TheVariants.{Label as Labelled, Name};
+ghost use Rattle.fab_reply.specs.Reply.{Answers, AreLeft, IsCut, IsNotEnabled, status_of, text_of};
+ghost use Rattle.fab_front.specs.declared.texts.Outcome.TheVariants.{Bundle};
 
-use crate::accepted::{Accepted, accept, named};
-use crate::lines::{barred_line, label_line, name_line};
-use crate::status::Status;
-use fab_base::{NoMemory, Seq, Text};
+use fab_base::{NoMemory, Seq};
 use fab_command::Command;
 use fab_core::Core;
 use fab_device::Journals;
-use fab_evaluation::evaluation;
-use fab_flows::flow_reply;
-use fab_labelling::Refusal;
-use fab_language::{Fault, NameRule};
+use fab_front::{Accepted, Status, accept, barred_line, mislabelled, named, refused, unknown};
 use fab_listing::{hostile_nodes, nodes_named};
-use fab_print::print_start;
 use fab_replay::{Course, Replayed, Wanted, make_run, view_into};
 use fab_setup::accepted_setup;
 use fab_tree::Start;
-use fab_tree::resolved::{NamedLabel, Resolved};
-use std::alloc::{AllocError, Global};
-
-/// What `fmt` replies to a text with this bundle.
-pub(crate) fn format(
-    alloc: Global,
-    text: &[u8],
-    start: &Start,
-) -> Result<(Status, Seq<u8>), NoMemory>
-    requires { IsFront text.now (Bundle start.now) }
-    ensures { IfOk result (λ r. IsReply (Some asks.Format) text.now r.0 r.1) }
-{
-    let _text = text;
-    let reply = print_start(alloc, start)?;
-    Ok((Status::Ok, reply))
-}
-
-/// The reply to a name that is refused.
-fn refused(alloc: Global, fault: Fault) -> Result<(Status, Seq<u8>), NoMemory>
-    ensures { IfOk result (λ r. (r.0 ≡ Name fault.rule fault.at) × (r.1 ≡ name_line fault.rule fault.at)) }
-{
-    let Fault { rule, at } = fault;
-    let reply = name_line(alloc, rule, at)?;
-    Ok((Status::Name { rule, at }, reply))
-}
-
-/// The reply to a label that is refused.
-fn mislabelled(
-    alloc: Global,
-    resolved: &Resolved,
-    refusal: Refusal,
-) -> Result<(Status, Seq<u8>), NoMemory>
-    ensures { IfOk result (λ r. (r.0 ≡ Labelled refusal.rule refusal.at refusal.source refusal.target) × (r.1 ≡ label_line resolved.now refusal)) }
-{
-    let reply = label_line(alloc, resolved, refusal)?;
-    let Refusal {
-        rule,
-        at,
-        source,
-        target,
-    } = refusal;
-    let status = Status::Label {
-        rule,
-        at,
-        source,
-        target,
-    };
-    Ok((status, reply))
-}
-
-/// What `check` replies to a text with this bundle.
-pub(crate) fn checked(
-    alloc: Global,
-    text: &[u8],
-    start: &Start,
-) -> Result<(Status, Seq<u8>), NoMemory>
-    requires { IsFront text.now (Bundle start.now) }
-    ensures { IfOk result (λ r. IsReply (Some asks.Check) text.now r.0 r.1) }
-{
-    let _text = text;
-    match accept(alloc, start)? {
-        Accepted::Bundle(_) => Ok((Status::Ok, Seq::from_slice(alloc, b"ok\n")?)),
-        Accepted::Misnamed(fault) => refused(alloc, fault),
-        Accepted::Mislabelled { resolved, refusal } => mislabelled(alloc, &resolved, refusal),
-    }
-}
-
-/// What `eval` replies to a text with this bundle.
-pub(crate) fn evaluate(
-    alloc: Global,
-    text: &[u8],
-    start: &Start,
-) -> Result<(Status, Seq<u8>), NoMemory>
-    requires { IsFront text.now (Bundle start.now) }
-    ensures { IfOk result (λ r. IsReply (Some asks.Evaluate) text.now r.0 r.1) }
-{
-    let _text = text;
-    match accept(alloc, start)? {
-        Accepted::Bundle(resolved) => {
-            let reply = evaluation(alloc, resolved)?;
-            Ok((Status::Ok, reply))
-        }
-        Accepted::Misnamed(fault) => refused(alloc, fault),
-        Accepted::Mislabelled { resolved, refusal } => mislabelled(alloc, &resolved, refusal),
-    }
-}
+use fab_tree::resolved::Resolved;
+use std::alloc::Global;
 
 /// The status and the text of what a run comes to.
 fn told(alloc: Global, answer: Replayed) -> Result<(Status, Seq<u8>), NoMemory>
@@ -143,7 +50,7 @@ fn told(alloc: Global, answer: Replayed) -> Result<(Status, Seq<u8>), NoMemory>
 /// The nodes that a command names, and the hostile ones; nothing where a word names no node.
 fn set_of(program: &Resolved, command: &Command) -> Option<u64>
     requires runs { MakesRuns (Some command.now) }
-    ensures { (s : AnyStart) → program.now ≡ resolved_of s → MatchOption result (LacksNode s command.now) (IsSetOf s command.now) }
+    ensures { (s : AnyStart) → program.now ≡ resolved_of s → MatchOption result (LacksName command.now s) (IsSetOf s command.now) }
 {
     match command {
         Command::View { nodes } => match nodes_named(program, nodes.as_slice()) {
@@ -213,21 +120,6 @@ fn run_of<C: Course<Core<M::Item>>, M: Journals>(
     told(alloc, answer)
 }
 
-/// The reply where a word of the command line names nothing: its place is behind the text's last byte.
-fn unknown(alloc: Global, text: &[u8]) -> Result<(Status, Seq<u8>), NoMemory>
-    requires { length text.now ≤ 4194304 }
-    ensures { IfOk result (λ r. (r.0 ≡ Name Unknown (length text.now)) × (r.1 ≡ name_line Unknown (length text.now))) }
-{
-    let at = text.len() as u32;
-    refused(
-        alloc,
-        Fault {
-            rule: NameRule::Unknown,
-            at,
-        },
-    )
-}
-
 /// What a command that makes a run, as `replay`, `run` and `view` do, replies to a text with this bundle.
 pub(crate) fn replayed<C: Course<Core<M::Item>>, M: Journals>(
     alloc: Global,
@@ -260,61 +152,6 @@ pub(crate) fn replayed<C: Course<Core<M::Item>>, M: Journals>(
         Accepted::Mislabelled { resolved, refusal } => match set_of(&resolved, command) {
             Some(_) => mislabelled(alloc, &resolved, refusal),
             None => unknown(alloc, text),
-        },
-    }
-}
-
-/// The label that a word of the command line names.
-fn label<'a>(start: &'a Resolved, word: &Text) -> Option<&'a NamedLabel>
-    ensures { option_copied result ≡ find (λ x. bytes_eq x.name.text word.now) start.now.labels }
-{
-    start
-        .labels
-        .as_slice()
-        .iter()
-        .find(|x| x.name.text.as_str() == word.as_str())
-}
-
-/// What `flows` replies to a text with this bundle.
-pub(crate) fn flows(
-    alloc: Global,
-    text: &[u8],
-    start: &Start,
-    from: &Text,
-    to: &Text,
-) -> Result<(Status, Seq<u8>), NoMemory>
-    requires { IsFront text.now (Bundle start.now) }
-    ensures { IfOk result (λ r. IsReply (Some (asks.Flows from.now to.now)) text.now r.0 r.1) }
-{
-    match named(alloc, start)? {
-        Ok(resolved) => flows_in(alloc, text, start, &resolved, from, to),
-        Err(fault) => refused(alloc, fault),
-    }
-}
-
-/// The same, with the bundle's numbers for names.
-fn flows_in(
-    alloc: Global,
-    text: &[u8],
-    start: &Start,
-    resolved: &Resolved,
-    from: &Text,
-    to: &Text,
-) -> Result<(Status, Seq<u8>), NoMemory>
-    requires front { IsFront text.now (Bundle start.now) }
-    requires right { faults start.now ≡ [] }
-    requires is { resolved.now ≡ resolved_of start.now }
-    ensures { IfOk result (λ r. IsReply (Some (asks.Flows from.now to.now)) text.now r.0 r.1) }
-{
-    let _start = start;
-    match label(resolved, from) {
-        None => unknown(alloc, text),
-        Some(one) => match label(resolved, to) {
-            None => unknown(alloc, text),
-            Some(other) => {
-                let reply = flow_reply(alloc, resolved, &one.label, &other.label)?;
-                Ok((Status::Ok, reply))
-            }
         },
     }
 }

@@ -5,17 +5,17 @@ ghost use Rattle.fab_base.specs.Faults.{Rose};
 ghost use Rattle.fab_replay.specs.Courses.{IsCourse};
 ghost use Rattle.fab_reply.specs.Headline.{Headline, IsPartFor, IsWholeFor};
 ghost use Rattle.fab_reply.specs.Reply.{AreCut, ComesTo, Ends, IsComplete, IsJournalFault, Replies, RepliesInPart};
-ghost use Rattle.fab_reply.specs.Replays.{CanMake, MakesRuns};
-ghost use Rattle.fab_reply.specs.declared.status.Status.{Status as AnyStatus};
-ghost use Rattle.fab_reply.specs.declared.status.Status.TheVariants.{Ok as Done, Usage, ReadFault, WriteFault, Memory, JournalFault};
+ghost use Rattle.fab_answers.specs.Says.{MakesRuns};
+ghost use Rattle.fab_reply.specs.Replays.{CanMake};
+ghost use Rattle.fab_front.specs.declared.status.Status.{Status as AnyStatus};
+ghost use Rattle.fab_front.specs.declared.status.Status.TheVariants.{Ok as Done, Usage, ReadFault, WriteFault, Memory, JournalFault};
 
 use crate::command::replied;
-use crate::status::Status;
-use crate::writing::write_all;
 use fab_base::{Sink, SinkError};
 use fab_command::Command;
 use fab_core::Core;
 use fab_device::Journals;
+use fab_front::{Status, write_all};
 use fab_replay::Course;
 use std::alloc::{AllocError, Global};
 

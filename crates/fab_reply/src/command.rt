@@ -3,25 +3,23 @@ ghost use Rattle.std.specs.Prelude.{◌≡◌, ◌≢◌, ◌⊎◌, ◌≤◌, 
 ghost use Rattle.std.specs.Io.KnownBytes.{Keeps, IsAtEnd};
 ghost use Rattle.fab_base.specs.Faults.{Rose};
 ghost use Rattle.fab_reply.specs.Headline.{Headline, IsPartFor, IsWholeFor};
-ghost use Rattle.fab_reply.specs.Reply.{Answers, AreCut, ComesTo, Ends, IsCut, IsComplete, IsInput, IsJournalFault, JournalsAre, Replies, RepliesInPart, SpeaksOfText, line};
+ghost use Rattle.fab_front.specs.Lines.{line};
+ghost use Rattle.fab_reply.specs.Reply.{Answers, AreCut, ComesTo, Ends, IsCut, IsComplete, IsInput, IsJournalFault, JournalsAre, Replies, RepliesInPart, SpeaksOfText};
 ghost use Rattle.fab_replay.specs.Courses.{IsCourse};
-ghost use Rattle.fab_reply.specs.Front.{IsFront};
-ghost use Rattle.fab_reply.specs.Reading.{TakesAtMost};
-ghost use Rattle.fab_reply.specs.Replays.{CanMake, MakesRuns};
-ghost use Rattle.fab_reply.specs.declared.reading.ReadError.TheVariants.{Fault, Memory as Wanting};
-ghost use Rattle.fab_reply.specs.declared.status.Status.{Status as AnyStatus};
-ghost use Rattle.fab_reply.specs.declared.status.Status.TheVariants.{Ok as Done, Usage, ReadFault, WriteFault, Memory, JournalFault};
+ghost use Rattle.fab_front.specs.Reading.{TakesAtMost};
+ghost use Rattle.fab_answers.specs.Says.{MakesRuns};
+ghost use Rattle.fab_reply.specs.Replays.{CanMake};
+ghost use Rattle.fab_front.specs.declared.reading.ReadError.TheVariants.{Fault, Memory as Wanting};
+ghost use Rattle.fab_front.specs.declared.status.Status.{Status as AnyStatus};
+ghost use Rattle.fab_front.specs.declared.status.Status.TheVariants.{Ok as Done, Usage, ReadFault, WriteFault, Memory, JournalFault};
 
-use crate::answers::{checked, evaluate, flows, format, replayed};
-use crate::front::{Outcome, front};
-use crate::lines::{limit_line, syntax_line};
-use crate::reading::{ReadError, read_all};
-use crate::status::Status;
-use crate::writing::write_all;
+use crate::answers::replayed;
+use fab_answers::{Said, said_of};
 use fab_base::{NoMemory, Seq, Sink, SinkError, Source};
 use fab_command::Command;
 use fab_core::Core;
 use fab_device::Journals;
+use fab_front::{ReadError, Status, read_all, usage, write_all};
 use fab_replay::Course;
 use std::alloc::Global;
 
@@ -46,24 +44,9 @@ pub(crate) fn replied<C: Course<Core<M::Item>>, M: Journals>(
     ensures later { M.faults journals.old ≤ M.faults journals.new }
     ensures told { M.may_fail journals.new ≡ M.may_fail journals.old }
 {
-    match front(alloc, text)? {
-        Outcome::Syntax { at } => {
-            let reply = syntax_line(alloc, at)?;
-            Ok((Status::Syntax { at }, reply))
-        }
-        Outcome::Limit { what } => {
-            let reply = limit_line(alloc, what)?;
-            Ok((Status::Limit { what }, reply))
-        }
-        Outcome::Bundle(start) => match command {
-            Command::Check => checked(alloc, text, &start),
-            Command::Evaluate => evaluate(alloc, text, &start),
-            Command::Flows { from, to } => flows(alloc, text, &start, from, to),
-            Command::Format => format(alloc, text, &start),
-            Command::Replay | Command::Run(_) | Command::View { .. } => {
-                replayed(alloc, course, text, &start, command, journals)
-            }
-        },
+    match said_of(alloc, command, text)? {
+        Said::Reply { status, reply } => Ok((status, reply)),
+        Said::OfRuns(start) => replayed(alloc, course, text, &start, command, journals),
     }
 }
 
@@ -96,7 +79,7 @@ fn reply<C: Course<Core<M::Item>>, S: Source, M: Journals>(
     ensures was_asked { IsErrOf result Fault → asked ≢ Nothing }
 {
     match asked {
-        None => Ok((Status::Usage, Seq::from_slice(alloc, b"usage\n")?)),
+        None => Ok(usage(alloc)?),
         Some(command) => {
             let text = read_all(alloc, source)?;
             Ok(replied(alloc, course, &command, &text, journals)?)

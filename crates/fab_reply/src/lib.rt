@@ -1,19 +1,11 @@
 //! What is replied to a command and a text, and how that is read and written.
 #![tactic(auto)]
 
-mod accepted;
 mod answers;
 mod at_hand;
 mod command;
-mod front;
 mod laws;
-mod lines;
-mod reading;
-mod status;
-mod writing;
 
 pub use at_hand::answer_text;
 pub use command::answer;
 pub use laws::{calls_are_isolated_alike, written_reports_are_read_back};
-pub use status::Status;
-pub use writing::write_all;

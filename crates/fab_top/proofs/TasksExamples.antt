@@ -4,7 +4,7 @@ use Rattle.fab_command.specs.declared.command.Command.TheVariants.{Check, Run}
 use Rattle.fab_command.specs.declared.command.Telling.TheVariants.{Report, Summary}
 use Rattle.fab_command.specs.declared.task.Task.TheVariants.{Drill, Generate, Reply}
 use Rattle.fab_gen.specs.Generated.{generated_text}
-use Rattle.fab_reply.specs.declared.status.Status.TheVariants as status
+use Rattle.fab_front.specs.declared.status.Status.TheVariants as status
 use Rattle.fab_top.specs.Tasks.{Generates, IsRead, IsReplied, command_in, input_of, rest_of}
 
 -- ---- what is asked, and of which text

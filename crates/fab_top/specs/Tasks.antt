@@ -7,9 +7,9 @@ use Rattle.fab_command.specs.declared.command.Telling.TheVariants.{Summary}
 use Rattle.fab_command.specs.declared.task.Task.{Task}
 use Rattle.fab_command.specs.declared.task.Task.TheVariants.{Drill, Generate, Reply}
 use Rattle.fab_gen.specs.Generated.{generated_text}
-use Rattle.fab_reply.specs.Reading.{WritesFront}
-use Rattle.fab_reply.specs.declared.status.Status.{Status}
-use Rattle.fab_reply.specs.declared.status.Status.TheVariants.{Ok, Memory, WriteFault}
+use Rattle.fab_front.specs.Reading.{WritesFront}
+use Rattle.fab_front.specs.declared.status.Status.{Status}
+use Rattle.fab_front.specs.declared.status.Status.TheVariants.{Ok, Memory, WriteFault}
 
 -- the command of a text: `drill` asks for the summary of a run that the nodes make by themselves, and `gen` asks nothing of a text
 abbrev pub command_in : Option Task → Option Command

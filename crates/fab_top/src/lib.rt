@@ -5,4 +5,4 @@ mod command;
 mod tasks;
 
 pub use command::{fab, plain};
-pub use fab_reply::Status;
+pub use fab_front::Status;

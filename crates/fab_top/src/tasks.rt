@@ -2,13 +2,15 @@
 ghost use Rattle.std.specs.Prelude.{◌≡◌, ◌≢◌, ◌⊎◌, ◌≤◌, List, ℕ, [], Some, None as Nothing, codes, IfSome};
 ghost use Rattle.std.specs.Io.KnownBytes.{Keeps, IsAtEnd};
 ghost use Rattle.fab_base.specs.Faults.{Rose};
-ghost use Rattle.fab_words.specs.Numbers.{IsSized};
+ghost use Rattle.fab_asked.specs.Numbers.{IsSized};
 ghost use Rattle.fab_replay.specs.Courses.{IsCourse};
-ghost use Rattle.fab_reply.specs.Reply.{AreCut, ComesTo, Ends, IsComplete, IsJournalFault, Replies, RepliesInPart, SpeaksOfText, line};
-ghost use Rattle.fab_reply.specs.Reading.{TakesAtMost};
-ghost use Rattle.fab_reply.specs.Replays.{CanMake, MakesRuns};
-ghost use Rattle.fab_reply.specs.declared.status.Status.{Status as AnyStatus};
-ghost use Rattle.fab_reply.specs.declared.status.Status.TheVariants.{Ok as Done, Usage, ReadFault, WriteFault, Memory, JournalFault};
+ghost use Rattle.fab_front.specs.Lines.{line};
+ghost use Rattle.fab_reply.specs.Reply.{AreCut, ComesTo, Ends, IsComplete, IsJournalFault, Replies, RepliesInPart, SpeaksOfText};
+ghost use Rattle.fab_front.specs.Reading.{TakesAtMost};
+ghost use Rattle.fab_answers.specs.Says.{MakesRuns};
+ghost use Rattle.fab_reply.specs.Replays.{CanMake};
+ghost use Rattle.fab_front.specs.declared.status.Status.{Status as AnyStatus};
+ghost use Rattle.fab_front.specs.declared.status.Status.TheVariants.{Ok as Done, Usage, ReadFault, WriteFault, Memory, JournalFault};
 ghost use Rattle.fab_reply.specs.Headline.{Headline, IsPartFor, IsWholeFor};
 ghost use Rattle.fab_command.specs.declared.command.Command.TheVariants.{Run};
 ghost use Rattle.fab_command.specs.declared.command.Telling.TheVariants.{Summary};
@@ -20,9 +22,10 @@ use fab_base::{Sink, SinkError, Source};
 use fab_command::{Command, Task, Telling};
 use fab_core::Core;
 use fab_device::Journals;
+use fab_front::{Status, write_all};
 use fab_gen::generated;
 use fab_replay::Course;
-use fab_reply::{Status, answer, answer_text, write_all};
+use fab_reply::{answer, answer_text};
 use std::alloc::{AllocError, Global};
 
 /// Writes the bundle that is made up from a number and a size.

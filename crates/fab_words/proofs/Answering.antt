@@ -6,11 +6,11 @@ use Rattle.std.specs.declared.alloc.Global.{Global}
 use Rattle.std.proofs.lemmas.Bool.{cases_Bool}
 use Rattle.clap.specs.Words.{Text, matches_of, takes}
 use Rattle.clap.proofs.WalkLemmas.{list_any-map}
-use Rattle.fab_words.specs.Names.{is_name_word}
-use Rattle.fab_words.specs.Numbers.{number_of, numbers_of, paired}
-use Rattle.fab_words.specs.Words.{asked, asked_by, command_among, command_asked, command_of, command_with, view_of}
-use Rattle.fab_words.specs.Line.{asked_in, begins_with_dash, command_line}
-use Rattle.fab_words.proofs.Decimals.{dashed_number}
+use Rattle.fab_asked.specs.Names.{is_name_word}
+use Rattle.fab_asked.specs.Numbers.{number_of, numbers_of, paired}
+use Rattle.fab_asked.specs.Words.{asked, asked_by, begins_with_dash, command_among, command_asked, command_of, command_with, view_of}
+use Rattle.fab_words.specs.Line.{asked_in, command_line}
+use Rattle.fab_asked.proofs.Decimals.{dashed_number}
 use Rattle.fab_words.proofs.Taken.{found_rows, rows_for, words_taken}
 
 -- ---- a word that begins with `-` is no command and no name

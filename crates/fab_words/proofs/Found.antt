@@ -5,7 +5,7 @@ use Rattle.std.specs.Borrow.{Bor}
 use Rattle.clap.specs.Words.{all_of, first_of, first_value, matched_of, raw_values, rows_of}
 use Rattle.clap.specs.declared.parser.matches.Found.{Found}
 use Rattle.clap.proofs.WalkLemmas.{first_value-rows, raw_values-rows}
-use Rattle.fab_words.specs.Words.{asked}
+use Rattle.fab_asked.specs.Words.{asked}
 use Rattle.fab_words.specs.Line.{asked_in}
 
 -- what a slice of texts has

@@ -1,7 +1,3 @@
 mod Answering
-mod Decimals
-mod Examples
 mod Found
-mod NameLemmas
-pub mod Sizes
 mod Taken

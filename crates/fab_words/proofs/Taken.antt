@@ -12,7 +12,8 @@ use Rattle.clap.specs.declared.builder.value_parser.ValueParser.TheVariants as p
 use Rattle.clap.specs.declared.parser.matches.ValueSource.TheVariants.{CommandLine}
 use Rattle.clap.proofs.OnLiterals.{clap_on_literals}
 use Rattle.clap.proofs.TakesLemmas.{leaf_takes}
-use Rattle.fab_words.specs.Line.{begins_with_dash, command_line}
+use Rattle.fab_words.specs.Line.{command_line}
+use Rattle.fab_asked.specs.Words.{begins_with_dash}
 
 abbrev top : Shape
 top = (built command_line).top

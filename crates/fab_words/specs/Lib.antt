@@ -1,4 +1,1 @@
 pub mod Line
-pub mod Names
-pub mod Numbers
-pub mod Words

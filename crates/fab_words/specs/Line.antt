@@ -1,10 +1,10 @@
 -- The command line of which `clap` is told, and what its matches ask for.
-use Rattle.std.specs.Prelude.{ℕ, ◌==◌, ◌||◌, Bool, true, false, List, [], ◌∷◌, Option, Some, unwrap_or, codes, option_and_then}
+use Rattle.std.specs.Prelude.{true, List, [], ◌∷◌, Option, Some, unwrap_or, codes, option_and_then}
 use Rattle.clap.specs.Words.{App, Row, Rule, all_of, first_of, new_app, new_rule, with_rule}
 use Rattle.clap.specs.Simple.{on_top}
 use Rattle.clap.specs.declared.builder.action.ArgAction.TheVariants.{Append, Set}
 use Rattle.fab_command.specs.declared.task.Task.{Task}
-use Rattle.fab_words.specs.Words.{asked}
+use Rattle.fab_asked.specs.Words.{asked}
 
 -- a command's word, which must be there
 abbrev pub command_rule : Rule
@@ -24,17 +24,6 @@ without_help = on_top (λ s. record s { disable_help_flag = true })
 -- a command's word and its operands
 abbrev pub command_line : App
 command_line = with_rule (with_rule (without_help (without_name (new_app (codes "fab")))) command_rule) operands_rule
-
--- the word begins with `-`
-abbrev pub begins_with_dash : List ℕ → Bool
-begins_with_dash [] = false
-begins_with_dash (b ∷ bs) = b == 45
-
--- the word begins with `+`, or with a zero that isn't all of it
-abbrev pub has_front : List ℕ → Bool
-has_front [] = false
-has_front (b ∷ []) = b == 43
-has_front (b ∷ c ∷ cs) = b == 43 || b == 48
 
 -- what matches ask for
 abbrev pub asked_in : List Row → Option Task

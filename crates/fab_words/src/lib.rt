@@ -2,7 +2,5 @@
 #![tactic(auto)]
 
 mod asked;
-mod names;
-mod numbers;
 
 pub use asked::asked_task;

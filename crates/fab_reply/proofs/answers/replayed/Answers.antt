@@ -1,11 +1,12 @@
 use Rattle.std.proofs.Common.{◌≡◌, Some, IfOk, length, subst}
 use Rattle.fab_language.specs.Numbers.{resolved}
 use Rattle.fab_language.specs.declared.rule.NameRule.TheVariants.{Unknown}
-use Rattle.fab_reply.specs.Reply.{Answers, label_line, name_line, one_reply}
-use Rattle.fab_reply.specs.declared.status.Status.TheVariants as status
-use Rattle.fab_reply.proofs.Answering.{short, within}
-use Rattle.fab_reply.proofs.Replaying.{if_told}
-use Rattle.fab_reply.proofs.Replying.{label_reply, lacking_reply, name_reply}
+use Rattle.fab_front.specs.Lines.{label_line, name_line}
+use Rattle.fab_reply.specs.Reply.{Answers, one_reply}
+use Rattle.fab_front.specs.declared.status.Status.TheVariants as status
+use Rattle.fab_front.proofs.Accepting.{if_told, short, within}
+use Rattle.fab_answers.proofs.Saying.{label_said, name_said, unknown_said}
+use Rattle.fab_reply.proofs.Replying.{said_reply}
 use Rattle.fab_reply.proofs.Wishes.{asks_labels, asks_names}
 use Rattle.fab_reply.proofs.answers.replayed.Goals as goal
 
@@ -17,14 +18,14 @@ returns-in-Bundle-clause-replies g c =
     let p = rw c.in-Bundle.is at c.in_ok-program.ensures in
     let n = length c.args.text.now in
     if_told (Answers (Some c.args.command.now) c.args.text.now) (status.Name Unknown n) (name_line Unknown n) c.unknown.result c.unknown.ensures
-    (one_reply (lacking_reply c.requires.front c.args.command.now p.0 (c.in-None.ensures c.args.start.now p.1)))
+    (one_reply (said_reply (unknown_said c.requires.front {command = c.args.command.now} (c.in-None.ensures c.args.start.now p.1) p.0)))
 
 pub returns-in-Misnamed-clause-replies : goal.returns-in-Misnamed-clause-replies
 returns-in-Misnamed-clause-replies g c =
     let x = c.in-Misnamed.fault in
     let p = rw c.in-Misnamed.is at c.in_ok-program.ensures in
     if_told (Answers (Some c.args.command.now) c.args.text.now) (status.Name x.rule x.at) (name_line x.rule x.at) c.refused.result c.refused.ensures
-    (one_reply (name_reply c.requires.front {command = c.args.command.now} (asks_names c.args.command.now c.requires.runs) p))
+    (one_reply (said_reply (name_said c.requires.front {command = c.args.command.now} (asks_names c.args.command.now c.requires.runs) p)))
 
 pub returns-in-Some-set_of-clause-replies : goal.returns-in-Some-set_of-clause-replies
 returns-in-Some-set_of-clause-replies g c =
@@ -33,7 +34,7 @@ returns-in-Some-set_of-clause-replies g c =
     let asks = asks_labels c.args.start.now c.args.command.now _ c.requires.runs (c.in-Some-set_of.ensures c.args.start.now p.1) in
     if_told (Answers (Some c.args.command.now) c.args.text.now) (status.Label x.rule x.at x.source x.target) (label_line (resolved c.args.start.now) x) c.mislabelled.result
     (subst (λ y. IfOk c.mislabelled.result (λ t. (t.0 ≡ status.Label x.rule x.at x.source x.target) × (t.1 ≡ label_line y x))) p.1 c.mislabelled.ensures)
-    (one_reply (label_reply c.requires.front {command = c.args.command.now} asks p.0 p.2))
+    (one_reply (said_reply (label_said c.requires.front {command = c.args.command.now} asks p.0 p.2)))
 
 pub unknown-requires-in-None-set_of : goal.unknown-requires-in-None-set_of
 unknown-requires-in-None-set_of g c = short c.requires.front.is
@@ -43,4 +44,4 @@ returns-clause-replies g c =
     let p = rw c.in-Mislabelled.is at c.in_ok-program.ensures in
     let n = length c.args.text.now in
     if_told (Answers (Some c.args.command.now) c.args.text.now) (status.Name Unknown n) (name_line Unknown n) c.unknown-in-None-set_of.result c.unknown-in-None-set_of.ensures
-    (one_reply (lacking_reply c.requires.front c.args.command.now p.0 (c.in-None-set_of.ensures c.args.start.now p.1)))
+    (one_reply (said_reply (unknown_said c.requires.front {command = c.args.command.now} (c.in-None-set_of.ensures c.args.start.now p.1) p.0)))

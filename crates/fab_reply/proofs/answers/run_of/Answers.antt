@@ -5,8 +5,8 @@ use Rattle.fab_replay.specs.Replays.{IsReady}
 use Rattle.fab_replay.proofs.Viewing.{any_err}
 use Rattle.fab_reply.specs.Replays.{Makers}
 use Rattle.fab_reply.specs.Reply.{Answers, AreLeft, status_of, text_of}
-use Rattle.fab_reply.proofs.Answering.{within}
-use Rattle.fab_reply.proofs.Replaying.{answered, cut_answer, cut_replay, if_told, left_behind, unless_told}
+use Rattle.fab_front.proofs.Accepting.{if_told, within}
+use Rattle.fab_reply.proofs.Replaying.{answered, cut_answer, cut_replay, left_behind, unless_told}
 use Rattle.fab_reply.proofs.answers.run_of.Goals as goal
 
 pub wanted_of-requires-clause-within : goal.wanted_of-requires-clause-within

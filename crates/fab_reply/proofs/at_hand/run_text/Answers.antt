@@ -2,7 +2,7 @@ use Rattle.std.proofs.Common.{◌≢◌, Some, [], inl, inr, refl, subst}
 use Rattle.std.proofs.KnownBytes.{Keeps-refl}
 use Rattle.std.specs.Io.KnownBytes.{Appends}
 use Rattle.fab_reply.specs.Replays.{Makers}
-use Rattle.fab_reply.specs.Reading.{WritesFront}
+use Rattle.fab_front.specs.Reading.{WritesFront}
 use Rattle.fab_reply.specs.Reply.{read}
 use Rattle.fab_reply.proofs.AtHand.{read_at_once}
 use Rattle.fab_reply.proofs.Answering.{ends_so, no_read_fault, no_write_fault, of_answers}

@@ -1,13 +1,28 @@
-use Rattle.std.proofs.Common.{subst}
-use Rattle.fab_reply.specs.Front.{IsFront}
+use Rattle.fab_reply.specs.Replays.{Makers}
 use Rattle.fab_reply.specs.Reply.{one_reply}
-use Rattle.fab_reply.proofs.Replying.{syntax_reply, limit_reply}
+use Rattle.fab_reply.proofs.Replying.{said_reply}
+use Rattle.fab_reply.proofs.Saying.{all_left, is_left}
 use Rattle.fab_reply.proofs.command.replied.Goals as goal
 
-pub returns-in-Syntax-clause-replies : goal.returns-in-Syntax-clause-replies
-returns-in-Syntax-clause-replies g c =
-    rw c.in_ok-reply-in-Syntax.ensures (one_reply (syntax_reply (subst (λ x. IsFront c.args.text.now x) c.in-Syntax.is c.in_ok-at.ensures)))
+pub returns-in-Reply-clause-replies : goal.returns-in-Reply-clause-replies
+returns-in-Reply-clause-replies g c = let p = rw c.in-Reply.is at c.in_ok-status.ensures in one_reply (said_reply p)
 
-pub returns-in-Limit-clause-replies : goal.returns-in-Limit-clause-replies
-returns-in-Limit-clause-replies g c =
-    rw c.in_ok-reply-in-Limit.ensures (one_reply (limit_reply (subst (λ x. IsFront c.args.text.now x) c.in-Limit.is c.in_ok-at.ensures)))
+pub returns-in-Reply-clause-journals : goal.returns-in-Reply-clause-journals
+returns-in-Reply-clause-journals g c = let p = rw c.in-Reply.is at c.in_ok-status.ensures in is_left _ p.is
+
+pub replayed-requires-clause-front : goal.replayed-requires-clause-front
+replayed-requires-clause-front g c κs bounds = let p = rw c.in-OfRuns.is at c.in_ok-status.ensures in p.1
+
+pub replayed-requires-clause-runs : goal.replayed-requires-clause-runs
+replayed-requires-clause-runs g c κs bounds = let p = rw c.in-OfRuns.is at c.in_ok-status.ensures in p.0
+
+pub returns-in-OfRuns-clause-journals : goal.returns-in-OfRuns-clause-journals
+returns-in-OfRuns-clause-journals g c =
+    let J = g.M.Journals in
+    let p = rw c.in-OfRuns.is at c.in_ok-status.ensures in
+    let old : Makers = record { may_fail = J.may_fail c.args.journals.now; kept = J.kept c.args.journals.now; faults = J.faults c.args.journals.now } in
+    let new : Makers = record { may_fail = J.may_fail c.replayed.new.journals; kept = J.kept c.replayed.new.journals; faults = J.faults c.replayed.new.journals } in
+    all_left c.args.command.now c.args.text.now old new c.replayed.result p.0 c.replayed.ensures.journals
+
+pub returns-in-OfRuns-clause-untouched : goal.returns-in-OfRuns-clause-untouched
+returns-in-OfRuns-clause-untouched g c none = let p = rw c.in-OfRuns.is at c.in_ok-status.ensures in absurd (none p.0)

@@ -6,9 +6,10 @@ use Rattle.fab_reply.proofs.Replaying.{cut_left}
 use Rattle.fab_reply.proofs.Replying.{usage_reply}
 use Rattle.fab_reply.proofs.command.reply.Goals as goal
 
-pub returns-in_ok-from_slice-in-None-clause-given : goal.returns-in_ok-from_slice-in-None-clause-given
-returns-in_ok-from_slice-in-None-clause-given g c =
-    rw (c.in-None.is, c.in_ok-from_slice-in-None.ensures) ([], unasked (Keeps-refl (g.S.Source.left c.args.source.now)), one_reply (usage_reply []), refl)
+pub returns-in_ok-usage-in-None-clause-given : goal.returns-in_ok-usage-in-None-clause-given
+returns-in_ok-usage-in-None-clause-given g c =
+    let e = c.in_ok-usage-in-None.ensures in
+    rw (c.in-None.is, e.0, e.1) ([], unasked (Keeps-refl (g.S.Source.left c.args.source.now)), one_reply (usage_reply []), refl)
 
 pub returns-in_ok-replied-in-Some-clause-given : goal.returns-in_ok-replied-in-Some-clause-given
 returns-in_ok-replied-in-Some-clause-given g c =

@@ -4,8 +4,8 @@ use Rattle.fab_command.specs.declared.task.Task.{Task}
 use Rattle.fab_gen.specs.Generated.{generated_text}
 use Rattle.fab_reply.specs.Replays.{Makers}
 use Rattle.fab_reply.specs.Reply.{AreCut, ComesTo, Replies, RepliesInPart}
-use Rattle.fab_reply.specs.declared.status.Status.{Status}
-use Rattle.fab_reply.specs.declared.status.Status.TheVariants.{Memory, ReadFault}
+use Rattle.fab_front.specs.declared.status.Status.{Status}
+use Rattle.fab_front.specs.declared.status.Status.TheVariants.{Memory, ReadFault}
 use Rattle.fab_top.specs.Tasks.{IsReplied, command_in, input_of, rest_of}
 use Rattle.fab_top.proofs.Fronts.{none_written}
 use Rattle.fab_top.proofs.command.fab.Goals as goal

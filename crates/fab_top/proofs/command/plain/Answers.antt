@@ -6,9 +6,9 @@ use Rattle.fab_gen.specs.Generated.{generated_text}
 use Rattle.fab_replay.specs.Replays.{is_scheduled}
 use Rattle.fab_reply.specs.Replays.{CanMake, Makers}
 use Rattle.fab_reply.specs.Reply.{AreCut, RepliesInPart}
-use Rattle.fab_reply.specs.declared.status.Status.TheVariants.{Memory}
+use Rattle.fab_front.specs.declared.status.Status.TheVariants.{Memory}
 use Rattle.fab_top.specs.Tasks.{IsReplied, command_in, input_of, rest_of}
-use Rattle.fab_words.specs.Words.{asked_by}
+use Rattle.fab_asked.specs.Words.{asked_by}
 use Rattle.fab_reply.proofs.Wishes.{by_hand}
 use Rattle.fab_top.proofs.Fronts.{none_written}
 use Rattle.fab_top.proofs.command.plain.Goals as goal

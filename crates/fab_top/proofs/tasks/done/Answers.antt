@@ -2,10 +2,11 @@ use Rattle.std.proofs.Common.{◌≡◌, ◌≢◌, ◌⊎◌, ◌∙◌, ℕ, L
 use Rattle.std.specs.Io.KnownBytes.{Keeps}
 use Rattle.fab_command.specs.declared.task.Task.{Task}
 use Rattle.fab_reply.specs.Headline.{Headline, IsPartFor, IsWholeFor}
-use Rattle.fab_reply.specs.Replays.{Makers, MakesRuns}
+use Rattle.fab_answers.specs.Says.{MakesRuns}
+use Rattle.fab_reply.specs.Replays.{Makers}
 use Rattle.fab_reply.specs.Reply.{AreCut, ComesTo, Ends, IsComplete, Replies, RepliesInPart}
-use Rattle.fab_reply.specs.declared.status.Status.{Status}
-use Rattle.fab_reply.specs.declared.status.Status.TheVariants.{JournalFault, Memory, Ok as Done, ReadFault}
+use Rattle.fab_front.specs.declared.status.Status.{Status}
+use Rattle.fab_front.specs.declared.status.Status.TheVariants.{JournalFault, Memory, Ok as Done, ReadFault}
 use Rattle.fab_top.specs.Tasks.{IsReplied, command_in, input_of, rest_of}
 use Rattle.fab_top.proofs.tasks.done.Goals as goal
 

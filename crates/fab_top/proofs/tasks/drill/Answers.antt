@@ -3,10 +3,11 @@ use Rattle.std.specs.Io.KnownBytes.{Keeps}
 use Rattle.fab_command.specs.declared.command.Command.TheVariants.{Run}
 use Rattle.fab_command.specs.declared.command.Telling.TheVariants.{Summary}
 use Rattle.fab_reply.specs.Headline.{Headline, IsPartFor, IsWholeFor}
-use Rattle.fab_reply.specs.Replays.{Makers, MakesRuns}
+use Rattle.fab_answers.specs.Says.{MakesRuns}
+use Rattle.fab_reply.specs.Replays.{Makers}
 use Rattle.fab_reply.specs.Reply.{AreCut, ComesTo, Ends, IsComplete, Replies, RepliesInPart}
-use Rattle.fab_reply.specs.declared.status.Status.{Status}
-use Rattle.fab_reply.specs.declared.status.Status.TheVariants.{JournalFault, Memory, Ok as Done, ReadFault, WriteFault}
+use Rattle.fab_front.specs.declared.status.Status.{Status}
+use Rattle.fab_front.specs.declared.status.Status.TheVariants.{JournalFault, Memory, Ok as Done, ReadFault, WriteFault}
 use Rattle.fab_top.proofs.tasks.drill.Goals as goal
 
 -- what is said of the text that was given is said of the one that is generated

@@ -1,10 +1,10 @@
 use Rattle.std.proofs.Common.{rules, ap, sym, subst, map, string_bytes, List, ◌≡◌, ◌∙◌}
 use Rattle.std.proofs.lemmas.Result.{IfOk-weaker}
 use Rattle.clap.specs.Words.{App, Text, found_of, is_simple, matches_of, rows_of, takes}
-use Rattle.fab_words.specs.Numbers.{IsSized}
+use Rattle.fab_asked.specs.Numbers.{IsSized}
 use Rattle.fab_words.specs.Line.{asked_in, command_line}
 use Rattle.fab_words.proofs.Answering.{dashed, found_asks, refused}
-use Rattle.fab_words.proofs.Sizes.{are_sized}
+use Rattle.fab_asked.proofs.Sizes.{are_sized}
 use Rattle.fab_words.proofs.Taken.{is_simple_line}
 use Rattle.fab_words.proofs.asked.asked_task.Goals as goal
 

@@ -1,0 +1,3 @@
+mod Labels
+pub mod Saying
+mod SaysExamples

@@ -1,0 +1,4 @@
+pub mod Decimals
+mod Examples
+mod NameLemmas
+pub mod Sizes

@@ -1,0 +1,50 @@
+-- Which commands ask for what, and which refusals there are.
+use Rattle.std.proofs.Common.{◌≡◌, ℕ, List, [], ◌∷◌, ◌++◌, codes, decimal, false, true, true≢false, refl, sym, ◌∙◌}
+use Rattle.fab_base.specs.declared.limit.What.TheVariants.{Depth}
+use Rattle.fab_tree.specs.declared.start.Start.{Start}
+use Rattle.fab_tree.specs.declared.resolved.Resolved.{Resolved}
+use Rattle.fab_language.specs.declared.rule.Fault.{Fault}
+use Rattle.fab_language.specs.Faults.{faults, IsFirst}
+use Rattle.fab_command.specs.declared.command.Command.TheVariants.{Check, Flows, Format, Replay, View}
+use Rattle.fab_front.specs.declared.texts.Outcome.TheVariants as outcome
+use Rattle.fab_front.specs.declared.status.Status.TheVariants.{Ok, Limit, Name, Syntax}
+use Rattle.fab_front.specs.Front.{Front}
+use Rattle.fab_front.specs.Lines.{line, name_line}
+use Rattle.fab_front.specs.Named.{are_node_names}
+use Rattle.fab_front.specs.Refused.{AsksLabels, AsksNames, LacksName, Refuses, limit, misnamed, syntax}
+
+-- a refusal of the text is one for every command
+of_format : {text : List ℕ} → Front text (outcome.Syntax 12) → Refuses Format text (Syntax 12) (line (codes "syntax at " ++ decimal 12))
+of_format f = syntax f
+
+of_replay : {text : List ℕ} → Front text (outcome.Limit Depth) → Refuses Replay text (Limit Depth) (codes "limit depth\n")
+of_replay f = limit f
+
+-- `fmt` asks for no rule of names, and `flows` for none of labels
+no_names : AsksNames Format → ⊥
+no_names asks = asks
+
+no_labels : (s : Start) (a b : List ℕ) → AsksLabels (Flows a b) s → ⊥
+no_labels s a b asks = asks
+
+-- `view` asks for them behind the names of its nodes, so only one of the two refusals comes
+one_of_view : (s : Start) (names : List (List ℕ)) → AsksLabels (View names) s → LacksName (View names) s → ⊥
+one_of_view s names asks lacks = true≢false (sym asks ∙ lacks)
+
+no_word : (s : Start) → LacksName Check s → ⊥
+no_word s lacks = lacks
+
+-- of a bundle without nodes each name of a node is unknown, and no name at all is fine
+stranger : (r : Resolved) → r.nodes ≡ [] → are_node_names r (codes "w1" ∷ []) ≡ false
+stranger r none = rw none refl
+
+nobody : (r : Resolved) → are_node_names r [] ≡ true
+nobody r = refl
+
+-- a name's fault comes before a word that names nothing
+not_unknown : {text : List ℕ} {s : Start} {x : Fault} → Front text (outcome.Bundle s) → IsFirst (faults s) x → Refuses (View []) text (Name x.rule x.at) (name_line x.rule x.at)
+not_unknown f first = misnamed tt f first
+
+-- no refusal is a success
+no_success : {text reply : List ℕ} → Refuses Check text Ok reply → ⊥
+no_success r = elim r [ ]

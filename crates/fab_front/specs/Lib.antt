@@ -1,0 +1,6 @@
+pub mod Accepted
+pub mod Front
+pub mod Lines
+pub mod Named
+pub mod Reading
+pub mod Refused

@@ -1,0 +1,69 @@
+//! The replies to what is refused: the status with the line.
+ghost use Rattle.std.specs.Prelude.{◌≡◌, ◌≤◌, IfOk, codes, length};
+ghost use Rattle.fab_language.specs.declared.rule.NameRule.TheVariants.{Unknown};
+ghost use Rattle.fab_front.specs.Lines.{label_line, line, name_line};
+ghost use Rattle.fab_front.specs.declared.status.Status.TheVariants.{Label as Labelled, Name, Usage};
+
+use crate::lines::{label_line, name_line};
+use crate::status::Status;
+use fab_base::{NoMemory, Seq};
+use fab_labelling::Refusal;
+use fab_language::{Fault, NameRule};
+use fab_tree::resolved::Resolved;
+use std::alloc::Global;
+
+/// The reply to words that ask for nothing.
+pub fn usage(alloc: Global) -> Result<(Status, Seq<u8>), NoMemory>
+    ensures { IfOk result (λ r. (r.0 ≡ Usage) × (r.1 ≡ line (codes "usage"))) }
+{
+    let reply = Seq::from_slice(alloc, b"usage\n")?;
+    Ok((Status::Usage, reply))
+}
+
+/// The reply to a name that is refused.
+pub fn refused(alloc: Global, fault: Fault) -> Result<(Status, Seq<u8>), NoMemory>
+    ensures { IfOk result (λ r. (r.0 ≡ Name fault.rule fault.at) × (r.1 ≡ name_line fault.rule fault.at)) }
+{
+    let Fault { rule, at } = fault;
+    let reply = name_line(alloc, rule, at)?;
+    Ok((Status::Name { rule, at }, reply))
+}
+
+/// The reply to a label that is refused.
+pub fn mislabelled(
+    alloc: Global,
+    resolved: &Resolved,
+    refusal: Refusal,
+) -> Result<(Status, Seq<u8>), NoMemory>
+    ensures { IfOk result (λ r. (r.0 ≡ Labelled refusal.rule refusal.at refusal.source refusal.target) × (r.1 ≡ label_line resolved.now refusal)) }
+{
+    let reply = label_line(alloc, resolved, refusal)?;
+    let Refusal {
+        rule,
+        at,
+        source,
+        target,
+    } = refusal;
+    let status = Status::Label {
+        rule,
+        at,
+        source,
+        target,
+    };
+    Ok((status, reply))
+}
+
+/// The reply where a word of the command line names nothing: its place is behind the text's last byte.
+pub fn unknown(alloc: Global, text: &[u8]) -> Result<(Status, Seq<u8>), NoMemory>
+    requires { length text.now ≤ 4194304 }
+    ensures { IfOk result (λ r. (r.0 ≡ Name Unknown (length text.now)) × (r.1 ≡ name_line Unknown (length text.now))) }
+{
+    let at = text.len() as u32;
+    refused(
+        alloc,
+        Fault {
+            rule: NameRule::Unknown,
+            at,
+        },
+    )
+}
