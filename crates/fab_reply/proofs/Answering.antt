@@ -1,5 +1,6 @@
 -- From what calls answer to replies.
 use Rattle.std.proofs.Common.{◌≡◌, ℕ, List, Option}
+use Rattle.fab_device.specs.Kept.{Makers}
 use Rattle.fab_base.specs.declared.limit.What.{What}
 use Rattle.fab_language.specs.declared.rule.NameRule.{NameRule}
 use Rattle.fab_labelling.specs.declared.rule.LabelRule.{LabelRule}
@@ -10,7 +11,6 @@ use Rattle.fab_front.specs.declared.status.Status.TheVariants as status
 use Rattle.fab_front.specs.Refused.{syntax, limit, misnamed, unknown, mislabelled}
 use Rattle.fab_answers.specs.Says.{Says, refused, formatted, checked, evaluated, flow}
 use Rattle.fab_reply.specs.Reply.{Replies, usage, said, replayed, barred, Answers, one_reply, interrupted, ran, in_run, before, sound, faulty, RepliesWith, Ends}
-use Rattle.fab_reply.specs.Replays.{Makers}
 
 -- ---- statuses of replies
 

@@ -1,5 +1,6 @@
 -- What each status says.
 use Rattle.std.proofs.Common.{◌≡◌, ◌≢◌, ◌≤◌, ◌⊎◌, inl, inr, ℕ, List, [], ◌++◌, length, Option, Some, None, IfSome, refl, sym, ap, ◌∙◌, subst, arith, append-nil, length-append, codes}
+use Rattle.fab_device.specs.Kept.{Makers}
 use Rattle.std.specs.Io.KnownBytes.{Appends, Keeps, IsAtEnd, Consumes}
 use Rattle.fab_base.specs.declared.limit.What.TheVariants.{Bytes}
 use Rattle.fab_command.specs.declared.command.Command.{Command}
@@ -14,7 +15,6 @@ use Rattle.fab_reply.specs.Reply.{AreCut, cut_short, untouched, AreLeft, Journal
 use Rattle.fab_front.specs.Refused.{syntax, limit, misnamed, unknown, mislabelled}
 use Rattle.fab_answers.specs.Says.{MakesRuns, Says, refused, formatted, checked, evaluated, flow}
 use Rattle.fab_answers.proofs.Saying.{limit_said}
-use Rattle.fab_reply.specs.Replays.{Makers}
 use Rattle.fab_front.proofs.Accepting.{short}
 use Rattle.fab_front.proofs.Fronts.{one_of_long}
 use Rattle.fab_reply.specs.Headline.{Headline, IsPartFor, IsWholeFor}
@@ -376,7 +376,7 @@ module _ (command : Option Command) (l l' w w' : Option (List ℕ)) (old new : M
 
   cut_unfailed : AreCut command l l' old new → new.faults ≡ old.faults
   cut_unfailed (untouched same) = ap (λ (m : Makers). m.faults) same
-  cut_unfailed (cut_short is input x) = x.unfailed
+  cut_unfailed (cut_short is input x) = x.is.faults
 
   -- no journal's making failed, unless that is told
   pub makers_unfailed : (status : Status) → Ends command status l l' w w' old new → (IsJournalFault status → ⊥) → new.faults ≡ old.faults

@@ -8,7 +8,7 @@ use Rattle.fab_command.specs.declared.command.Command.TheVariants.{Replay, Run, 
 use Rattle.fab_tree.specs.declared.start.Start.{Start}
 use Rattle.fab_language.specs.Numbers.{resolved}
 use Rattle.fab_language.specs.Words.{node_text}
-use Rattle.fab_device.specs.Kept.{CannotFail}
+use Rattle.fab_device.specs.Kept.{CannotFail, Makers}
 use Rattle.fab_rights.specs.declared.rights.Rights.{Rights}
 use Rattle.fab_settings.specs.Settings.{IsAcceptedWith}
 use Rattle.fab_replay.specs.declared.replayed.Replayed.{Replayed}
@@ -25,8 +25,9 @@ use Rattle.fab_node.specs.Standing.{GivenModel}
 use Rattle.fab_replay.specs.Replays.{IsFaulty, is_scheduled, text_of as text_by}
 use Rattle.fab_reply.specs.Headline.{Headline, IsPartFor, IsWholeFor}
 use Rattle.fab_front.specs.Reading.{ReadsText}
-use Rattle.fab_reply.specs.Replays.{Makers, Wants, given_of}
+use Rattle.fab_reply.specs.Replays.{Wants, given_of}
 use Rattle.fab_reply.specs.Reply.{Answers, one_reply, interrupted, ran, in_run, before, sound, faulty, AreCut, cut_short, untouched, AreLeft, IsCut, cut, unmade, IsInput, read, IsJournalFault, IsNotEnabled, IsReplay, status_of, text_of}
+use Rattle.fab_replay.proofs.Keeping.{all_front}
 use Rattle.fab_reply.proofs.Replying.{barred_reply, replay_reply}
 use Rattle.fab_reply.proofs.Wishes.{part_for, whole_for, wished}
 
@@ -38,35 +39,35 @@ unless_told (Err e) f h k = f h k
 module _ {text : List ℕ} {start : Start} (f : IsFront text (outcome.Bundle start)) (rights : Rights) (accepted : IsAcceptedWith start rights) where
   -- a run of the schedule answers the text
   replay_answered : (command : Command) (wanted : Wanted) → Wants start command wanted → IsTrue (is_scheduled wanted) → (answer : Replayed) (old new : Makers)
-      → IsReplayed old.may_fail (given_of start rights) wanted answer old.kept new.kept old.faults new.faults → Answers (Some command) text (status_of answer) (text_of answer)
-  replay_answered command wanted wants s (replays.Done reply) old new (h, e) =
+      → IsReplayed (given_of start rights) wanted answer old new → Answers (Some command) text (status_of answer) (text_of answer)
+  replay_answered command wanted wants s (replays.Done reply) old new (h, made, e) =
       one_reply (replay_reply f rights accepted command wanted wants reply (record { moves = h.moves; run = h.run; told = h.told; scheduled = s }))
-  replay_answered command wanted wants s (replays.NotEnabled event) old new (h, e) =
+  replay_answered command wanted wants s (replays.NotEnabled event) old new (h, made, e) =
       one_reply (barred_reply f rights accepted command wanted wants event (record { moves = h.moves; run = h.run; told = h.told; scheduled = s }))
-  replay_answered command wanted wants s (replays.JournalFault node (Some reply)) old new (h, e) =
+  replay_answered command wanted wants s (replays.JournalFault node (Some reply)) old new (h, made, e) =
       interrupted (in_run wants f.is accepted (record { moves = h.moves; run = h.run; told = h.told; scheduled = s }))
   replay_answered command wanted wants s (replays.JournalFault node None) old new h = interrupted (before wanted wants f.is accepted h.0)
 
   -- so does one that the nodes make by themselves
-  run_answered : (x : Telling) (answer : Replayed) (old new : Makers) → IsReplayed old.may_fail (given_of start rights) (ByNodes x) answer old.kept new.kept old.faults new.faults
+  run_answered : (x : Telling) (answer : Replayed) (old new : Makers) → IsReplayed (given_of start rights) (ByNodes x) answer old new
       → Answers (Some (Run x)) text (status_of answer) (text_of answer)
-  run_answered x (replays.Done reply) old new (h, e) = ran (sound f accepted (record { moves = h.moves; run = h.run; told = h.told }))
-  run_answered x (replays.NotEnabled event) old new (h, e) = absurd h.told
-  run_answered x (replays.JournalFault node (Some reply)) old new (h, e) = ran (faulty f accepted (record { moves = h.moves; run = h.run; told = h.told }))
+  run_answered x (replays.Done reply) old new (h, made, e) = ran (sound f accepted (record { moves = h.moves; run = h.run; told = h.told }))
+  run_answered x (replays.NotEnabled event) old new (h, made, e) = absurd h.told
+  run_answered x (replays.JournalFault node (Some reply)) old new (h, made, e) = ran (faulty f accepted (record { moves = h.moves; run = h.run; told = h.told }))
   run_answered x (replays.JournalFault node None) old new h = interrupted (before (ByNodes x) refl f.is accepted h.0)
 
   pub answered : (command : Command) (wanted : Wanted) → Wants start command wanted → (answer : Replayed) (old new : Makers)
-      → IsReplayed old.may_fail (given_of start rights) wanted answer old.kept new.kept old.faults new.faults → Answers (Some command) text (status_of answer) (text_of answer)
+      → IsReplayed (given_of start rights) wanted answer old new → Answers (Some command) text (status_of answer) (text_of answer)
   answered command wanted wants =
       wished
-      (λ c u. (answer : Replayed) (old new : Makers) → IsReplayed old.may_fail (given_of start rights) u answer old.kept new.kept old.faults new.faults
+      (λ c u. (answer : Replayed) (old new : Makers) → IsReplayed (given_of start rights) u answer old new
       → Answers (Some c) text (status_of answer) (text_of answer))
       (replay_answered Replay Report tt refl) run_answered (λ names nodes seen part named. replay_answered (View names) (Viewed nodes seen part) named refl) command wanted wants
 
 module _ {text : List ℕ} {start : Start} (f : IsFront text (outcome.Bundle start)) (rights : Rights) (accepted : IsAcceptedWith start rights)
     (command : Command) (wanted : Wanted) (wants : Wants start command wanted) where
   -- and the journals are as it left them
-  is_replay : (answer : Replayed) (old new : Makers) → IsReplayed old.may_fail (given_of start rights) wanted answer old.kept new.kept old.faults new.faults
+  is_replay : (answer : Replayed) (old new : Makers) → IsReplayed (given_of start rights) wanted answer old new
       → IsPossible old.may_fail (resolved start) answer → IsReplay command text old new (status_of answer) (text_of answer)
   is_replay answer old new h p = record {
     start = start;
@@ -82,16 +83,16 @@ module _ {text : List ℕ} {start : Start} (f : IsFront text (outcome.Bundle sta
     reply_is = refl;
   }
 
-  pub left_behind : (answer : Replayed) (old new : Makers) → IsReplayed old.may_fail (given_of start rights) wanted answer old.kept new.kept old.faults new.faults
+  pub left_behind : (answer : Replayed) (old new : Makers) → IsReplayed (given_of start rights) wanted answer old new
       → IsPossible old.may_fail (resolved start) answer → AreLeft command text old new (status_of answer) (text_of answer)
   left_behind (replays.Done reply) old new h p = is_replay (replays.Done reply) old new h p
   left_behind (replays.NotEnabled event) old new h p = is_replay (replays.NotEnabled event) old new h p
   left_behind (replays.JournalFault node report) old new h p = is_replay (replays.JournalFault node report) old new h p
 
   -- where memory ran out in it, or behind it
-  pub cut_replay : (old new : Makers) → IsCutShort (given_of start rights) wanted old.kept new.kept → new.faults ≡ old.faults → new.may_fail ≡ old.may_fail
+  pub cut_replay : (old new : Makers) → IsCutShort (given_of start rights) wanted old new → new.may_fail ≡ old.may_fail
       → IsCut command text old new
-  cut_replay old new h unfailed same = cut (record {
+  cut_replay old new h same = cut (record {
     start = start;
     rights = rights;
     wanted = wanted;
@@ -99,17 +100,24 @@ module _ {text : List ℕ} {start : Start} (f : IsFront text (outcome.Bundle sta
     front = f.is;
     accepted = accepted;
     is = h;
-    unfailed = unfailed;
     same = same;
   })
 
-  pub cut_answer : (answer : Replayed) (old new : Makers) → IsReplayed old.may_fail (given_of start rights) wanted answer old.kept new.kept old.faults new.faults
+  pub cut_answer : (answer : Replayed) (old new : Makers) → IsReplayed (given_of start rights) wanted answer old new
       → IsNotEnabled answer → new.may_fail ≡ old.may_fail → IsCut command text old new
-  cut_answer (replays.NotEnabled event) old new (h, e) is same =
+  cut_answer (replays.NotEnabled event) old new (h, made, e) is same =
       cut_replay old new
-      (OfRun h.moves (replays.NotEnabled event) h.run h.told
-      (record { entries = h.kept.entries; many = length h.kept.entries; each = h.kept.each; kept = h.kept.kept ∙ ap (with_more old.kept) (sym (take_all (length h.kept.entries) h.kept.entries (omega arith))) }))
-      e same
+      (record {
+        kept = OfRun h.moves (replays.NotEnabled event) h.run h.told
+            (record {
+              entries = h.kept.entries;
+              many = length h.kept.entries;
+              each = h.kept.each;
+              kept = h.kept.kept ∙ ap (with_more old.kept) (sym (take_all (length h.kept.entries) h.kept.entries (omega arith)));
+            });
+        made = all_front (given_of start rights) old new made;
+        faults = e;
+      }) same
   cut_answer (replays.Done reply) old new h is same = absurd is
   cut_answer (replays.JournalFault node report) old new h is same = absurd is
 
@@ -125,7 +133,7 @@ text_read (read t) = t
 
 module _ (l l' w w' : Option (List ℕ)) (old new : Makers) (command : Command) where
   headlined : (P : GivenModel → List Move → Type 0) (start : Start) (rights : Rights) (wanted : Wanted) (answer : Replayed) (text reply report : List ℕ)
-      (h : IsOfRun old.may_fail (given_of start rights) wanted answer old.kept new.kept) → Wants start command wanted
+      (h : IsOfRun (given_of start rights) wanted answer old new) → Wants start command wanted
       → ReadsText l l' text → Front text (outcome.Bundle start) → IsAcceptedWith start rights → P (given_of start rights) h.moves
       → report ≡ text_by (given_of start rights) wanted h.moves → reply ≡ report → Appends w w' reply → Headline (Some command) P l l' w w'
   headlined P start rights wanted answer text reply report h wants input front accepted events of is all = record {
@@ -149,9 +157,9 @@ module _ (l l' w w' : Option (List ℕ)) (old new : Makers) (command : Command) 
 
   done_headlined : (start : Start) (rights : Rights) (wanted : Wanted) (answer : Replayed) (text reply : List ℕ) → Wants start command wanted → ReadsText l l' text
       → Front text (outcome.Bundle start) → IsAcceptedWith start rights
-      → IsReplayed old.may_fail (given_of start rights) wanted answer old.kept new.kept old.faults new.faults → Ok ≡ status_of answer
+      → IsReplayed (given_of start rights) wanted answer old new → Ok ≡ status_of answer
       → reply ≡ text_of answer → Appends w w' reply → Headline (Some command) (IsWholeFor (Some command)) l l' w w'
-  done_headlined start rights wanted (replays.Done report) text reply wants input front accepted (h, n) e is all =
+  done_headlined start rights wanted (replays.Done report) text reply wants input front accepted (h, made, n) e is all =
       headlined (IsWholeFor (Some command)) start rights wanted (replays.Done report) text reply report h wants input front accepted
       (whole_for start (given_of start rights) h.moves command wanted wants h.told.0) h.told.1 is all
   done_headlined start rights wanted (replays.NotEnabled event) text reply wants input front accepted h e is all = absurd (cc)
@@ -165,11 +173,11 @@ module _ (l l' w w' : Option (List ℕ)) (old new : Makers) (command : Command) 
 
   fault_headlined : (start : Start) (rights : Rights) (wanted : Wanted) (answer : Replayed) (node : ℕ) (text reply : List ℕ) → Wants start command wanted
       → ReadsText l l' text → Front text (outcome.Bundle start) → IsAcceptedWith start rights
-      → IsReplayed old.may_fail (given_of start rights) wanted answer old.kept new.kept old.faults new.faults → JournalFault node ≡ status_of answer
+      → IsReplayed (given_of start rights) wanted answer old new → JournalFault node ≡ status_of answer
       → reply ≡ text_of answer → Appends w w' reply → Keeps w w' ⊎ Headline (Some command) (IsPartFor (Some command) node) l l' w w'
   fault_headlined start rights wanted (replays.Done report) node text reply wants input front accepted h e is all = absurd (cc)
   fault_headlined start rights wanted (replays.NotEnabled event) node text reply wants input front accepted h e is all = absurd (cc)
-  fault_headlined start rights wanted (replays.JournalFault n (Some report)) node text reply wants input front accepted (h, k) e is all =
+  fault_headlined start rights wanted (replays.JournalFault n (Some report)) node text reply wants input front accepted (h, made, k) e is all =
       let same : n ≡ node = cc in
       inr (headlined (IsPartFor (Some command) node) start rights wanted (replays.JournalFault n (Some report)) text reply report h wants input front accepted
       (part_for start (given_of start rights) h.moves node command wanted wants (subst (λ m. IsFaulty (given_of start rights) wanted h.moves m) same h.told.0)) h.told.1 is all)
@@ -199,11 +207,11 @@ module _ (l l' w w' : Option (List ℕ)) (old new : Makers) (command : Command) 
 -- ---- the makers of journals
 
 -- with an answer that has bytes, or no journal's fault, they have failed no more often
-unfailed_by : (g : GivenModel) (wanted : Wanted) (answer : Replayed) (old new : Makers) → IsReplayed old.may_fail g wanted answer old.kept new.kept old.faults new.faults
+unfailed_by : (g : GivenModel) (wanted : Wanted) (answer : Replayed) (old new : Makers) → IsReplayed g wanted answer old new
     → (text_of answer ≢ []) ⊎ (IsJournalFault (status_of answer) → ⊥) → new.faults ≡ old.faults
-unfailed_by g wanted (replays.Done report) old new h k = h.1
-unfailed_by g wanted (replays.NotEnabled event) old new h k = h.1
-unfailed_by g wanted (replays.JournalFault node (Some report)) old new h k = h.1
+unfailed_by g wanted (replays.Done report) old new h k = h.2
+unfailed_by g wanted (replays.NotEnabled event) old new h k = h.2
+unfailed_by g wanted (replays.JournalFault node (Some report)) old new h k = h.2
 unfailed_by g wanted (replays.JournalFault node None) old new h (inl k) = absurd (k refl)
 unfailed_by g wanted (replays.JournalFault node None) old new h (inr k) = absurd (k tt)
 

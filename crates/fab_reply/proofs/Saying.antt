@@ -1,11 +1,11 @@
 -- What is said of a text leaves the journals.
 use Rattle.std.proofs.Common.{ℕ, List, Some, Result, Ok as Fine, Err, IfOk, refl}
+use Rattle.fab_device.specs.Kept.{Makers}
 use Rattle.fab_command.specs.declared.command.Command.{Command}
 use Rattle.fab_command.specs.declared.command.Command.TheVariants.{Check, Evaluate, Flows, Format, Replay, Run, View}
 use Rattle.fab_front.specs.declared.status.Status.{Status}
 use Rattle.fab_front.specs.Refused.{Refuses, syntax, limit, misnamed, unknown, mislabelled}
 use Rattle.fab_answers.specs.Says.{MakesRuns, Says, refused, formatted, checked, evaluated, flow}
-use Rattle.fab_reply.specs.Replays.{Makers}
 use Rattle.fab_reply.specs.Reply.{AreLeft, JournalsAre}
 
 -- so does a refusal, of whatever command

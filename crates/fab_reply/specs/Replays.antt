@@ -5,7 +5,6 @@ use Rattle.fab_language.specs.Numbers.{resolved}
 use Rattle.fab_rights.specs.declared.rights.Rights.{Rights}
 use Rattle.fab_rights.specs.Computed.{has_bit}
 use Rattle.fab_settings.specs.Settings.{is_hostile_node}
-use Rattle.fab_device.specs.Kept.{Entry}
 use Rattle.fab_world.specs.Machine.{Move}
 use Rattle.fab_world.specs.Serial.{IsRun}
 use Rattle.fab_node.specs.Standing.{GivenModel}
@@ -68,9 +67,3 @@ CanMake makes (Some command) = (s : Start) (wanted : Wanted) → Wants s command
 abbrev pub IsSetOf : Start → Command → ℕ → Type 0
 IsSetOf s (View names) nodes = AreNamed s names nodes
 IsSetOf s _ nodes = Unit {0}
-
--- What those tell who make journals: the nodes whose journals may ever fail, the journals that were kept, and how often they have failed.
-pub record Makers : Type 0 where
-  pub may_fail : Option (List (List ℕ))
-  pub kept : Option (List Entry)
-  pub faults : ℕ

@@ -1,5 +1,6 @@
 -- What the program replies.
 use Rattle.std.specs.Prelude.{◌≡◌, ◌≢◌, ◌⊎◌, ℕ, IsTrue, List, [], Option, Some, None, codes}
+use Rattle.fab_device.specs.Kept.{Makers}
 use Rattle.std.specs.Io.KnownBytes.{Appends, Keeps}
 use Rattle.fab_base.specs.declared.limit.What.TheVariants as w
 use Rattle.fab_tree.specs.declared.start.Start.{Start}
@@ -10,7 +11,7 @@ use Rattle.fab_front.specs.Front.{Front, IsFront}
 use Rattle.fab_front.specs.Lines.{barred_line, line}
 use Rattle.fab_answers.specs.Says.{Says}
 use Rattle.fab_front.specs.Reading.{ReadsText, WritesFront}
-use Rattle.fab_reply.specs.Replays.{Makers, ReplaysTo, RunsTo, Wants, given_of}
+use Rattle.fab_reply.specs.Replays.{ReplaysTo, RunsTo, Wants, given_of}
 use Rattle.fab_rights.specs.declared.rights.Rights.{Rights}
 use Rattle.fab_settings.specs.Settings.{IsAcceptedWith}
 use Rattle.fab_core.specs.Cores.{is_honest}
@@ -97,7 +98,7 @@ pub record IsReplay (command : Command) (text : List ℕ) (old new : Makers) (st
   pub asked : Wants start command wanted
   pub front : Front text (outcome.Bundle start)
   pub accepted : IsAcceptedWith start rights
-  pub is : IsReplayed old.may_fail (given_of start rights) wanted answer old.kept new.kept old.faults new.faults
+  pub is : IsReplayed (given_of start rights) wanted answer old new
   pub possible : IsPossible old.may_fail (resolved start) answer
   pub status_is : status ≡ status_of answer
   pub reply_is : reply ≡ text_of answer
@@ -123,8 +124,7 @@ pub record IsCutReplay (command : Command) (text : List ℕ) (old new : Makers) 
   pub asked : Wants start command wanted
   pub front : Front text (outcome.Bundle start)
   pub accepted : IsAcceptedWith start rights
-  pub is : IsCutShort (given_of start rights) wanted old.kept new.kept
-  pub unfailed : new.faults ≡ old.faults
+  pub is : IsCutShort (given_of start rights) wanted old new
   pub same : new.may_fail ≡ old.may_fail
 
 pub data IsCut (command : Command) (text : List ℕ) (old new : Makers) : Type 0 where

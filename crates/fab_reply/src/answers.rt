@@ -9,7 +9,7 @@ ghost use Rattle.fab_front.specs.Accepted.{IsAccepted};
 ghost use Rattle.fab_front.specs.Refused.{LacksName};
 ghost use Rattle.fab_front.specs.declared.accepted.Accepted.TheVariants.{Bundle as Whole};
 ghost use Rattle.fab_answers.specs.Says.{MakesRuns};
-ghost use Rattle.fab_reply.specs.Replays.{CanMake, IsSetOf, Makers, Wants, given_of};
+ghost use Rattle.fab_reply.specs.Replays.{CanMake, IsSetOf, Wants, given_of};
 ghost use Rattle.fab_replay.specs.Courses.{IsCourse};
 ghost use Rattle.fab_replay.specs.Replays.{IsReady};
 ghost use Rattle.fab_rights.specs.declared.rights.Rights.{Rights as AnyRights};
@@ -97,14 +97,10 @@ fn run_of<C: Course<Core<M::Item>>, M: Journals>(
     requires course { IsCourse C.makes (C.may course.now) (C.comes course.now) }
     requires set { IsSetOf start.now command.now set }
     ensures replies { IfOk result (λ r. Answers (Some command.now) text.now r.0 r.1) }
-    ensures journals { IfOk result (λ r. AreLeft command.now text.now
-        (record { may_fail = M.may_fail journals.old; kept = M.kept journals.old; faults = M.faults journals.old })
-        (record { may_fail = M.may_fail journals.new; kept = M.kept journals.new; faults = M.faults journals.new }) r.0 r.1) }
-    ensures cut { OnErr result (IsCut command.now text.now
-        (record { may_fail = M.may_fail journals.old; kept = M.kept journals.old; faults = M.faults journals.old })
-        (record { may_fail = M.may_fail journals.new; kept = M.kept journals.new; faults = M.faults journals.new })) }
-    ensures later { M.faults journals.old ≤ M.faults journals.new }
-    ensures told { M.may_fail journals.new ≡ M.may_fail journals.old }
+    ensures journals { IfOk result (λ r. AreLeft command.now text.now (M.seen journals.old) (M.seen journals.new) r.0 r.1) }
+    ensures cut { OnErr result (IsCut command.now text.now (M.seen journals.old) (M.seen journals.new)) }
+    ensures later { (M.seen journals.old).faults ≤ (M.seen journals.new).faults }
+    ensures told { (M.seen journals.new).may_fail ≡ (M.seen journals.old).may_fail }
 {
     let _text = text;
     let wanted = wanted_of(alloc, start, command, set)?;
@@ -134,14 +130,10 @@ pub(crate) fn replayed<C: Course<Core<M::Item>>, M: Journals>(
     requires made { CanMake C.makes (Some command.now) }
     requires course { IsCourse C.makes (C.may course.now) (C.comes course.now) }
     ensures replies { IfOk result (λ r. Answers (Some command.now) text.now r.0 r.1) }
-    ensures journals { IfOk result (λ r. AreLeft command.now text.now
-        (record { may_fail = M.may_fail journals.old; kept = M.kept journals.old; faults = M.faults journals.old })
-        (record { may_fail = M.may_fail journals.new; kept = M.kept journals.new; faults = M.faults journals.new }) r.0 r.1) }
-    ensures cut { OnErr result (IsCut command.now text.now
-        (record { may_fail = M.may_fail journals.old; kept = M.kept journals.old; faults = M.faults journals.old })
-        (record { may_fail = M.may_fail journals.new; kept = M.kept journals.new; faults = M.faults journals.new })) }
-    ensures later { M.faults journals.old ≤ M.faults journals.new }
-    ensures told { M.may_fail journals.new ≡ M.may_fail journals.old }
+    ensures journals { IfOk result (λ r. AreLeft command.now text.now (M.seen journals.old) (M.seen journals.new) r.0 r.1) }
+    ensures cut { OnErr result (IsCut command.now text.now (M.seen journals.old) (M.seen journals.new)) }
+    ensures later { (M.seen journals.old).faults ≤ (M.seen journals.new).faults }
+    ensures told { (M.seen journals.new).may_fail ≡ (M.seen journals.old).may_fail }
 {
     match accept(alloc, start)? {
         Accepted::Bundle(program) => match set_of(&program, command) {

@@ -30,12 +30,10 @@ fn run_text<C: Course<Core<M::Item>>, K: Sink, M: Journals>(
 ) -> Status
     requires made { CanMake C.makes (Some command.now) }
     requires course { IsCourse C.makes (C.may course.now) (C.comes course.now) }
-    ensures means { Ends (Some command.now) result (Some text.now) (Some []) (K.written sink.old) (K.written sink.new)
-        (record { may_fail = M.may_fail journals.old; kept = M.kept journals.old; faults = M.faults journals.old })
-        (record { may_fail = M.may_fail journals.new; kept = M.kept journals.new; faults = M.faults journals.new }) }
+    ensures means { Ends (Some command.now) result (Some text.now) (Some []) (K.written sink.old) (K.written sink.new) (M.seen journals.old) (M.seen journals.new) }
     ensures untouched { (MakesRuns (Some command.now) → ⊥) → journals.new ≡ journals.old }
-    ensures faulty { M.faults journals.old ≤ M.faults journals.new }
-    ensures told { M.may_fail journals.new ≡ M.may_fail journals.old }
+    ensures faulty { (M.seen journals.old).faults ≤ (M.seen journals.new).faults }
+    ensures told { (M.seen journals.new).may_fail ≡ (M.seen journals.old).may_fail }
     ensures read_never { result ≢ ReadFault }
     ensures write { result ≡ WriteFault → Rose (K.faults sink.old) (K.faults sink.new) }
     ensures sink_faults { K.faults sink.old ≤ K.faults sink.new }
@@ -63,31 +61,23 @@ pub fn answer_text<C: Course<Core<M::Item>>, K: Sink, M: Journals>(
 ) -> Status
     requires made { CanMake C.makes (Some command) }
     requires course { IsCourse C.makes (C.may course.now) (C.comes course.now) }
-    ensures means { Ends (Some command) result (Some text.now) (Some []) (K.written sink.old) (K.written sink.new)
-        (record { may_fail = M.may_fail journals.old; kept = M.kept journals.old; faults = M.faults journals.old })
-        (record { may_fail = M.may_fail journals.new; kept = M.kept journals.new; faults = M.faults journals.new }) }
+    ensures means { Ends (Some command) result (Some text.now) (Some []) (K.written sink.old) (K.written sink.new) (M.seen journals.old) (M.seen journals.new) }
     ensures exact { result ≢ ReadFault → IfSome (Some text.now) (λ text. (status : AnyStatus) (reply : List ℕ) → Replies (Some command) text status reply → ComesTo result status (K.written sink.old) (K.written sink.new) reply) }
     ensures complete { result ≢ ReadFault → IfSome (Some text.now) (IsComplete (Some command) result) }
     ensures write_fault { result ≡ WriteFault → Rose (K.faults sink.old) (K.faults sink.new) }
-    ensures write_fault_front { result ≡ WriteFault → RepliesInPart (Some command) (Some text.now) (Some []) (K.written sink.old) (K.written sink.new)
-        (record { may_fail = M.may_fail journals.old; kept = M.kept journals.old; faults = M.faults journals.old })
-        (record { may_fail = M.may_fail journals.new; kept = M.kept journals.new; faults = M.faults journals.new }) }
-    ensures memory { result ≡ Memory → (Keeps (K.written sink.old) (K.written sink.new) × AreCut (Some command) (Some text.now) (Some [])
-        (record { may_fail = M.may_fail journals.old; kept = M.kept journals.old; faults = M.faults journals.old })
-        (record { may_fail = M.may_fail journals.new; kept = M.kept journals.new; faults = M.faults journals.new })) ⊎ RepliesInPart (Some command) (Some text.now) (Some []) (K.written sink.old) (K.written sink.new)
-        (record { may_fail = M.may_fail journals.old; kept = M.kept journals.old; faults = M.faults journals.old })
-        (record { may_fail = M.may_fail journals.new; kept = M.kept journals.new; faults = M.faults journals.new }) }
+    ensures write_fault_front { result ≡ WriteFault → RepliesInPart (Some command) (Some text.now) (Some []) (K.written sink.old) (K.written sink.new) (M.seen journals.old) (M.seen journals.new) }
+    ensures memory { result ≡ Memory → (Keeps (K.written sink.old) (K.written sink.new) × AreCut (Some command) (Some text.now) (Some []) (M.seen journals.old) (M.seen journals.new)) ⊎ RepliesInPart (Some command) (Some text.now) (Some []) (K.written sink.old) (K.written sink.new) (M.seen journals.old) (M.seen journals.new) }
     ensures sink_faults { K.faults sink.old ≤ K.faults sink.new }
     ensures sink_unfailed { result ≢ WriteFault → K.faults sink.new ≡ K.faults sink.old }
     ensures headline { MakesRuns (Some command) → result ≡ Done → Headline (Some command) (IsWholeFor (Some command)) (Some text.now) (Some []) (K.written sink.old) (K.written sink.new) }
     ensures headline_of_a_part { (node : ℕ) → result ≡ JournalFault node
         → Keeps (K.written sink.old) (K.written sink.new) ⊎ Headline (Some command) (IsPartFor (Some command) node) (Some text.now) (Some []) (K.written sink.old) (K.written sink.new) }
     ensures journal_fault { (node : ℕ) → result ≡ JournalFault node → MakesRuns (Some command) }
-    ensures journals_unfailed { (IsJournalFault result → ⊥) → M.faults journals.new ≡ M.faults journals.old }
-    ensures journals_unfailing { M.may_fail journals.old ≡ Some [] → (node : ℕ) → result ≡ JournalFault node → ⊥ }
+    ensures journals_unfailed { (IsJournalFault result → ⊥) → (M.seen journals.new).faults ≡ (M.seen journals.old).faults }
+    ensures journals_unfailing { (M.seen journals.old).may_fail ≡ Some [] → (node : ℕ) → result ≡ JournalFault node → ⊥ }
     ensures journals_untouched { (MakesRuns (Some command) → ⊥) → journals.new ≡ journals.old }
-    ensures journals_faults { M.faults journals.old ≤ M.faults journals.new }
-    ensures journals_told { M.may_fail journals.new ≡ M.may_fail journals.old }
+    ensures journals_faults { (M.seen journals.old).faults ≤ (M.seen journals.new).faults }
+    ensures journals_told { (M.seen journals.new).may_fail ≡ (M.seen journals.old).may_fail }
     ensures read_never { result ≢ ReadFault }
     ensures usage_never { result ≢ Usage }
 {

@@ -34,15 +34,11 @@ pub(crate) fn replied<C: Course<Core<M::Item>>, M: Journals>(
     requires made { CanMake C.makes (Some command.now) }
     requires course { IsCourse C.makes (C.may course.now) (C.comes course.now) }
     ensures replies { IfOk result (λ r. Answers (Some command.now) text.now r.0 r.1) }
-    ensures journals { IfOk result (λ r. JournalsAre (Some command.now) text.now
-        (record { may_fail = M.may_fail journals.old; kept = M.kept journals.old; faults = M.faults journals.old })
-        (record { may_fail = M.may_fail journals.new; kept = M.kept journals.new; faults = M.faults journals.new }) r.0 r.1) }
-    ensures cut { OnErr result (IsCut command.now text.now
-        (record { may_fail = M.may_fail journals.old; kept = M.kept journals.old; faults = M.faults journals.old })
-        (record { may_fail = M.may_fail journals.new; kept = M.kept journals.new; faults = M.faults journals.new })) }
+    ensures journals { IfOk result (λ r. JournalsAre (Some command.now) text.now (M.seen journals.old) (M.seen journals.new) r.0 r.1) }
+    ensures cut { OnErr result (IsCut command.now text.now (M.seen journals.old) (M.seen journals.new)) }
     ensures untouched { (MakesRuns (Some command.now) → ⊥) → journals.new ≡ journals.old }
-    ensures later { M.faults journals.old ≤ M.faults journals.new }
-    ensures told { M.may_fail journals.new ≡ M.may_fail journals.old }
+    ensures later { (M.seen journals.old).faults ≤ (M.seen journals.new).faults }
+    ensures told { (M.seen journals.new).may_fail ≡ (M.seen journals.old).may_fail }
 {
     match said_of(alloc, command, text)? {
         Said::Reply { status, reply } => Ok((status, reply)),
@@ -61,16 +57,12 @@ fn reply<C: Course<Core<M::Item>>, S: Source, M: Journals>(
     requires made { CanMake C.makes asked }
     requires course { IsCourse C.makes (C.may course.now) (C.comes course.now) }
     ensures given { IfOk result (λ r. (text : List ℕ) × IsInput asked (S.left source.old) (S.left source.new) text × Answers asked text r.0 r.1
-        × JournalsAre asked text
-        (record { may_fail = M.may_fail journals.old; kept = M.kept journals.old; faults = M.faults journals.old })
-        (record { may_fail = M.may_fail journals.new; kept = M.kept journals.new; faults = M.faults journals.new }) r.0 r.1) }
+        × JournalsAre asked text (M.seen journals.old) (M.seen journals.new) r.0 r.1) }
     ensures untouched { (MakesRuns asked → ⊥) → journals.new ≡ journals.old }
     ensures unmade { IsErrOf result Fault → journals.new ≡ journals.old }
-    ensures cut { IsErrOf result Wanting → AreCut asked (S.left source.old) (S.left source.new)
-        (record { may_fail = M.may_fail journals.old; kept = M.kept journals.old; faults = M.faults journals.old })
-        (record { may_fail = M.may_fail journals.new; kept = M.kept journals.new; faults = M.faults journals.new }) }
-    ensures faulty { M.faults journals.old ≤ M.faults journals.new }
-    ensures told { M.may_fail journals.new ≡ M.may_fail journals.old }
+    ensures cut { IsErrOf result Wanting → AreCut asked (S.left source.old) (S.left source.new) (M.seen journals.old) (M.seen journals.new) }
+    ensures faulty { (M.seen journals.old).faults ≤ (M.seen journals.new).faults }
+    ensures told { (M.seen journals.new).may_fail ≡ (M.seen journals.old).may_fail }
     ensures unread { asked ≡ Nothing → source.new ≡ source.old }
     ensures taken { TakesAtMost 4194305 (S.left source.old) (S.left source.new) }
     ensures later { S.faults source.old ≤ S.faults source.new }
@@ -98,12 +90,10 @@ fn run<C: Course<Core<M::Item>>, S: Source, K: Sink, M: Journals>(
 ) -> Status
     requires made { CanMake C.makes asked }
     requires course { IsCourse C.makes (C.may course.now) (C.comes course.now) }
-    ensures means { Ends asked result (S.left source.old) (S.left source.new) (K.written sink.old) (K.written sink.new)
-        (record { may_fail = M.may_fail journals.old; kept = M.kept journals.old; faults = M.faults journals.old })
-        (record { may_fail = M.may_fail journals.new; kept = M.kept journals.new; faults = M.faults journals.new }) }
+    ensures means { Ends asked result (S.left source.old) (S.left source.new) (K.written sink.old) (K.written sink.new) (M.seen journals.old) (M.seen journals.new) }
     ensures untouched { (MakesRuns asked → ⊥) → journals.new ≡ journals.old }
-    ensures faulty { M.faults journals.old ≤ M.faults journals.new }
-    ensures told { M.may_fail journals.new ≡ M.may_fail journals.old }
+    ensures faulty { (M.seen journals.old).faults ≤ (M.seen journals.new).faults }
+    ensures told { (M.seen journals.new).may_fail ≡ (M.seen journals.old).may_fail }
     ensures unread { asked ≡ Nothing → source.new ≡ source.old }
     ensures taken { TakesAtMost 4194305 (S.left source.old) (S.left source.new) }
     ensures read { result ≡ ReadFault → Rose (S.faults source.old) (S.faults source.new) }
@@ -150,9 +140,7 @@ pub fn answer<C: Course<Core<M::Item>>, S: Source, K: Sink, M: Journals>(
     requires course { IsCourse C.makes (C.may course.now) (C.comes course.now) }
 
     // What each status says of what was read and of what was written.
-    ensures means { Ends asked result (S.left source.old) (S.left source.new) (K.written sink.old) (K.written sink.new)
-        (record { may_fail = M.may_fail journals.old; kept = M.kept journals.old; faults = M.faults journals.old })
-        (record { may_fail = M.may_fail journals.new; kept = M.kept journals.new; faults = M.faults journals.new }) }
+    ensures means { Ends asked result (S.left source.old) (S.left source.new) (K.written sink.old) (K.written sink.new) (M.seen journals.old) (M.seen journals.new) }
 
     // Whatever reply the command and the text have is the one that comes, whole, unless the source,
     // the sink or a journal fails or memory runs out; so each refusal comes exactly where it should.
@@ -178,17 +166,11 @@ pub fn answer<C: Course<Core<M::Item>>, S: Source, K: Sink, M: Journals>(
 
     // `WriteFault` comes only where the sink's faults rose, and a front of the reply is written.
     ensures write_fault { result ≡ WriteFault → Rose (K.faults sink.old) (K.faults sink.new) }
-    ensures write_fault_front { result ≡ WriteFault → RepliesInPart asked (S.left source.old) (S.left source.new) (K.written sink.old) (K.written sink.new)
-        (record { may_fail = M.may_fail journals.old; kept = M.kept journals.old; faults = M.faults journals.old })
-        (record { may_fail = M.may_fail journals.new; kept = M.kept journals.new; faults = M.faults journals.new }) }
+    ensures write_fault_front { result ≡ WriteFault → RepliesInPart asked (S.left source.old) (S.left source.new) (K.written sink.old) (K.written sink.new) (M.seen journals.old) (M.seen journals.new) }
 
     // With `Memory` nothing is written, and nothing came of the journals, or the first of those of a run, or of a start that failed, were kept;
     // or a front of the reply to what was read is written.
-    ensures memory { result ≡ Memory → (Keeps (K.written sink.old) (K.written sink.new) × AreCut asked (S.left source.old) (S.left source.new)
-        (record { may_fail = M.may_fail journals.old; kept = M.kept journals.old; faults = M.faults journals.old })
-        (record { may_fail = M.may_fail journals.new; kept = M.kept journals.new; faults = M.faults journals.new })) ⊎ RepliesInPart asked (S.left source.old) (S.left source.new) (K.written sink.old) (K.written sink.new)
-        (record { may_fail = M.may_fail journals.old; kept = M.kept journals.old; faults = M.faults journals.old })
-        (record { may_fail = M.may_fail journals.new; kept = M.kept journals.new; faults = M.faults journals.new }) }
+    ensures memory { result ≡ Memory → (Keeps (K.written sink.old) (K.written sink.new) × AreCut asked (S.left source.old) (S.left source.new) (M.seen journals.old) (M.seen journals.new)) ⊎ RepliesInPart asked (S.left source.old) (S.left source.new) (K.written sink.old) (K.written sink.new) (M.seen journals.old) (M.seen journals.new) }
     ensures source_faults { S.faults source.old ≤ S.faults source.new }
     ensures sink_faults { K.faults sink.old ≤ K.faults sink.new }
 
@@ -206,12 +188,12 @@ pub fn answer<C: Course<Core<M::Item>>, S: Source, K: Sink, M: Journals>(
     // `JournalFault` comes of `replay`, `run` and `view` alone, and only these make journals and have them kept. What was
     // kept, and which faults there were, says `means`. With each other status no journal's making failed.
     ensures journal_fault { (node : ℕ) → result ≡ JournalFault node → MakesRuns asked }
-    ensures journals_unfailed { (IsJournalFault result → ⊥) → M.faults journals.new ≡ M.faults journals.old }
+    ensures journals_unfailed { (IsJournalFault result → ⊥) → (M.seen journals.new).faults ≡ (M.seen journals.old).faults }
     // Where it is told that no journal may fail, none does.
-    ensures journals_unfailing { M.may_fail journals.old ≡ Some [] → (node : ℕ) → result ≡ JournalFault node → ⊥ }
+    ensures journals_unfailing { (M.seen journals.old).may_fail ≡ Some [] → (node : ℕ) → result ≡ JournalFault node → ⊥ }
     ensures journals_untouched { (MakesRuns asked → ⊥) → journals.new ≡ journals.old }
-    ensures journals_faults { M.faults journals.old ≤ M.faults journals.new }
-    ensures journals_told { M.may_fail journals.new ≡ M.may_fail journals.old }
+    ensures journals_faults { (M.seen journals.old).faults ≤ (M.seen journals.new).faults }
+    ensures journals_told { (M.seen journals.new).may_fail ≡ (M.seen journals.old).may_fail }
 {
     run(alloc, course, asked, source, sink, journals)
 }

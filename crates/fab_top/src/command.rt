@@ -49,9 +49,7 @@ pub fn plain<S: Source, K: Sink, M: Journals>(
     requires { (telling : AnyTelling) → command_in (asked_by words.now) ≢ Some (Run telling) }
 
     // What each status says of what was read and of what was written.
-    ensures means { IsReplied (asked_by words.now) → Ends (command_in (asked_by words.now)) result (input_of (asked_by words.now) (S.left source.old)) (rest_of (asked_by words.now) (S.left source.new)) (K.written sink.old) (K.written sink.new)
-        (record { may_fail = M.may_fail journals.old; kept = M.kept journals.old; faults = M.faults journals.old })
-        (record { may_fail = M.may_fail journals.new; kept = M.kept journals.new; faults = M.faults journals.new }) }
+    ensures means { IsReplied (asked_by words.now) → Ends (command_in (asked_by words.now)) result (input_of (asked_by words.now) (S.left source.old)) (rest_of (asked_by words.now) (S.left source.new)) (K.written sink.old) (K.written sink.new) (M.seen journals.old) (M.seen journals.new) }
 
     // Whatever reply the command and the text have is the one that comes, whole, unless the source,
     // the sink or a journal fails or memory runs out; so each refusal comes exactly where it should.
@@ -76,17 +74,11 @@ pub fn plain<S: Source, K: Sink, M: Journals>(
 
     // `WriteFault` comes only where the sink's faults rose, and a front of the reply is written.
     ensures write_fault { result ≡ WriteFault → Rose (K.faults sink.old) (K.faults sink.new) }
-    ensures write_fault_front { IsReplied (asked_by words.now) → result ≡ WriteFault → RepliesInPart (command_in (asked_by words.now)) (input_of (asked_by words.now) (S.left source.old)) (rest_of (asked_by words.now) (S.left source.new)) (K.written sink.old) (K.written sink.new)
-        (record { may_fail = M.may_fail journals.old; kept = M.kept journals.old; faults = M.faults journals.old })
-        (record { may_fail = M.may_fail journals.new; kept = M.kept journals.new; faults = M.faults journals.new }) }
+    ensures write_fault_front { IsReplied (asked_by words.now) → result ≡ WriteFault → RepliesInPart (command_in (asked_by words.now)) (input_of (asked_by words.now) (S.left source.old)) (rest_of (asked_by words.now) (S.left source.new)) (K.written sink.old) (K.written sink.new) (M.seen journals.old) (M.seen journals.new) }
 
     // With `Memory` nothing is written, and nothing came of the journals, or the first of those of a run, or of a start that failed, were kept;
     // or a front of the reply to what was read is written.
-    ensures memory { IsReplied (asked_by words.now) → result ≡ Memory → (Keeps (K.written sink.old) (K.written sink.new) × AreCut (command_in (asked_by words.now)) (input_of (asked_by words.now) (S.left source.old)) (rest_of (asked_by words.now) (S.left source.new))
-        (record { may_fail = M.may_fail journals.old; kept = M.kept journals.old; faults = M.faults journals.old })
-        (record { may_fail = M.may_fail journals.new; kept = M.kept journals.new; faults = M.faults journals.new })) ⊎ RepliesInPart (command_in (asked_by words.now)) (input_of (asked_by words.now) (S.left source.old)) (rest_of (asked_by words.now) (S.left source.new)) (K.written sink.old) (K.written sink.new)
-        (record { may_fail = M.may_fail journals.old; kept = M.kept journals.old; faults = M.faults journals.old })
-        (record { may_fail = M.may_fail journals.new; kept = M.kept journals.new; faults = M.faults journals.new }) }
+    ensures memory { IsReplied (asked_by words.now) → result ≡ Memory → (Keeps (K.written sink.old) (K.written sink.new) × AreCut (command_in (asked_by words.now)) (input_of (asked_by words.now) (S.left source.old)) (rest_of (asked_by words.now) (S.left source.new)) (M.seen journals.old) (M.seen journals.new)) ⊎ RepliesInPart (command_in (asked_by words.now)) (input_of (asked_by words.now) (S.left source.old)) (rest_of (asked_by words.now) (S.left source.new)) (K.written sink.old) (K.written sink.new) (M.seen journals.old) (M.seen journals.new) }
     ensures source_faults { S.faults source.old ≤ S.faults source.new }
     ensures sink_faults { K.faults sink.old ≤ K.faults sink.new }
 
@@ -104,12 +96,12 @@ pub fn plain<S: Source, K: Sink, M: Journals>(
     // `JournalFault` comes of `replay` and `view` alone, and only these make journals and have them kept. What was
     // kept, and which faults there were, says `means`. With each other status no journal's making failed.
     ensures journal_fault { (node : ℕ) → result ≡ JournalFault node → MakesRuns (command_in (asked_by words.now)) }
-    ensures journals_unfailed { (IsJournalFault result → ⊥) → M.faults journals.new ≡ M.faults journals.old }
+    ensures journals_unfailed { (IsJournalFault result → ⊥) → (M.seen journals.new).faults ≡ (M.seen journals.old).faults }
     // Where it is told that no journal may fail, none does.
-    ensures journals_unfailing { M.may_fail journals.old ≡ Some [] → (node : ℕ) → result ≡ JournalFault node → ⊥ }
+    ensures journals_unfailing { (M.seen journals.old).may_fail ≡ Some [] → (node : ℕ) → result ≡ JournalFault node → ⊥ }
     ensures journals_untouched { (MakesRuns (command_in (asked_by words.now)) → ⊥) → journals.new ≡ journals.old }
-    ensures journals_faults { M.faults journals.old ≤ M.faults journals.new }
-    ensures journals_told { M.may_fail journals.new ≡ M.may_fail journals.old }
+    ensures journals_faults { (M.seen journals.old).faults ≤ (M.seen journals.new).faults }
+    ensures journals_told { (M.seen journals.new).may_fail ≡ (M.seen journals.old).may_fail }
 {
     match asked_task(alloc, words) {
         Ok(task) => done(alloc, &ByHand, task, source, sink, journals),
@@ -135,9 +127,7 @@ pub fn fab<R: Threads + Wait + Sync, S: Source, K: Sink, M: Journals, G: Gate + 
     gate: &G,
 ) -> Status
     // What each status says of what was read and of what was written.
-    ensures means { IsReplied (asked_by words.now) → Ends (command_in (asked_by words.now)) result (input_of (asked_by words.now) (S.left source.old)) (rest_of (asked_by words.now) (S.left source.new)) (K.written sink.old) (K.written sink.new)
-        (record { may_fail = M.may_fail journals.old; kept = M.kept journals.old; faults = M.faults journals.old })
-        (record { may_fail = M.may_fail journals.new; kept = M.kept journals.new; faults = M.faults journals.new }) }
+    ensures means { IsReplied (asked_by words.now) → Ends (command_in (asked_by words.now)) result (input_of (asked_by words.now) (S.left source.old)) (rest_of (asked_by words.now) (S.left source.new)) (K.written sink.old) (K.written sink.new) (M.seen journals.old) (M.seen journals.new) }
 
     // Whatever reply the command and the text have is the one that comes, whole, unless the source,
     // the sink or a journal fails or memory runs out; so each refusal comes exactly where it should.
@@ -166,17 +156,11 @@ pub fn fab<R: Threads + Wait + Sync, S: Source, K: Sink, M: Journals, G: Gate + 
 
     // `WriteFault` comes only where the sink's faults rose, and a front of the reply is written.
     ensures write_fault { result ≡ WriteFault → Rose (K.faults sink.old) (K.faults sink.new) }
-    ensures write_fault_front { IsReplied (asked_by words.now) → result ≡ WriteFault → RepliesInPart (command_in (asked_by words.now)) (input_of (asked_by words.now) (S.left source.old)) (rest_of (asked_by words.now) (S.left source.new)) (K.written sink.old) (K.written sink.new)
-        (record { may_fail = M.may_fail journals.old; kept = M.kept journals.old; faults = M.faults journals.old })
-        (record { may_fail = M.may_fail journals.new; kept = M.kept journals.new; faults = M.faults journals.new }) }
+    ensures write_fault_front { IsReplied (asked_by words.now) → result ≡ WriteFault → RepliesInPart (command_in (asked_by words.now)) (input_of (asked_by words.now) (S.left source.old)) (rest_of (asked_by words.now) (S.left source.new)) (K.written sink.old) (K.written sink.new) (M.seen journals.old) (M.seen journals.new) }
 
     // With `Memory` nothing is written, and nothing came of the journals, or the first of those of a run, or of a start that failed, were kept;
     // or a front of the reply to what was read is written.
-    ensures memory { IsReplied (asked_by words.now) → result ≡ Memory → (Keeps (K.written sink.old) (K.written sink.new) × AreCut (command_in (asked_by words.now)) (input_of (asked_by words.now) (S.left source.old)) (rest_of (asked_by words.now) (S.left source.new))
-        (record { may_fail = M.may_fail journals.old; kept = M.kept journals.old; faults = M.faults journals.old })
-        (record { may_fail = M.may_fail journals.new; kept = M.kept journals.new; faults = M.faults journals.new })) ⊎ RepliesInPart (command_in (asked_by words.now)) (input_of (asked_by words.now) (S.left source.old)) (rest_of (asked_by words.now) (S.left source.new)) (K.written sink.old) (K.written sink.new)
-        (record { may_fail = M.may_fail journals.old; kept = M.kept journals.old; faults = M.faults journals.old })
-        (record { may_fail = M.may_fail journals.new; kept = M.kept journals.new; faults = M.faults journals.new }) }
+    ensures memory { IsReplied (asked_by words.now) → result ≡ Memory → (Keeps (K.written sink.old) (K.written sink.new) × AreCut (command_in (asked_by words.now)) (input_of (asked_by words.now) (S.left source.old)) (rest_of (asked_by words.now) (S.left source.new)) (M.seen journals.old) (M.seen journals.new)) ⊎ RepliesInPart (command_in (asked_by words.now)) (input_of (asked_by words.now) (S.left source.old)) (rest_of (asked_by words.now) (S.left source.new)) (K.written sink.old) (K.written sink.new) (M.seen journals.old) (M.seen journals.new) }
     ensures source_faults { S.faults source.old ≤ S.faults source.new }
     ensures sink_faults { K.faults sink.old ≤ K.faults sink.new }
 
@@ -194,12 +178,12 @@ pub fn fab<R: Threads + Wait + Sync, S: Source, K: Sink, M: Journals, G: Gate + 
     // `JournalFault` comes of `replay`, `run`, `drill` and `view` alone, and only these make journals and have them kept. What was
     // kept, and which faults there were, says `means`. With each other status no journal's making failed.
     ensures journal_fault { (node : ℕ) → result ≡ JournalFault node → MakesRuns (command_in (asked_by words.now)) }
-    ensures journals_unfailed { (IsJournalFault result → ⊥) → M.faults journals.new ≡ M.faults journals.old }
+    ensures journals_unfailed { (IsJournalFault result → ⊥) → (M.seen journals.new).faults ≡ (M.seen journals.old).faults }
     // Where it is told that no journal may fail, none does.
-    ensures journals_unfailing { M.may_fail journals.old ≡ Some [] → (node : ℕ) → result ≡ JournalFault node → ⊥ }
+    ensures journals_unfailing { (M.seen journals.old).may_fail ≡ Some [] → (node : ℕ) → result ≡ JournalFault node → ⊥ }
     ensures journals_untouched { (MakesRuns (command_in (asked_by words.now)) → ⊥) → journals.new ≡ journals.old }
-    ensures journals_faults { M.faults journals.old ≤ M.faults journals.new }
-    ensures journals_told { M.may_fail journals.new ≡ M.may_fail journals.old }
+    ensures journals_faults { (M.seen journals.old).faults ≤ (M.seen journals.new).faults }
+    ensures journals_told { (M.seen journals.new).may_fail ≡ (M.seen journals.old).may_fail }
 {
     let course = ByCall {
         call: |core: Core<M::Item>|

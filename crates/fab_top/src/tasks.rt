@@ -61,31 +61,23 @@ fn drill<C: Course<Core<M::Item>>, K: Sink, M: Journals>(
     requires few { size ≤ 1000 }
     requires made { CanMake C.makes (Some (Run Summary)) }
     requires course { IsCourse C.makes (C.may course.now) (C.comes course.now) }
-    ensures means { Ends (Some (Run Summary)) result (Some (generated_text number size)) (Some []) (K.written sink.old) (K.written sink.new)
-        (record { may_fail = M.may_fail journals.old; kept = M.kept journals.old; faults = M.faults journals.old })
-        (record { may_fail = M.may_fail journals.new; kept = M.kept journals.new; faults = M.faults journals.new }) }
+    ensures means { Ends (Some (Run Summary)) result (Some (generated_text number size)) (Some []) (K.written sink.old) (K.written sink.new) (M.seen journals.old) (M.seen journals.new) }
     ensures exact { result ≢ ReadFault → IfSome (Some (generated_text number size)) (λ text. (status : AnyStatus) (reply : List ℕ) → Replies (Some (Run Summary)) text status reply → ComesTo result status (K.written sink.old) (K.written sink.new) reply) }
     ensures complete { result ≢ ReadFault → IfSome (Some (generated_text number size)) (IsComplete (Some (Run Summary)) result) }
     ensures write_fault { result ≡ WriteFault → Rose (K.faults sink.old) (K.faults sink.new) }
-    ensures write_fault_front { result ≡ WriteFault → RepliesInPart (Some (Run Summary)) (Some (generated_text number size)) (Some []) (K.written sink.old) (K.written sink.new)
-        (record { may_fail = M.may_fail journals.old; kept = M.kept journals.old; faults = M.faults journals.old })
-        (record { may_fail = M.may_fail journals.new; kept = M.kept journals.new; faults = M.faults journals.new }) }
-    ensures memory { result ≡ Memory → (Keeps (K.written sink.old) (K.written sink.new) × AreCut (Some (Run Summary)) (Some (generated_text number size)) (Some [])
-        (record { may_fail = M.may_fail journals.old; kept = M.kept journals.old; faults = M.faults journals.old })
-        (record { may_fail = M.may_fail journals.new; kept = M.kept journals.new; faults = M.faults journals.new })) ⊎ RepliesInPart (Some (Run Summary)) (Some (generated_text number size)) (Some []) (K.written sink.old) (K.written sink.new)
-        (record { may_fail = M.may_fail journals.old; kept = M.kept journals.old; faults = M.faults journals.old })
-        (record { may_fail = M.may_fail journals.new; kept = M.kept journals.new; faults = M.faults journals.new }) }
+    ensures write_fault_front { result ≡ WriteFault → RepliesInPart (Some (Run Summary)) (Some (generated_text number size)) (Some []) (K.written sink.old) (K.written sink.new) (M.seen journals.old) (M.seen journals.new) }
+    ensures memory { result ≡ Memory → (Keeps (K.written sink.old) (K.written sink.new) × AreCut (Some (Run Summary)) (Some (generated_text number size)) (Some []) (M.seen journals.old) (M.seen journals.new)) ⊎ RepliesInPart (Some (Run Summary)) (Some (generated_text number size)) (Some []) (K.written sink.old) (K.written sink.new) (M.seen journals.old) (M.seen journals.new) }
     ensures sink_faults { K.faults sink.old ≤ K.faults sink.new }
     ensures sink_unfailed { result ≢ WriteFault → K.faults sink.new ≡ K.faults sink.old }
     ensures headline { MakesRuns (Some (Run Summary)) → result ≡ Done → Headline (Some (Run Summary)) (IsWholeFor (Some (Run Summary))) (Some (generated_text number size)) (Some []) (K.written sink.old) (K.written sink.new) }
     ensures headline_of_a_part { (node : ℕ) → result ≡ JournalFault node
         → Keeps (K.written sink.old) (K.written sink.new) ⊎ Headline (Some (Run Summary)) (IsPartFor (Some (Run Summary)) node) (Some (generated_text number size)) (Some []) (K.written sink.old) (K.written sink.new) }
     ensures journal_fault { (node : ℕ) → result ≡ JournalFault node → MakesRuns (Some (Run Summary)) }
-    ensures journals_unfailed { (IsJournalFault result → ⊥) → M.faults journals.new ≡ M.faults journals.old }
-    ensures journals_unfailing { M.may_fail journals.old ≡ Some [] → (node : ℕ) → result ≡ JournalFault node → ⊥ }
+    ensures journals_unfailed { (IsJournalFault result → ⊥) → (M.seen journals.new).faults ≡ (M.seen journals.old).faults }
+    ensures journals_unfailing { (M.seen journals.old).may_fail ≡ Some [] → (node : ℕ) → result ≡ JournalFault node → ⊥ }
     ensures journals_untouched { (MakesRuns (Some (Run Summary)) → ⊥) → journals.new ≡ journals.old }
-    ensures journals_faults { M.faults journals.old ≤ M.faults journals.new }
-    ensures journals_told { M.may_fail journals.new ≡ M.may_fail journals.old }
+    ensures journals_faults { (M.seen journals.old).faults ≤ (M.seen journals.new).faults }
+    ensures journals_told { (M.seen journals.new).may_fail ≡ (M.seen journals.old).may_fail }
     ensures read_never { result ≢ ReadFault }
     ensures usage_never { result ≢ Usage }
 {
@@ -110,9 +102,7 @@ pub(crate) fn done<C: Course<Core<M::Item>>, S: Source, K: Sink, M: Journals>(
     requires made { CanMake C.makes (command_in task) }
     requires course { IsCourse C.makes (C.may course.now) (C.comes course.now) }
     requires sized { IsSized task }
-    ensures means { IsReplied task → Ends (command_in task) result (input_of task (S.left source.old)) (rest_of task (S.left source.new)) (K.written sink.old) (K.written sink.new)
-        (record { may_fail = M.may_fail journals.old; kept = M.kept journals.old; faults = M.faults journals.old })
-        (record { may_fail = M.may_fail journals.new; kept = M.kept journals.new; faults = M.faults journals.new }) }
+    ensures means { IsReplied task → Ends (command_in task) result (input_of task (S.left source.old)) (rest_of task (S.left source.new)) (K.written sink.old) (K.written sink.new) (M.seen journals.old) (M.seen journals.new) }
     ensures exact { IsReplied task → result ≢ ReadFault → IfSome (input_of task (S.left source.old)) (λ text. (status : AnyStatus) (reply : List ℕ) → Replies (command_in task) text status reply → ComesTo result status (K.written sink.old) (K.written sink.new) reply) }
     ensures complete { result ≢ ReadFault → IfSome (input_of task (S.left source.old)) (IsComplete (command_in task) result) }
     ensures generates { (number size : ℕ) → task ≡ Some (Generate number size) → Generates number size result (K.written sink.old) (K.written sink.new) }
@@ -124,14 +114,8 @@ pub(crate) fn done<C: Course<Core<M::Item>>, S: Source, K: Sink, M: Journals>(
     ensures read_fault { result ≡ ReadFault → Rose (S.faults source.old) (S.faults source.new) }
     ensures read_fault_unwritten { result ≡ ReadFault → sink.new ≡ sink.old }
     ensures write_fault { result ≡ WriteFault → Rose (K.faults sink.old) (K.faults sink.new) }
-    ensures write_fault_front { IsReplied task → result ≡ WriteFault → RepliesInPart (command_in task) (input_of task (S.left source.old)) (rest_of task (S.left source.new)) (K.written sink.old) (K.written sink.new)
-        (record { may_fail = M.may_fail journals.old; kept = M.kept journals.old; faults = M.faults journals.old })
-        (record { may_fail = M.may_fail journals.new; kept = M.kept journals.new; faults = M.faults journals.new }) }
-    ensures memory { IsReplied task → result ≡ Memory → (Keeps (K.written sink.old) (K.written sink.new) × AreCut (command_in task) (input_of task (S.left source.old)) (rest_of task (S.left source.new))
-        (record { may_fail = M.may_fail journals.old; kept = M.kept journals.old; faults = M.faults journals.old })
-        (record { may_fail = M.may_fail journals.new; kept = M.kept journals.new; faults = M.faults journals.new })) ⊎ RepliesInPart (command_in task) (input_of task (S.left source.old)) (rest_of task (S.left source.new)) (K.written sink.old) (K.written sink.new)
-        (record { may_fail = M.may_fail journals.old; kept = M.kept journals.old; faults = M.faults journals.old })
-        (record { may_fail = M.may_fail journals.new; kept = M.kept journals.new; faults = M.faults journals.new }) }
+    ensures write_fault_front { IsReplied task → result ≡ WriteFault → RepliesInPart (command_in task) (input_of task (S.left source.old)) (rest_of task (S.left source.new)) (K.written sink.old) (K.written sink.new) (M.seen journals.old) (M.seen journals.new) }
+    ensures memory { IsReplied task → result ≡ Memory → (Keeps (K.written sink.old) (K.written sink.new) × AreCut (command_in task) (input_of task (S.left source.old)) (rest_of task (S.left source.new)) (M.seen journals.old) (M.seen journals.new)) ⊎ RepliesInPart (command_in task) (input_of task (S.left source.old)) (rest_of task (S.left source.new)) (K.written sink.old) (K.written sink.new) (M.seen journals.old) (M.seen journals.new) }
     ensures source_faults { S.faults source.old ≤ S.faults source.new }
     ensures sink_faults { K.faults sink.old ≤ K.faults sink.new }
     ensures source_unfailed { result ≢ ReadFault → S.faults source.new ≡ S.faults source.old }
@@ -140,11 +124,11 @@ pub(crate) fn done<C: Course<Core<M::Item>>, S: Source, K: Sink, M: Journals>(
     ensures headline_of_a_part { (node : ℕ) → result ≡ JournalFault node
         → Keeps (K.written sink.old) (K.written sink.new) ⊎ Headline (command_in task) (IsPartFor (command_in task) node) (input_of task (S.left source.old)) (rest_of task (S.left source.new)) (K.written sink.old) (K.written sink.new) }
     ensures journal_fault { (node : ℕ) → result ≡ JournalFault node → MakesRuns (command_in task) }
-    ensures journals_unfailed { (IsJournalFault result → ⊥) → M.faults journals.new ≡ M.faults journals.old }
-    ensures journals_unfailing { M.may_fail journals.old ≡ Some [] → (node : ℕ) → result ≡ JournalFault node → ⊥ }
+    ensures journals_unfailed { (IsJournalFault result → ⊥) → (M.seen journals.new).faults ≡ (M.seen journals.old).faults }
+    ensures journals_unfailing { (M.seen journals.old).may_fail ≡ Some [] → (node : ℕ) → result ≡ JournalFault node → ⊥ }
     ensures journals_untouched { (MakesRuns (command_in task) → ⊥) → journals.new ≡ journals.old }
-    ensures journals_faults { M.faults journals.old ≤ M.faults journals.new }
-    ensures journals_told { M.may_fail journals.new ≡ M.may_fail journals.old }
+    ensures journals_faults { (M.seen journals.old).faults ≤ (M.seen journals.new).faults }
+    ensures journals_told { (M.seen journals.new).may_fail ≡ (M.seen journals.old).may_fail }
 {
     match task {
         None => answer(alloc, course, None, source, sink, journals),

@@ -1,9 +1,9 @@
 use Rattle.std.proofs.Common.{Some, sym, ◌∙◌, subst}
+use Rattle.fab_device.specs.Kept.{Makers}
 use Rattle.fab_core.specs.Starts.{given_by}
 use Rattle.fab_replay.specs.Kept.{IsCutShort, IsPossible, IsReplayed}
 use Rattle.fab_replay.specs.Replays.{IsReady}
 use Rattle.fab_replay.proofs.Viewing.{any_err}
-use Rattle.fab_reply.specs.Replays.{Makers}
 use Rattle.fab_reply.specs.Reply.{Answers, AreLeft, status_of, text_of}
 use Rattle.fab_front.proofs.Accepting.{if_told, within}
 use Rattle.fab_reply.proofs.Replaying.{answered, cut_answer, cut_replay, left_behind, unless_told}
@@ -41,11 +41,11 @@ returns-in_err-answer-clause-cut g c =
     let rights = c.in_ok-setup.setup.rights in
     let wanted = c.in_ok-wanted.wanted in
     let accepted = e.accepted c.args.start.now (sym p.1) (record { within = within c.requires.front.is; named = p.0; labelled = p.2 }) in
-    let old : Makers = record { may_fail = J.may_fail c.args.journals.now; kept = J.kept c.args.journals.now; faults = J.faults c.args.journals.now } in
-    let new : Makers = record { may_fail = J.may_fail c.make_run.new.journals; kept = J.kept c.make_run.new.journals; faults = J.faults c.make_run.new.journals } in
+    let old : Makers = J.seen c.args.journals.now in
+    let new : Makers = J.seen c.make_run.new.journals in
     any_err c.from_residual-in_err-answer.result
     (cut_replay c.requires.front rights accepted c.args.command.now wanted c.in_ok-wanted.ensures.0 old new
-    (subst (λ r. IsCutShort (given_by r rights) wanted old.kept new.kept) (e.program ∙ p.1) c.in_err-answer.ensures.memory) c.in_err-answer.ensures.unfailed c.in_err-answer.ensures.told)
+    (subst (λ r. IsCutShort (given_by r rights) wanted old new) (e.program ∙ p.1) c.in_err-answer.ensures.memory) c.in_err-answer.ensures.told)
 
 pub returns-clause-replies : goal.returns-clause-replies
 returns-clause-replies g c =
@@ -55,10 +55,10 @@ returns-clause-replies g c =
     let rights = c.in_ok-setup.setup.rights in
     let wanted = c.in_ok-wanted.wanted in
     let accepted = e.accepted c.args.start.now (sym p.1) (record { within = within c.requires.front.is; named = p.0; labelled = p.2 }) in
-    let old : Makers = record { may_fail = J.may_fail c.args.journals.now; kept = J.kept c.args.journals.now; faults = J.faults c.args.journals.now } in
-    let new : Makers = record { may_fail = J.may_fail c.make_run.new.journals; kept = J.kept c.make_run.new.journals; faults = J.faults c.make_run.new.journals } in
+    let old : Makers = J.seen c.args.journals.now in
+    let new : Makers = J.seen c.make_run.new.journals in
     let answer = c.in_ok-answer.answer in
-    let there = subst (λ r. IsReplayed old.may_fail (given_by r rights) wanted answer old.kept new.kept old.faults new.faults) (e.program ∙ p.1) c.in_ok-answer.ensures.answer in
+    let there = subst (λ r. IsReplayed (given_by r rights) wanted answer old new) (e.program ∙ p.1) c.in_ok-answer.ensures.answer in
     if_told (Answers (Some c.args.command.now) c.args.text.now) (status_of answer) (text_of answer) c.told.result c.told.ensures.told
     (answered c.requires.front rights accepted c.args.command.now wanted c.in_ok-wanted.ensures.0 answer old new there)
 
@@ -70,10 +70,10 @@ returns-clause-journals g c =
     let rights = c.in_ok-setup.setup.rights in
     let wanted = c.in_ok-wanted.wanted in
     let accepted = e.accepted c.args.start.now (sym p.1) (record { within = within c.requires.front.is; named = p.0; labelled = p.2 }) in
-    let old : Makers = record { may_fail = J.may_fail c.args.journals.now; kept = J.kept c.args.journals.now; faults = J.faults c.args.journals.now } in
-    let new : Makers = record { may_fail = J.may_fail c.make_run.new.journals; kept = J.kept c.make_run.new.journals; faults = J.faults c.make_run.new.journals } in
+    let old : Makers = J.seen c.args.journals.now in
+    let new : Makers = J.seen c.make_run.new.journals in
     let answer = c.in_ok-answer.answer in
-    let there = subst (λ r. IsReplayed old.may_fail (given_by r rights) wanted answer old.kept new.kept old.faults new.faults) (e.program ∙ p.1) c.in_ok-answer.ensures.answer in
+    let there = subst (λ r. IsReplayed (given_by r rights) wanted answer old new) (e.program ∙ p.1) c.in_ok-answer.ensures.answer in
     let possible = subst (λ r. IsPossible old.may_fail r answer) (e.program ∙ p.1) c.in_ok-answer.ensures.possible in
     if_told (AreLeft c.args.command.now c.args.text.now old new) (status_of answer) (text_of answer) c.told.result c.told.ensures.told
     (left_behind c.requires.front rights accepted c.args.command.now wanted c.in_ok-wanted.ensures.0 answer old new there possible)
@@ -86,8 +86,8 @@ returns-clause-cut g c =
     let rights = c.in_ok-setup.setup.rights in
     let wanted = c.in_ok-wanted.wanted in
     let accepted = e.accepted c.args.start.now (sym p.1) (record { within = within c.requires.front.is; named = p.0; labelled = p.2 }) in
-    let old : Makers = record { may_fail = J.may_fail c.args.journals.now; kept = J.kept c.args.journals.now; faults = J.faults c.args.journals.now } in
-    let new : Makers = record { may_fail = J.may_fail c.make_run.new.journals; kept = J.kept c.make_run.new.journals; faults = J.faults c.make_run.new.journals } in
+    let old : Makers = J.seen c.args.journals.now in
+    let new : Makers = J.seen c.make_run.new.journals in
     let answer = c.in_ok-answer.answer in
-    let there = subst (λ r. IsReplayed old.may_fail (given_by r rights) wanted answer old.kept new.kept old.faults new.faults) (e.program ∙ p.1) c.in_ok-answer.ensures.answer in
+    let there = subst (λ r. IsReplayed (given_by r rights) wanted answer old new) (e.program ∙ p.1) c.in_ok-answer.ensures.answer in
     unless_told c.told.result (cut_answer c.requires.front rights accepted c.args.command.now wanted c.in_ok-wanted.ensures.0 answer old new there) c.told.ensures.failed c.in_ok-answer.ensures.told

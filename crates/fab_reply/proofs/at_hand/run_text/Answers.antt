@@ -1,7 +1,7 @@
 use Rattle.std.proofs.Common.{◌≢◌, Some, [], inl, inr, refl, subst}
+use Rattle.fab_device.specs.Kept.{Makers}
 use Rattle.std.proofs.KnownBytes.{Keeps-refl}
 use Rattle.std.specs.Io.KnownBytes.{Appends}
-use Rattle.fab_reply.specs.Replays.{Makers}
 use Rattle.fab_front.specs.Reading.{WritesFront}
 use Rattle.fab_reply.specs.Reply.{read}
 use Rattle.fab_reply.proofs.AtHand.{read_at_once}
@@ -14,8 +14,8 @@ returns-in-Ok-write_all-clause-means g c =
     let J = g.M.Journals in
     let w = g.K.Sink.written c.args.sink.now in
     let w' = g.K.Sink.written c.write_all.new.sink in
-    let old : Makers = record { may_fail = J.may_fail c.args.journals.now; kept = J.kept c.args.journals.now; faults = J.faults c.args.journals.now } in
-    let new : Makers = record { may_fail = J.may_fail c.replied.new.journals; kept = J.kept c.replied.new.journals; faults = J.faults c.replied.new.journals } in
+    let old : Makers = J.seen c.args.journals.now in
+    let new : Makers = J.seen c.replied.new.journals in
     ends_so (Some c.args.text.now) (Some []) w w' old new (of_answers c.in-Ok.ensures.replies)
     (record {
       text = c.args.text.now;

@@ -1,5 +1,5 @@
-use Rattle.fab_reply.specs.Replays.{Makers}
 use Rattle.fab_reply.specs.Reply.{one_reply}
+use Rattle.fab_device.specs.Kept.{Makers}
 use Rattle.fab_reply.proofs.Replying.{said_reply}
 use Rattle.fab_reply.proofs.Saying.{all_left, is_left}
 use Rattle.fab_reply.proofs.command.replied.Goals as goal
@@ -20,8 +20,8 @@ pub returns-in-OfRuns-clause-journals : goal.returns-in-OfRuns-clause-journals
 returns-in-OfRuns-clause-journals g c =
     let J = g.M.Journals in
     let p = rw c.in-OfRuns.is at c.in_ok-status.ensures in
-    let old : Makers = record { may_fail = J.may_fail c.args.journals.now; kept = J.kept c.args.journals.now; faults = J.faults c.args.journals.now } in
-    let new : Makers = record { may_fail = J.may_fail c.replayed.new.journals; kept = J.kept c.replayed.new.journals; faults = J.faults c.replayed.new.journals } in
+    let old : Makers = J.seen c.args.journals.now in
+    let new : Makers = J.seen c.replayed.new.journals in
     all_left c.args.command.now c.args.text.now old new c.replayed.result p.0 c.replayed.ensures.journals
 
 pub returns-in-OfRuns-clause-untouched : goal.returns-in-OfRuns-clause-untouched

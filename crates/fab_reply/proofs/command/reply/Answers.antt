@@ -1,6 +1,6 @@
 use Rattle.std.proofs.Common.{[], Some, refl, subst}
+use Rattle.fab_device.specs.Kept.{Makers}
 use Rattle.std.proofs.KnownBytes.{Keeps-refl}
-use Rattle.fab_reply.specs.Replays.{Makers}
 use Rattle.fab_reply.specs.Reply.{Answers, IsCut, JournalsAre, one_reply, unasked, read}
 use Rattle.fab_reply.proofs.Replaying.{cut_left}
 use Rattle.fab_reply.proofs.Replying.{usage_reply}
@@ -14,8 +14,8 @@ returns-in_ok-usage-in-None-clause-given g c =
 pub returns-in_ok-replied-in-Some-clause-given : goal.returns-in_ok-replied-in-Some-clause-given
 returns-in_ok-replied-in-Some-clause-given g c =
     let J = g.M.Journals in
-    let old : Makers = record { may_fail = J.may_fail c.args.journals.now; kept = J.kept c.args.journals.now; faults = J.faults c.args.journals.now } in
-    let new : Makers = record { may_fail = J.may_fail c.replied.new.journals; kept = J.kept c.replied.new.journals; faults = J.faults c.replied.new.journals } in
+    let old : Makers = J.seen c.args.journals.now in
+    let new : Makers = J.seen c.replied.new.journals in
     let status = c.in_ok-replied-in-Some.field-0.0 in
     let reply = c.in_ok-replied-in-Some.field-0.1 in
     rw c.in-Some.is (
@@ -28,6 +28,6 @@ returns-in_ok-replied-in-Some-clause-given g c =
 pub returns-in_err-replied-in-Some-clause-cut : goal.returns-in_err-replied-in-Some-clause-cut
 returns-in_err-replied-in-Some-clause-cut g c failed =
     let J = g.M.Journals in
-    let old : Makers = record { may_fail = J.may_fail c.args.journals.now; kept = J.kept c.args.journals.now; faults = J.faults c.args.journals.now } in
-    let new : Makers = record { may_fail = J.may_fail c.replied.new.journals; kept = J.kept c.replied.new.journals; faults = J.faults c.replied.new.journals } in
+    let old : Makers = J.seen c.args.journals.now in
+    let new : Makers = J.seen c.replied.new.journals in
     cut_left c.in-Some.is c.in_ok-text-in-Some.ensures.text (subst (λ t. IsCut c.in-Some.command t old new) c.deref.ensures.value c.in_err-replied-in-Some.ensures.cut)

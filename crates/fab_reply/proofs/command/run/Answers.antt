@@ -1,7 +1,7 @@
 use Rattle.std.proofs.Common.{Err, ap, inl, subst}
+use Rattle.fab_device.specs.Kept.{Makers}
 use Rattle.std.proofs.KnownBytes.{Keeps-refl}
 use Rattle.std.specs.Io.KnownBytes.{Appends}
-use Rattle.fab_reply.specs.Replays.{Makers}
 use Rattle.fab_reply.proofs.Answering.{ends_so, no_read_fault, no_write_fault, of_answers}
 use Rattle.fab_reply.proofs.command.run.Goals as goal
 
@@ -13,8 +13,8 @@ returns-in-Ok-write_all-clause-means g c =
     let l' = g.S.Source.left c.reply.new.source in
     let w = g.K.Sink.written c.args.sink.now in
     let w' = g.K.Sink.written c.write_all.new.sink in
-    let old : Makers = record { may_fail = J.may_fail c.args.journals.now; kept = J.kept c.args.journals.now; faults = J.faults c.args.journals.now } in
-    let new : Makers = record { may_fail = J.may_fail c.reply.new.journals; kept = J.kept c.reply.new.journals; faults = J.faults c.reply.new.journals } in
+    let old : Makers = J.seen c.args.journals.now in
+    let new : Makers = J.seen c.reply.new.journals in
     ends_so l l' w w' old new (of_answers given.2)
     (record {
       text = given.0;

@@ -1,8 +1,8 @@
 use Rattle.std.proofs.Common.{◌≡◌, ◌≢◌, ◌⊎◌, IfSome, List, ℕ, Option, subst}
+use Rattle.fab_device.specs.Kept.{Makers}
 use Rattle.std.specs.Io.KnownBytes.{Keeps}
 use Rattle.fab_command.specs.declared.task.Task.{Task}
 use Rattle.fab_gen.specs.Generated.{generated_text}
-use Rattle.fab_reply.specs.Replays.{Makers}
 use Rattle.fab_reply.specs.Reply.{AreCut, ComesTo, Replies, RepliesInPart}
 use Rattle.fab_front.specs.declared.status.Status.{Status}
 use Rattle.fab_front.specs.declared.status.Status.TheVariants.{Memory, ReadFault}
@@ -23,8 +23,8 @@ returns-in-Ok-clause-exact g c =
 pub returns-in-Ok-clause-memory : goal.returns-in-Ok-clause-memory
 returns-in-Ok-clause-memory g c =
     let J = g.M.Journals in
-    let old : Makers = record { may_fail = J.may_fail c.args.journals.now; kept = J.kept c.args.journals.now; faults = J.faults c.args.journals.now } in
-    let new : Makers = record { may_fail = J.may_fail c.done.new.journals; kept = J.kept c.done.new.journals; faults = J.faults c.done.new.journals } in
+    let old : Makers = J.seen c.args.journals.now in
+    let new : Makers = J.seen c.done.new.journals in
     let l = g.S.Source.left c.args.source.now in
     let l' = g.S.Source.left c.done.new.source in
     let w = g.K.Sink.written c.args.sink.now in

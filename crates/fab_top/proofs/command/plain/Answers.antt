@@ -1,10 +1,11 @@
 use Rattle.std.proofs.Common.{◌≡◌, ◌⊎◌, Option, subst, sym}
+use Rattle.fab_device.specs.Kept.{Makers}
 use Rattle.std.proofs.lemmas.Bool.{false≢true}
 use Rattle.std.specs.Io.KnownBytes.{Keeps}
 use Rattle.fab_command.specs.declared.task.Task.{Task}
 use Rattle.fab_gen.specs.Generated.{generated_text}
 use Rattle.fab_replay.specs.Replays.{is_scheduled}
-use Rattle.fab_reply.specs.Replays.{CanMake, Makers}
+use Rattle.fab_reply.specs.Replays.{CanMake}
 use Rattle.fab_reply.specs.Reply.{AreCut, RepliesInPart}
 use Rattle.fab_front.specs.declared.status.Status.TheVariants.{Memory}
 use Rattle.fab_top.specs.Tasks.{IsReplied, command_in, input_of, rest_of}
@@ -16,8 +17,8 @@ use Rattle.fab_top.proofs.command.plain.Goals as goal
 pub returns-in-Ok-clause-memory : goal.returns-in-Ok-clause-memory
 returns-in-Ok-clause-memory g c =
     let J = g.M.Journals in
-    let old : Makers = record { may_fail = J.may_fail c.args.journals.now; kept = J.kept c.args.journals.now; faults = J.faults c.args.journals.now } in
-    let new : Makers = record { may_fail = J.may_fail c.done.new.journals; kept = J.kept c.done.new.journals; faults = J.faults c.done.new.journals } in
+    let old : Makers = J.seen c.args.journals.now in
+    let new : Makers = J.seen c.done.new.journals in
     let l = g.S.Source.left c.args.source.now in
     let l' = g.S.Source.left c.done.new.source in
     let w = g.K.Sink.written c.args.sink.now in

@@ -1,9 +1,9 @@
 use Rattle.std.proofs.Common.{◌≡◌, ◌≢◌, ◌⊎◌, ◌∙◌, ℕ, List, IfSome, Option, Some, ap, subst, sym}
+use Rattle.fab_device.specs.Kept.{Makers}
 use Rattle.std.specs.Io.KnownBytes.{Keeps}
 use Rattle.fab_command.specs.declared.task.Task.{Task}
 use Rattle.fab_reply.specs.Headline.{Headline, IsPartFor, IsWholeFor}
 use Rattle.fab_answers.specs.Says.{MakesRuns}
-use Rattle.fab_reply.specs.Replays.{Makers}
 use Rattle.fab_reply.specs.Reply.{AreCut, ComesTo, Ends, IsComplete, Replies, RepliesInPart}
 use Rattle.fab_front.specs.declared.status.Status.{Status}
 use Rattle.fab_front.specs.declared.status.Status.TheVariants.{JournalFault, Memory, Ok as Done, ReadFault}
@@ -13,8 +13,8 @@ use Rattle.fab_top.proofs.tasks.done.Goals as goal
 pub returns-in-Some-Reply-clause-memory : goal.returns-in-Some-Reply-clause-memory
 returns-in-Some-Reply-clause-memory g c =
     let J = g.M.Journals in
-    let old : Makers = record { may_fail = J.may_fail c.args.journals.now; kept = J.kept c.args.journals.now; faults = J.faults c.args.journals.now } in
-    let new : Makers = record { may_fail = J.may_fail c.answer-in-Some-Reply.new.journals; kept = J.kept c.answer-in-Some-Reply.new.journals; faults = J.faults c.answer-in-Some-Reply.new.journals } in
+    let old : Makers = J.seen c.args.journals.now in
+    let new : Makers = J.seen c.answer-in-Some-Reply.new.journals in
     let l = g.S.Source.left c.args.source.now in
     let l' = g.S.Source.left c.answer-in-Some-Reply.new.source in
     let w = g.K.Sink.written c.args.sink.now in
@@ -28,8 +28,8 @@ returns-in-Some-Reply-clause-memory g c =
 pub returns-in-Some-Drill-clause-means : goal.returns-in-Some-Drill-clause-means
 returns-in-Some-Drill-clause-means g c =
     let J = g.M.Journals in
-    let old : Makers = record { may_fail = J.may_fail c.args.journals.now; kept = J.kept c.args.journals.now; faults = J.faults c.args.journals.now } in
-    let new : Makers = record { may_fail = J.may_fail c.drill.new.journals; kept = J.kept c.drill.new.journals; faults = J.faults c.drill.new.journals } in
+    let old : Makers = J.seen c.args.journals.now in
+    let new : Makers = J.seen c.drill.new.journals in
     let l = g.S.Source.left c.args.source.now in
     let w = g.K.Sink.written c.args.sink.now in
     let w' = g.K.Sink.written c.drill.new.sink in
@@ -54,8 +54,8 @@ returns-in-Some-Drill-clause-complete g c =
 pub returns-in-Some-Drill-clause-memory : goal.returns-in-Some-Drill-clause-memory
 returns-in-Some-Drill-clause-memory g c =
     let J = g.M.Journals in
-    let old : Makers = record { may_fail = J.may_fail c.args.journals.now; kept = J.kept c.args.journals.now; faults = J.faults c.args.journals.now } in
-    let new : Makers = record { may_fail = J.may_fail c.drill.new.journals; kept = J.kept c.drill.new.journals; faults = J.faults c.drill.new.journals } in
+    let old : Makers = J.seen c.args.journals.now in
+    let new : Makers = J.seen c.drill.new.journals in
     let l = g.S.Source.left c.args.source.now in
     let w = g.K.Sink.written c.args.sink.now in
     let w' = g.K.Sink.written c.drill.new.sink in

@@ -1,10 +1,10 @@
 use Rattle.std.proofs.Common.{◌≡◌, ◌≢◌, ◌⊎◌, ◌∙◌, ℕ, List, [], IfSome, Some, subst}
+use Rattle.fab_device.specs.Kept.{Makers}
 use Rattle.std.specs.Io.KnownBytes.{Keeps}
 use Rattle.fab_command.specs.declared.command.Command.TheVariants.{Run}
 use Rattle.fab_command.specs.declared.command.Telling.TheVariants.{Summary}
 use Rattle.fab_reply.specs.Headline.{Headline, IsPartFor, IsWholeFor}
 use Rattle.fab_answers.specs.Says.{MakesRuns}
-use Rattle.fab_reply.specs.Replays.{Makers}
 use Rattle.fab_reply.specs.Reply.{AreCut, ComesTo, Ends, IsComplete, Replies, RepliesInPart}
 use Rattle.fab_front.specs.declared.status.Status.{Status}
 use Rattle.fab_front.specs.declared.status.Status.TheVariants.{JournalFault, Memory, Ok as Done, ReadFault, WriteFault}
@@ -14,8 +14,8 @@ use Rattle.fab_top.proofs.tasks.drill.Goals as goal
 pub returns-in-Ok-clause-means : goal.returns-in-Ok-clause-means
 returns-in-Ok-clause-means g c =
     let J = g.M.Journals in
-    let old : Makers = record { may_fail = J.may_fail c.args.journals.now; kept = J.kept c.args.journals.now; faults = J.faults c.args.journals.now } in
-    let new : Makers = record { may_fail = J.may_fail c.answer_text.new.journals; kept = J.kept c.answer_text.new.journals; faults = J.faults c.answer_text.new.journals } in
+    let old : Makers = J.seen c.args.journals.now in
+    let new : Makers = J.seen c.answer_text.new.journals in
     let w = g.K.Sink.written c.args.sink.now in
     let w' = g.K.Sink.written c.answer_text.new.sink in
     subst (λ (t : List ℕ). Ends (Some (Run Summary)) c.answer_text.result (Some t) (Some []) w w' old new) (c.as_slice.ensures ∙ c.in-Ok.ensures) c.answer_text.ensures.means
@@ -33,8 +33,8 @@ returns-in-Ok-clause-complete g c =
 pub returns-in-Ok-clause-write_fault_front : goal.returns-in-Ok-clause-write_fault_front
 returns-in-Ok-clause-write_fault_front g c =
     let J = g.M.Journals in
-    let old : Makers = record { may_fail = J.may_fail c.args.journals.now; kept = J.kept c.args.journals.now; faults = J.faults c.args.journals.now } in
-    let new : Makers = record { may_fail = J.may_fail c.answer_text.new.journals; kept = J.kept c.answer_text.new.journals; faults = J.faults c.answer_text.new.journals } in
+    let old : Makers = J.seen c.args.journals.now in
+    let new : Makers = J.seen c.answer_text.new.journals in
     let w = g.K.Sink.written c.args.sink.now in
     let w' = g.K.Sink.written c.answer_text.new.sink in
     subst (λ (t : List ℕ). c.answer_text.result ≡ WriteFault → RepliesInPart (Some (Run Summary)) (Some t) (Some []) w w' old new) (c.as_slice.ensures ∙ c.in-Ok.ensures) c.answer_text.ensures.write_fault_front
@@ -42,8 +42,8 @@ returns-in-Ok-clause-write_fault_front g c =
 pub returns-in-Ok-clause-memory : goal.returns-in-Ok-clause-memory
 returns-in-Ok-clause-memory g c =
     let J = g.M.Journals in
-    let old : Makers = record { may_fail = J.may_fail c.args.journals.now; kept = J.kept c.args.journals.now; faults = J.faults c.args.journals.now } in
-    let new : Makers = record { may_fail = J.may_fail c.answer_text.new.journals; kept = J.kept c.answer_text.new.journals; faults = J.faults c.answer_text.new.journals } in
+    let old : Makers = J.seen c.args.journals.now in
+    let new : Makers = J.seen c.answer_text.new.journals in
     let w = g.K.Sink.written c.args.sink.now in
     let w' = g.K.Sink.written c.answer_text.new.sink in
     subst (λ (t : List ℕ). c.answer_text.result ≡ Memory → (Keeps w w' × AreCut (Some (Run Summary)) (Some t) (Some []) old new) ⊎ RepliesInPart (Some (Run Summary)) (Some t) (Some []) w w' old new) (c.as_slice.ensures ∙ c.in-Ok.ensures) c.answer_text.ensures.memory
