@@ -30,11 +30,11 @@ use Rattle.fab_settings.proofs.Nodes.{holds_number}
 use Rattle.fab_integrity.specs.Redone.{AllRedone}
 use Rattle.fab_integrity.proofs.Runs.{faithful, hostile_excluded, left_out, serial}
 use Rattle.fab_world.specs.Machine.{Move, Setting}
-use Rattle.fab_world.specs.Serial.{Excludes, held_map, replay_one, within, world_of}
+use Rattle.fab_world.specs.Serial.{commits_in, Excludes, held_map, replay_one, within, world_of}
 use Rattle.fab_trusted.specs.Trusts.{IsTrustedBy}
 use Rattle.fab_trusted.specs.Trusted.{done_by, endorsed, endorsed_by, endorses_at, replayed_from, trusted_by}
 use Rattle.fab_trusted.specs.Robust.{IsGuarded, IsRobust}
-use Rattle.fab_trusted.specs.Agreement.{AreFollowed, IsFollowed, IsOfRun, RobustValuesTrusted, TrustedReplayAgrees, commits_at}
+use Rattle.fab_trusted.specs.Agreement.{AreFollowed, IsFollowed, IsOfRun, OutsideReplayAgrees, RobustValuesTrusted, TrustedReplayAgrees, commits_at}
 use Rattle.fab_trusted.proofs.Trusting.{trusted_view}
 use Rattle.fab_trusted.proofs.Endorsing.{endorses_is}
 use Rattle.fab_trusted.proofs.One as one
@@ -108,6 +108,14 @@ module _ (s : Start) (rights : Rights) (nodes : ℕ) (trusts keeps : ℕ → Boo
   redone : AllRedone S keeps (within keeps S.roots) (commits_at S moves)
   redone = faithful S (gives_setting s rights h.accepted) (evaluates s rights h.accepted) S.hostile keeps moves (hostile_excluded S (has_bit nodes) keeps excludes) h.run
 
+  pub held_outside : held_map S (has_bit nodes) keeps (world_of S moves)
+      ≡ replayed_from trusts keeps r (within keeps S.roots) (commits_in S (has_bit nodes) moves) (endorsed trusts keeps r (commits_in S (has_bit nodes) moves))
+  held_outside =
+      let setting = gives_setting s rights h.accepted in
+      let law = evaluates s rights h.accepted in
+      serial S setting law (has_bit nodes) keeps moves excludes h.run
+      ∙ sym (same (within keeps S.roots) (commits_in S (has_bit nodes) moves) (faithful S setting law (has_bit nodes) keeps moves excludes h.run))
+
   pub held : held_map S (has_bit nodes) keeps (world_of S moves)
       ≡ replayed_from trusts keeps r (within keeps S.roots) (commits_at S moves) (endorsed trusts keeps r (commits_at S moves))
   held =
@@ -119,29 +127,35 @@ module _ (s : Start) (rights : Rights) (nodes : ℕ) (trusts keeps : ℕ → Boo
 
   -- ---- robust declassifications
 
-  module _ (robust : IsRobust r) where
-    followed : (N : FlatMap) (c : Commit) → (value : Option Value) → one.Step s rights h.accepted trusts keeps view endorsing N c (request_at r c.worker c.request) (given_by c)
-        → IsFollowed trusts keeps r (IsGuarded r nodes) N c
-    followed N c value step = record {
-      value = step.value;
-      ended = step.ended;
-      alike = λ site guarded.
-          narrower (downs_seen trusts keeps r) site (kept_site r nodes trusts keeps h.trusted (sites_enumerated s) robust site guarded)
-          (trusted_by trusts keeps r N c (given_by c)).downs (done_by trusts keeps r c).downs step.alike;
-    }
+  -- the program is robust, and the site is guarded
+  abbrev IsSafe : ℕ → Type 0
+  IsSafe site = IsRobust r × IsGuarded r nodes site
 
-    all_followed : (N : FlatMap) (cs : List Commit) → AllRedone S keeps N cs → AreFollowed trusts keeps r (IsGuarded r nodes) N cs
-    all_followed N [] g = tt
-    all_followed N (c ∷ cs) g = (
-      followed N c None (one.one s rights h.accepted trusts keeps view endorsing N c g.0),
-      subst (λ M. AreFollowed trusts keeps r (IsGuarded r nodes) M cs) (sym (one.one_more s rights h.accepted trusts keeps view endorsing N c g.0))
-          (all_followed (replay_one S keeps N c) cs g.1),
-    )
+  followed : (N : FlatMap) (c : Commit) → (value : Option Value) → one.Step s rights h.accepted trusts keeps view endorsing N c (request_at r c.worker c.request) (given_by c)
+      → IsFollowed trusts keeps r IsSafe N c
+  followed N c value step = record {
+    value = step.value;
+    ended = step.ended;
+    alike = λ site safe.
+        narrower (downs_seen trusts keeps r) site (kept_site r nodes trusts keeps h.trusted (sites_enumerated s) safe.0 site safe.1)
+        (trusted_by trusts keeps r N c (given_by c)).downs (done_by trusts keeps r c).downs step.alike;
+  }
+
+  all_followed : (N : FlatMap) (cs : List Commit) → AllRedone S keeps N cs → AreFollowed trusts keeps r IsSafe N cs
+  all_followed N [] g = tt
+  all_followed N (c ∷ cs) g = (
+    followed N c None (one.one s rights h.accepted trusts keeps view endorsing N c g.0),
+    subst (λ M. AreFollowed trusts keeps r IsSafe M cs) (sym (one.one_more s rights h.accepted trusts keeps view endorsing N c g.0))
+        (all_followed (replay_one S keeps N c) cs g.1),
+  )
 
 pub agrees : TrustedReplayAgrees
 agrees s rights nodes trusts keeps moves h = held s rights nodes trusts keeps moves h
 
+pub outside_agrees : OutsideReplayAgrees
+outside_agrees s rights nodes trusts keeps moves h = held_outside s rights nodes trusts keeps moves h
+
 pub robust_values : RobustValuesTrusted
-robust_values s rights nodes trusts keeps moves h robust =
-    all_followed s rights nodes trusts keeps moves h robust (within keeps (setting_of (resolved s) rights).roots) (commits_at (setting_of (resolved s) rights) moves)
+robust_values s rights nodes trusts keeps moves h =
+    all_followed s rights nodes trusts keeps moves h (within keeps (setting_of (resolved s) rights).roots) (commits_at (setting_of (resolved s) rights) moves)
     (redone s rights nodes trusts keeps moves h)

@@ -29,14 +29,22 @@ pub record IsOfRun (s : Start) (rights : Rights) (nodes : ℕ) (trusts keeps : �
 abbrev pub commits_at : Setting → List Move → List Commit
 commits_at S moves = commits_in S S.hostile moves
 
--- what the others hold of these classes is trusted replay
-abbrev pub TrustedReplayAgrees : Type 0
-TrustedReplayAgrees =
+-- what the others hold of these classes is trusted replay of these commits
+abbrev pub IsTrustedReplay : (Setting → ℕ → List Move → List Commit) → Type 0
+IsTrustedReplay commits =
     (s : Start) (rights : Rights) (nodes : ℕ) (trusts keeps : ℕ → Bool) (moves : List Move) → IsOfRun s rights nodes trusts keeps moves
     → let r = resolved s in
     let S = setting_of (resolved s) rights in
     held_map S (has_bit nodes) keeps (world_of S moves)
-    ≡ trusted_replay trusts keeps r (commits_at S moves) (endorsed trusts keeps r (commits_at S moves))
+    ≡ trusted_replay trusts keeps r (commits S nodes moves) (endorsed trusts keeps r (commits S nodes moves))
+
+-- of those of all workers that aren't hostile
+abbrev pub TrustedReplayAgrees : Type 0
+TrustedReplayAgrees = IsTrustedReplay (λ S nodes moves. commits_at S moves)
+
+-- and of those of the workers outside the set alone
+abbrev pub OutsideReplayAgrees : Type 0
+OutsideReplayAgrees = IsTrustedReplay (λ S nodes moves. commits_in S (has_bit nodes) moves)
 
 -- what was downgraded at a site
 abbrev pub at_site : ℕ → Meant → List (ℕ × Value)
@@ -54,11 +62,11 @@ module _ (trusts keeps : ℕ → Bool) (r : Resolved) (IsSuch : ℕ → Type 0) 
   AreFollowed N [] = Unit {0}
   AreFollowed N (c ∷ cs) = IsFollowed N c × AreFollowed (trusted_one trusts keeps r N c (endorsed_by trusts keeps r (done_by trusts keeps r c))) cs
 
--- the values that robust declassifications let out in committed attempts are those of trusted replay
+-- Each commit ends when it is replayed so; and where the program is robust, the values that its declassifications let out in committed
+-- attempts at guarded sites are those of trusted replay.
 abbrev pub RobustValuesTrusted : Type 0
 RobustValuesTrusted =
     (s : Start) (rights : Rights) (nodes : ℕ) (trusts keeps : ℕ → Bool) (moves : List Move) → IsOfRun s rights nodes trusts keeps moves
-    → IsRobust (resolved s)
     → let r = resolved s in
     let S = setting_of (resolved s) rights in
-    AreFollowed trusts keeps r (IsGuarded r nodes) (within keeps S.roots) (commits_at S moves)
+    AreFollowed trusts keeps r (λ site. IsRobust r × IsGuarded r nodes site) (within keeps S.roots) (commits_at S moves)

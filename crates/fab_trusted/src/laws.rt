@@ -1,11 +1,13 @@
 //! Trusted replay and robust declassifications.
-ghost use Rattle.fab_trusted.specs.Agreement.{RobustValuesTrusted, TrustedReplayAgrees};
+ghost use Rattle.fab_trusted.specs.Agreement.{OutsideReplayAgrees, RobustValuesTrusted, TrustedReplayAgrees};
 
 /// Whatever set of nodes is distrusted, as long as the hostile ones are among them: what the others hold of
-/// the classes that none of the set can have influenced is trusted replay of the commits. No answer enters
-/// it: of what the set may have influenced it takes the endorsed values, and nothing else.
+/// the classes that none of the set can have influenced is trusted replay of the commits, those of all workers
+/// that aren't hostile, or those of the workers outside the set alone. No answer enters it: of what the set may
+/// have influenced it takes the endorsed values, and nothing else.
 pub fn trusted_replay_agrees()
-    ensures { TrustedReplayAgrees }
+    ensures agrees { TrustedReplayAgrees }
+    ensures outside { OutsideReplayAgrees }
 {}
 
 /// Each commit ends when it is replayed so. In a robust program a site that declassifies with the authority
