@@ -6,10 +6,10 @@ UNKNOWN = (6, f"name unknown at {len(SMALLEST)}\n")
 
 
 def rows(fill):
-    odd = [[], [""], ["flows", "A", ""], ["flows", "A ", "B"], ["view", "w1", ""], ["drill", "7", "3 "], ["view", *["s1"] * 33]]
+    odd = [[], [""], ["flows", "A", ""], ["flows", "A ", "B"], ["view", "w1", ""], ["trust", "w1", ""], ["infer", ""], ["drill", "7", "3 "], ["view", *["s1"] * 33], ["trust", *["s1"] * 33]]
     for words in odd:
         yield f"{words}", [(words, SMALLEST, *NOTHING)]
     # a name has at most 64 bytes, and at most 32 nodes are named
     for length, answer in [(63, UNKNOWN), (64, UNKNOWN), (65, NOTHING), (70000, NOTHING)]:
         yield f"a name of {length} bytes", [(["flows", "A", "b" * length], SMALLEST, *answer)]
-    yield "32 nodes", [(["view", *["s1"] * 32], SMALLEST, 0, "end 0\n")]
+    yield "32 nodes", [(["view", *["s1"] * 32], SMALLEST, 0, "end 0\n"), (["trust", *["s1"] * 32], SMALLEST, 0, "robust\nend 0\n")]
