@@ -16,7 +16,7 @@ use Rattle.fab_labelling.specs.Claims.{IsWellLabelled}
 use Rattle.fab_labelling.specs.Refusals.{IsFirstRefusal}
 use Rattle.fab_labelling.proofs.OneRefusal.{one_refusal}
 use Rattle.fab_command.specs.declared.command.Command.{Command}
-use Rattle.fab_command.specs.declared.command.Command.TheVariants.{Check, Evaluate, Flows, Format, Replay, Run, View}
+use Rattle.fab_command.specs.declared.command.Command.TheVariants.{Check, Evaluate, Flows, Format, Infer, Replay, Run, Trust, View}
 use Rattle.fab_front.specs.declared.texts.Outcome.TheVariants as outcome
 use Rattle.fab_front.specs.declared.status.Status.{Status}
 use Rattle.fab_front.specs.declared.status.Status.TheVariants.{Ok, Syntax, Name, Label as Labelled, Limit}
@@ -71,8 +71,10 @@ named_labels Evaluate s asks lacks = absurd lacks
 named_labels Replay s asks lacks = absurd lacks
 named_labels (Run x) s asks lacks = absurd lacks
 named_labels (View names) s asks lacks = absurd (true≢false (sym asks ∙ lacks))
+named_labels (Trust names) s asks lacks = absurd (true≢false (sym asks ∙ lacks))
 named_labels (Flows a b) s asks lacks = absurd asks
 named_labels Format s asks lacks = absurd asks
+named_labels Infer s asks lacks = absurd asks
 
 module _ {text : List ℕ} {start : Start} (f : IsFront text (outcome.Bundle start)) where
   same : {b : Start} → Front text (outcome.Bundle b) → b ≡ start

@@ -4,13 +4,13 @@ use Rattle.fab_tree.specs.declared.start.Start.{Start}
 use Rattle.fab_tree.specs.Print.{canonical}
 use Rattle.fab_language.specs.Faults.{faults}
 use Rattle.fab_language.specs.declared.rule.NameRule.TheVariants.{Unknown}
-use Rattle.fab_command.specs.declared.command.Command.TheVariants.{Check, Flows, Format, Replay, View}
+use Rattle.fab_command.specs.declared.command.Command.TheVariants.{Check, Flows, Format, Infer, Replay, View}
 use Rattle.fab_front.specs.declared.texts.Outcome.TheVariants as outcome
 use Rattle.fab_front.specs.declared.status.Status.TheVariants.{Ok, Syntax, Name}
 use Rattle.fab_front.specs.Front.{Front, IsFront}
 use Rattle.fab_front.specs.Lines.{line, name_line}
 use Rattle.fab_front.specs.Refused.{AsksLabels, LacksName, label_of, syntax, unknown}
-use Rattle.fab_answers.specs.declared.said.Said.TheVariants.{OfRuns}
+use Rattle.fab_answers.specs.declared.said.Said.TheVariants.{Bundle}
 use Rattle.fab_answers.specs.Says.{IsAnsweredBy, Says, refused, formatted}
 
 -- a refusal of the text is said to a command of runs, too, and its report isn't
@@ -20,11 +20,14 @@ of_replay f = refused (syntax f)
 no_report : {text report : List ℕ} → Says Replay text Ok report → ⊥
 no_report s = elim s [ refused r ↦ elim r [ ] ]
 
--- the bundle is handed to `view`, and not to `check`
-of_view : {text : List ℕ} {s : Start} (names : List (List ℕ)) → IsFront text (outcome.Bundle s) → IsAnsweredBy (View names) text (OfRuns s)
+-- the bundle is handed to `view` and `infer`, and not to `check`
+of_view : {text : List ℕ} {s : Start} (names : List (List ℕ)) → IsFront text (outcome.Bundle s) → IsAnsweredBy (View names) text (Bundle s)
 of_view names f = (tt, f)
 
-not_of_check : {text : List ℕ} {s : Start} → IsAnsweredBy Check text (OfRuns s) → ⊥
+of_infer : {text : List ℕ} {s : Start} → IsFront text (outcome.Bundle s) → IsAnsweredBy Infer text (Bundle s)
+of_infer f = (tt, f)
+
+not_of_check : {text : List ℕ} {s : Start} → IsAnsweredBy Check text (Bundle s) → ⊥
 not_of_check a = a.0
 
 -- with `Ok`, `check` writes nothing but `ok`

@@ -1,4 +1,4 @@
-//! What the commands that make no run reply to a text.
+//! What the commands `check`, `eval`, `flows` and `fmt` reply to a text.
 #![tactic(auto)]
 
 mod bundles;

@@ -11,15 +11,16 @@ use fab_front::{Outcome, Status, front, limit_line, syntax_line};
 use fab_tree::Start;
 use std::alloc::Global;
 
-/// What is said of a text: how that ends, and what is to be written; or the bundle of whose runs
-/// something is asked.
+/// What is said of a text: how that ends, and what is to be written; or the bundle of which more is asked: of
+/// its runs, or what its holes are.
 #[derive(Drop)]
 pub enum Said {
     Reply { status: Status, reply: Seq<u8> },
-    OfRuns(Start),
+    Bundle(Start),
 }
 
-/// What a command says of a text: its reply, where it makes no run or the text has no bundle, and else the bundle.
+/// What a command says of a text: its reply, where the text has no bundle or it is one of `check`, `eval`, `flows`
+/// and `fmt`, and else the bundle.
 pub fn said_of(alloc: Global, command: &Command, text: &[u8]) -> Result<Said, NoMemory>
     ensures { IfOk result (IsAnsweredBy command.now text.now) }
 {
@@ -60,6 +61,10 @@ fn of_bundle(alloc: Global, command: &Command, text: &[u8], start: Start) -> Res
             let (status, reply) = format(alloc, text, &start)?;
             Ok(Said::Reply { status, reply })
         }
-        Command::Replay | Command::Run(_) | Command::View { .. } => Ok(Said::OfRuns(start)),
+        Command::Replay
+        | Command::Run(_)
+        | Command::View { .. }
+        | Command::Trust { .. }
+        | Command::Infer => Ok(Said::Bundle(start)),
     }
 }

@@ -1,7 +1,7 @@
 -- Worked examples of what words ask for.
 use Rattle.std.proofs.Common.{◌≡◌, ℕ, List, [], ◌∷◌, ◌++◌, Some, None, refl, codes}
 use Rattle.std.specs.Fmt.{digits}
-use Rattle.fab_command.specs.declared.command.Command.TheVariants.{Flows, Run, View}
+use Rattle.fab_command.specs.declared.command.Command.TheVariants.{Flows, Infer, Run, Trust, View}
 use Rattle.fab_command.specs.declared.command.Telling.TheVariants.{Report}
 use Rattle.fab_command.specs.declared.task.Task.TheVariants.{Drill, Generate, Reply}
 use Rattle.fab_asked.specs.Words.{asked}
@@ -40,6 +40,18 @@ run_in_capitals = refl
 
 two_labels : asked (codes "flows" ∷ codes "A" ∷ codes "B" ∷ []) ≡ Some (Reply (Flows (codes "A") (codes "B")))
 two_labels = refl
+
+two_distrusted : asked (codes "trust" ∷ codes "w1" ∷ codes "h" ∷ []) ≡ Some (Reply (Trust (codes "w1" ∷ codes "h" ∷ [])))
+two_distrusted = refl
+
+no_view : asked (codes "trust" ∷ []) ≡ Some (Reply (View [])) → ⊥
+no_view e = let other : Some (Reply (Trust [])) ≡ Some (Reply (View [])) = e in cc
+
+infer_alone : asked (codes "infer" ∷ []) ≡ Some (Reply Infer)
+infer_alone = refl
+
+infer_with_name : asked (codes "infer" ∷ codes "w1" ∷ []) ≡ None
+infer_with_name = refl
 
 -- 32 names, and one more
 abbrev eight : List (List ℕ)

@@ -4,7 +4,7 @@ use Rattle.std.specs.List.{list_all}
 use Rattle.std.specs.Str.{bytes_eq}
 use Rattle.std.specs.declared.alloc.Global.{Global}
 use Rattle.fab_command.specs.declared.command.Command.{Command}
-use Rattle.fab_command.specs.declared.command.Command.TheVariants.{Check, Evaluate, Flows, Format, Replay, Run, View}
+use Rattle.fab_command.specs.declared.command.Command.TheVariants.{Check, Evaluate, Flows, Format, Infer, Replay, Run, Trust, View}
 use Rattle.fab_command.specs.declared.command.Telling.TheVariants.{Report}
 use Rattle.fab_command.specs.declared.task.Task.{Task}
 use Rattle.fab_command.specs.declared.task.Task.TheVariants.{Drill, Generate, Reply}
@@ -23,15 +23,23 @@ command_of word =
     else (if bytes_eq word (codes "eval") then Some Evaluate
     else (if bytes_eq word (codes "fmt") then Some Format
     else (if bytes_eq word (codes "replay") then Some Replay
-    else (if bytes_eq word (codes "run") then Some (Run Report) else None))))
+    else (if bytes_eq word (codes "run") then Some (Run Report)
+    else (if bytes_eq word (codes "infer") then Some Infer else None)))))
 
 -- the command of a word and two operands, which are names
 abbrev pub command_with : List ℕ → List ℕ → List ℕ → Option Command
 command_with word from to = if bytes_eq word (codes "flows") && (is_name_word from && is_name_word to) then Some (Flows from to) else None
 
--- the command of these operands of `view`: up to 32 names, of which some may be the same
+-- the nodes of these operands: up to 32 names, of which some may be the same
+abbrev pub nodes_of : List (List ℕ) → Option (List (List ℕ))
+nodes_of operands = if nat_le (length operands) 32 && list_all is_name_word operands then Some operands else None
+
+-- the command of these operands of `view`, and of `trust`
 abbrev pub view_of : List (List ℕ) → Option Command
-view_of nodes = if nat_le (length nodes) 32 && list_all is_name_word nodes then Some (View nodes) else None
+view_of operands = option_map View (nodes_of operands)
+
+abbrev pub trust_of : List (List ℕ) → Option Command
+trust_of operands = option_map Trust (nodes_of operands)
 
 -- the command of another word, with as many operands as it takes; any others ask for nothing
 abbrev pub command_among : List ℕ → List (List ℕ) → Option Command
@@ -42,7 +50,9 @@ command_among word (from ∷ to ∷ other ∷ others) = None
 
 -- the command of a word and its operands
 abbrev pub command_asked : List ℕ → List (List ℕ) → Option Command
-command_asked word operands = if bytes_eq word (codes "view") then view_of operands else command_among word operands
+command_asked word operands =
+    if bytes_eq word (codes "view") then view_of operands
+    else (if bytes_eq word (codes "trust") then trust_of operands else command_among word operands)
 
 -- what words ask for: the first tells what, and the others are its operands
 abbrev pub asked : List (List ℕ) → Option Task

@@ -2,7 +2,7 @@
 ghost use Rattle.std.specs.Prelude.{◌≡◌, ◌∷◌, IfOk, Some, None, if◌then◌else◌, map};
 ghost use Rattle.std.specs.List.{list_all};
 ghost use Rattle.fab_asked.specs.Names.{is_name_word};
-ghost use Rattle.fab_asked.specs.Words.{asked, command_among, command_asked, command_of, command_with, view_of};
+ghost use Rattle.fab_asked.specs.Words.{asked, command_among, command_asked, command_of, command_with, nodes_of, trust_of, view_of};
 
 use crate::names::is_name;
 use crate::numbers::numbers_of;
@@ -10,7 +10,7 @@ use fab_base::{NoMemory, Seq, Text};
 use fab_command::{Command, Task, Telling};
 use std::alloc::Global;
 
-/// How many nodes `view` may name.
+/// How many nodes `view` and `trust` may name.
 const MOST_NODES: usize = 32;
 
 /// The command of one word.
@@ -27,6 +27,8 @@ fn named(word: &str) -> Option<Command>
         Some(Command::Replay)
     } else if word == "run" {
         Some(Command::Run(Telling::Report))
+    } else if word == "infer" {
+        Some(Command::Infer)
     } else {
         None
     }
@@ -44,7 +46,7 @@ fn named_with(alloc: Global, word: &str, from: &str, to: &str) -> Result<Option<
     Ok(None)
 }
 
-/// The command of a word other than `view` and its operands.
+/// The command of a word that takes no list of nodes, and its operands.
 fn named_among(alloc: Global, word: &str, operands: &[&str]) -> Result<Option<Command>, NoMemory>
     ensures { IfOk result (λ c. c ≡ command_among word.now (map (λ v. v.now) operands.now)) }
 {
@@ -71,15 +73,32 @@ fn names_in(alloc: Global, words: &[&str]) -> Result<Option<Seq<Text>>, NoMemory
     Ok(Some(names))
 }
 
-/// The command of these operands of `view`.
-fn view_of(alloc: Global, operands: &[&str]) -> Result<Option<Command>, NoMemory>
-    ensures { IfOk result (λ c. c ≡ view_of (map (λ v. v.now) operands.now)) }
+/// These operands, if they are names of so few nodes as a set may have.
+fn nodes_of(alloc: Global, operands: &[&str]) -> Result<Option<Seq<Text>>, NoMemory>
+    ensures { IfOk result (λ nodes. nodes ≡ nodes_of (map (λ v. v.now) operands.now)) }
 {
     if operands.len() > MOST_NODES {
         return Ok(None);
     }
-    match names_in(alloc, operands)? {
+    names_in(alloc, operands)
+}
+
+/// The command of these operands of `view`.
+fn view_of(alloc: Global, operands: &[&str]) -> Result<Option<Command>, NoMemory>
+    ensures { IfOk result (λ c. c ≡ view_of (map (λ v. v.now) operands.now)) }
+{
+    match nodes_of(alloc, operands)? {
         Some(nodes) => Ok(Some(Command::View { nodes })),
+        None => Ok(None),
+    }
+}
+
+/// The command of these operands of `trust`.
+fn trust_of(alloc: Global, operands: &[&str]) -> Result<Option<Command>, NoMemory>
+    ensures { IfOk result (λ c. c ≡ trust_of (map (λ v. v.now) operands.now)) }
+{
+    match nodes_of(alloc, operands)? {
+        Some(nodes) => Ok(Some(Command::Trust { nodes })),
         None => Ok(None),
     }
 }
@@ -90,13 +109,15 @@ fn commanded(alloc: Global, word: &str, operands: &[&str]) -> Result<Option<Comm
 {
     if word == "view" {
         view_of(alloc, operands)
+    } else if word == "trust" {
+        trust_of(alloc, operands)
     } else {
         named_among(alloc, word, operands)
     }
 }
 
-/// What a word asks for, with its operands: two names of the language for `flows`, up to 32 for `view`, a number
-/// and a size for `gen` and `drill`, and none for the other commands. Whatever else there is asks for nothing.
+/// What a word asks for, with its operands: two names of the language for `flows`, up to 32 for `view` and `trust`, a
+/// number and a size for `gen` and `drill`, and none for the other commands. Whatever else there is asks for nothing.
 pub fn asked_with(alloc: Global, word: &str, operands: &[&str]) -> Result<Option<Task>, NoMemory>
     ensures { IfOk result (λ t. t ≡ asked (word.now ∷ map (λ v. v.now) operands.now)) }
 {

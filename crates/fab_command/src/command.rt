@@ -29,4 +29,9 @@ pub enum Command {
     /// The run of the schedule, and in place of the report the messages that these nodes and the hostile ones got
     /// from the others.
     View { nodes: Seq<Text> },
+    /// The run of the schedule, and in place of the report the objects of classes whose labels exclude these nodes and
+    /// the hostile ones, as trusted replay gives them.
+    Trust { nodes: Seq<Text> },
+    /// A bundle's text with the least labels for its holes.
+    Infer,
 }

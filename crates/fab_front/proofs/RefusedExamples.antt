@@ -5,7 +5,7 @@ use Rattle.fab_tree.specs.declared.start.Start.{Start}
 use Rattle.fab_tree.specs.declared.resolved.Resolved.{Resolved}
 use Rattle.fab_language.specs.declared.rule.Fault.{Fault}
 use Rattle.fab_language.specs.Faults.{faults, IsFirst}
-use Rattle.fab_command.specs.declared.command.Command.TheVariants.{Check, Flows, Format, Replay, View}
+use Rattle.fab_command.specs.declared.command.Command.TheVariants.{Check, Flows, Format, Infer, Replay, Trust, View}
 use Rattle.fab_front.specs.declared.texts.Outcome.TheVariants as outcome
 use Rattle.fab_front.specs.declared.status.Status.TheVariants.{Ok, Limit, Name, Syntax}
 use Rattle.fab_front.specs.Front.{Front}
@@ -30,6 +30,13 @@ no_labels s a b asks = asks
 -- `view` asks for them behind the names of its nodes, so only one of the two refusals comes
 one_of_view : (s : Start) (names : List (List ℕ)) → AsksLabels (View names) s → LacksName (View names) s → ⊥
 one_of_view s names asks lacks = true≢false (sym asks ∙ lacks)
+
+one_of_trust : (s : Start) (names : List (List ℕ)) → AsksLabels (Trust names) s → LacksName (Trust names) s → ⊥
+one_of_trust s names asks lacks = true≢false (sym asks ∙ lacks)
+
+-- `infer` asks for the rules behind its holes, so none of these refusals is of the bundle as it stands
+no_hole : AsksNames Infer → ⊥
+no_hole asks = asks
 
 no_word : (s : Start) → LacksName Check s → ⊥
 no_word s lacks = lacks

@@ -73,3 +73,12 @@ label_line r x = line (codes "label " ++ label_rule_word x.rule ++ codes " at " 
 -- the line of an event of the schedule that may not come, by its number from 1
 abbrev pub barred_line : ℕ → List ℕ
 barred_line event = line (codes "not enabled " ++ decimal event)
+
+-- the line of a hole without a least label, by its place
+abbrev pub no_least_line : ℕ → List ℕ
+no_least_line at = line (codes "no least at " ++ decimal at)
+
+-- the line of a declassification at a place that isn't robust: the integrity of the label doesn't flow to that of the principal alone
+abbrev pub robust_line : Resolved → ℕ → ℕ → ℕ → List ℕ
+robust_line r at source principal = line (codes "robust at " ++ decimal at
+    ++ codes " from " ++ side_text r (side.Label source) ++ codes " to " ++ side_text r (side.Principal principal))

@@ -12,7 +12,7 @@ use Rattle.fab_language.specs.Numbers.{resolved}
 use Rattle.fab_labelling.specs.declared.rule.Refusal.{Refusal}
 use Rattle.fab_labelling.specs.Refusals.{IsFirstRefusal}
 use Rattle.fab_command.specs.declared.command.Command.{Command}
-use Rattle.fab_command.specs.declared.command.Command.TheVariants.{Check, Evaluate, Flows, Format, Replay, Run, View}
+use Rattle.fab_command.specs.declared.command.Command.TheVariants.{Check, Evaluate, Flows, Format, Infer, Replay, Run, Trust, View}
 use Rattle.fab_front.specs.declared.texts.Outcome.TheVariants as outcome
 use Rattle.fab_front.specs.declared.status.Status.{Status}
 use Rattle.fab_front.specs.declared.status.Status.TheVariants.{Syntax, Name, Label as Labelled, Limit}
@@ -20,34 +20,39 @@ use Rattle.fab_front.specs.Front.{Front}
 use Rattle.fab_front.specs.Lines.{label_line, line, name_line, what_word}
 use Rattle.fab_front.specs.Named.{are_node_names}
 
--- every command but `fmt` asks for the rules of names and types
+-- every command but `fmt` and `infer` asks for the rules of names and types of the text as it stands
 abbrev pub AsksNames : Command → Type 0
 AsksNames Check = Unit {0}
 AsksNames Evaluate = Unit {0}
 AsksNames Replay = Unit {0}
 AsksNames (Run x) = Unit {0}
 AsksNames (View names) = Unit {0}
+AsksNames (Trust names) = Unit {0}
 AsksNames (Flows a b) = Unit {0}
 AsksNames Format = ⊥
+AsksNames Infer = ⊥
 
--- `check`, `eval`, `replay`, `run` and `view` ask for the rules of labels, `view` behind the names of its nodes
+-- `check`, `eval`, `replay`, `run`, `view` and `trust` ask for the rules of labels, these two behind the names of their nodes
 abbrev pub AsksLabels : Command → Start → Type 0
 AsksLabels Check s = Unit {0}
 AsksLabels Evaluate s = Unit {0}
 AsksLabels Replay s = Unit {0}
 AsksLabels (Run x) s = Unit {0}
 AsksLabels (View names) s = are_node_names (resolved s) names ≡ true
+AsksLabels (Trust names) s = are_node_names (resolved s) names ≡ true
 AsksLabels (Flows a b) s = ⊥
 AsksLabels Format s = ⊥
+AsksLabels Infer s = ⊥
 
 -- the label of a word of the command line
 abbrev pub label_of : Start → List ℕ → Option Label
 label_of s word = option_map (λ x. x.label) (find (λ x. bytes_eq x.name.text word) (resolved s).labels)
 
--- a word of the command names nothing: one of `flows` is no label, or one of `view` is no node
+-- a word of the command names nothing: one of `flows` is no label, or one of `view` or `trust` is no node
 abbrev pub LacksName : Command → Start → Type 0
 LacksName (Flows a b) s = (label_of s a ≡ None) ⊎ (label_of s b ≡ None)
 LacksName (View names) s = are_node_names (resolved s) names ≡ false
+LacksName (Trust names) s = are_node_names (resolved s) names ≡ false
 LacksName _ s = ⊥
 
 -- Refuses command text status written: a text is refused as it comes to no bundle, the same for every command; for the first fault of its names, the

@@ -10,9 +10,11 @@ mod texts;
 mod writing;
 
 pub use accepted::{Accepted, accept, named};
-pub use lines::{barred_line, label_line, limit_line, name_line, syntax_line};
+pub use lines::{
+    barred_line, label_line, limit_line, name_line, no_least_line, robust_line, syntax_line,
+};
 pub use reading::{ReadError, read_all};
-pub use replies::{mislabelled, refused, unknown, usage};
+pub use replies::{mislabelled, no_least, refused, unknown, unrobust, usage};
 pub use status::Status;
 pub use texts::{Outcome, front};
 pub use writing::write_all;

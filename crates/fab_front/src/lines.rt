@@ -1,7 +1,7 @@
 //! The lines of refusals.
 ghost use Rattle.std.specs.Prelude.{◌≡◌, ◌++◌, IfOk, OnOk, codes};
 ghost use Rattle.std.specs.Fmt.{decimal};
-ghost use Rattle.fab_front.specs.Lines.{label_line, label_rule_word as label_word_of, line, name_line, rule_word as rule_word_of, side_text, what_word as word_of};
+ghost use Rattle.fab_front.specs.Lines.{label_line, label_rule_word as label_word_of, line, name_line, no_least_line, robust_line, rule_word as rule_word_of, side_text, what_word as word_of};
 
 use fab_base::{NoMemory, Seq, What};
 use fab_labelling::{LabelRule, Refusal, Side};
@@ -61,6 +61,17 @@ pub fn barred_line(alloc: Global, event: u32) -> Result<Seq<u8>, NoMemory>
 {
     let mut out = Seq::from_slice(alloc, b"not enabled ")?;
     let digits = format!(in alloc; "{event}")?;
+    out.extend(digits.as_str().as_bytes())?;
+    out.push(b'\n')?;
+    Ok(out)
+}
+
+/// `no least at` and the place.
+pub fn no_least_line(alloc: Global, at: u32) -> Result<Seq<u8>, NoMemory>
+    ensures { IfOk result (λ out. out ≡ no_least_line at) }
+{
+    let mut out = Seq::from_slice(alloc, b"no least at ")?;
+    let digits = format!(in alloc; "{at}")?;
     out.extend(digits.as_str().as_bytes())?;
     out.push(b'\n')?;
     Ok(out)
@@ -145,6 +156,27 @@ pub fn label_line(alloc: Global, start: &Resolved, refusal: Refusal) -> Result<S
     put_side(&mut out, start, source)?;
     out.extend(b" to ")?;
     put_side(&mut out, start, target)?;
+    out.push(b'\n')?;
+    Ok(out)
+}
+
+/// `robust at` and the place, `from` and `to` with the names of a label and of a principal.
+pub fn robust_line(
+    alloc: Global,
+    start: &Resolved,
+    at: u32,
+    source: u16,
+    principal: u16,
+) -> Result<Seq<u8>, NoMemory>
+    ensures { IfOk result (λ out. out ≡ robust_line start.now at source principal) }
+{
+    let mut out = Seq::from_slice(alloc, b"robust at ")?;
+    let digits = format!(in alloc; "{at}")?;
+    out.extend(digits.as_str().as_bytes())?;
+    out.extend(b" from ")?;
+    put_side(&mut out, start, Side::Label(source))?;
+    out.extend(b" to ")?;
+    put_side(&mut out, start, Side::Principal(principal))?;
     out.push(b'\n')?;
     Ok(out)
 }

@@ -1,10 +1,10 @@
 //! The replies to what is refused: the status with the line.
 ghost use Rattle.std.specs.Prelude.{◌≡◌, ◌≤◌, IfOk, codes, length};
 ghost use Rattle.fab_language.specs.declared.rule.NameRule.TheVariants.{Unknown};
-ghost use Rattle.fab_front.specs.Lines.{label_line, line, name_line};
-ghost use Rattle.fab_front.specs.declared.status.Status.TheVariants.{Label as Labelled, Name, Usage};
+ghost use Rattle.fab_front.specs.Lines.{label_line, line, name_line, no_least_line, robust_line};
+ghost use Rattle.fab_front.specs.declared.status.Status.TheVariants.{Label as Labelled, Name, NoLeast, Robust, Usage};
 
-use crate::lines::{label_line, name_line};
+use crate::lines::{label_line, name_line, no_least_line, robust_line};
 use crate::status::Status;
 use fab_base::{NoMemory, Seq};
 use fab_labelling::Refusal;
@@ -66,4 +66,31 @@ pub fn unknown(alloc: Global, text: &[u8]) -> Result<(Status, Seq<u8>), NoMemory
             at,
         },
     )
+}
+
+/// The reply to a hole that has no least label.
+pub fn no_least(alloc: Global, at: u32) -> Result<(Status, Seq<u8>), NoMemory>
+    ensures { IfOk result (λ r. (r.0 ≡ NoLeast at) × (r.1 ≡ no_least_line at)) }
+{
+    let reply = no_least_line(alloc, at)?;
+    Ok((Status::NoLeast { at }, reply))
+}
+
+/// The reply to a declassification that isn't robust.
+pub fn unrobust(
+    alloc: Global,
+    resolved: &Resolved,
+    at: u32,
+    source: u16,
+    principal: u16,
+) -> Result<(Status, Seq<u8>), NoMemory>
+    ensures { IfOk result (λ r. (r.0 ≡ Robust at source principal) × (r.1 ≡ robust_line resolved.now at source principal)) }
+{
+    let reply = robust_line(alloc, resolved, at, source, principal)?;
+    let status = Status::Robust {
+        at,
+        source,
+        principal,
+    };
+    Ok((status, reply))
 }

@@ -29,13 +29,13 @@ pub enum Status {
         at: u32,
     },
     /// The bundle breaks a rule of names and types, first at this place; or a word of the command
-    /// line is no label of it, at the text's length.
+    /// line is no label or no node of it, at the text's length.
     Name {
         rule: NameRule,
         at: u32,
     },
     /// The bundle breaks a rule of labels, first at this place: what the source says doesn't flow
-    /// to the target, or isn't the target's to do.
+    /// to the target, or isn't the target's to do. Of `infer` the bundle with the least labels.
     Label {
         rule: LabelRule,
         at: u32,
@@ -54,6 +54,17 @@ pub enum Status {
     JournalFault {
         node: u16,
     },
+    /// The hole at this place has no least label.
+    NoLeast {
+        at: u32,
+    },
+    /// The bundle isn't robust: at this place it declassifies, and the integrity of the source, a label, doesn't
+    /// flow to that of the principal alone, by their numbers.
+    Robust {
+        at: u32,
+        source: u16,
+        principal: u16,
+    },
 }
 
 impl Status {
@@ -70,6 +81,8 @@ impl Status {
         ensures limit { (what : WhatHasALimit) → self ≡ status.Limit what → result ≡ 8 }
         ensures not_enabled { (event : ℕ) → self ≡ status.NotEnabled event → result ≡ 9 }
         ensures journal_fault { (node : ℕ) → self ≡ status.JournalFault node → result ≡ 10 }
+        ensures no_least { (at : ℕ) → self ≡ status.NoLeast at → result ≡ 12 }
+        ensures robust { (at source principal : ℕ) → self ≡ status.Robust at source principal → result ≡ 13 }
     {
         match self {
             Status::Ok => 0,
@@ -83,6 +96,8 @@ impl Status {
             Status::Limit { .. } => 8,
             Status::NotEnabled { .. } => 9,
             Status::JournalFault { .. } => 10,
+            Status::NoLeast { .. } => 12,
+            Status::Robust { .. } => 13,
         }
     }
 }

@@ -23,8 +23,14 @@ fn command_of(alloc: Global, words: &[String]) -> Result<Option<Command>, NoMemo
         return Ok(None);
     };
     match asked_with(alloc, word, operands)? {
-        Some(Task::Reply(Command::Replay | Command::Run(_) | Command::View { .. })) => Ok(None),
-        Some(Task::Reply(command)) => Ok(Some(command)),
+        Some(
+            Task::Reply(
+                command @ (Command::Check
+                | Command::Evaluate
+                | Command::Flows { .. }
+                | Command::Format),
+            ),
+        ) => Ok(Some(command)),
         _ => Ok(None),
     }
 }
@@ -41,7 +47,7 @@ fn reply<S: Source>(
     let text = read_all(alloc, source)?;
     match said_of(alloc, &command, &text)? {
         Said::Reply { status, reply } => Ok((status, reply)),
-        Said::OfRuns(_) => Ok(usage(alloc)?),
+        Said::Bundle(_) => Ok(usage(alloc)?),
     }
 }
 

@@ -4,6 +4,8 @@
 
 mod listing;
 mod sets;
+mod trusted;
 
 pub use listing::print_view;
 pub use sets::{hostile_nodes, nodes_named};
+pub use trusted::print_trusted;

@@ -9,7 +9,7 @@ use Rattle.fab_base.specs.declared.object.Oid.{Oid}
 use Rattle.fab_base.specs.declared.object.Tid.{Tid}
 use Rattle.fab_protocol.specs.Versions.{Row, is_tid}
 use Rattle.fab_release.specs.Sights.{Sight}
-use Rattle.fab_record.proofs.Listing.{insert_more, or_false, or_parts}
+use Rattle.fab_sets.proofs.Listing.{insert_more, or_false, or_parts}
 use Rattle.fab_record.specs.contracts.changes.ChangedAtPartialEq as places
 use Rattle.fab_record.specs.declared.changes.ChangedAt.{ChangedAt}
 use Rattle.fab_record.specs.Kept.{NotesMore, at_store, changes, is_noted, is_one, is_shown_at}

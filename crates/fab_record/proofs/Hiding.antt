@@ -15,7 +15,7 @@ use Rattle.fab_labelling.specs.Sites.{Sited, all_under, block_sites, method_site
 use Rattle.fab_erasure.specs.Agreement.{Downgrading}
 use Rattle.fab_erasure.proofs.Views as views
 use Rattle.fab_record.specs.Hidden.{each_hidden, hidden_block, hidden_in, hidden_method, hidden_sites, hidden_step, reads_seen, unless_seen}
-use Rattle.fab_record.specs.Numbers.{is_listed}
+use Rattle.fab_sets.specs.Numbers.{is_listed}
 use Rattle.fab_record.specs.Views.{crosses, crossing_sites}
 
 module _ (sees : ℕ → Bool) where

@@ -1,6 +1,5 @@
 pub mod Reading
 pub mod Gathering
-pub mod Listing
 pub mod Hiding
 pub mod Naming
 pub mod Changing

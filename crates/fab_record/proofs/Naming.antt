@@ -14,7 +14,7 @@ use Rattle.fab_release.specs.Sights.{Sight}
 use Rattle.fab_authority.proofs.Walks.{front}
 use Rattle.fab_nested.proofs.Naming as nested
 use Rattle.fab_record.proofs.Gathering.{front_at, past_end}
-use Rattle.fab_record.proofs.Listing.{insert_more, or_false}
+use Rattle.fab_sets.proofs.Listing.{insert_more, or_false}
 use Rattle.fab_record.specs.Kept.{AreSame, seen_touch}
 
 -- what a set of names answers

@@ -1,7 +1,6 @@
 pub mod Events
 pub mod Hidden
 pub mod Kept
-pub mod Numbers
 pub mod Parts
 pub mod Places
 pub mod Scopes

@@ -4,7 +4,7 @@ use Rattle.std.specs.List.{flat_map}
 use Rattle.fab_erasure.specs.Agreement.{Downgrading}
 use Rattle.fab_release.specs.Sights.{Sight}
 use Rattle.fab_rights.specs.Computed.{has_bit}
-use Rattle.fab_record.specs.Numbers.{is_listed}
+use Rattle.fab_sets.specs.Numbers.{is_listed}
 use Rattle.fab_record.specs.declared.sights.Sights.{Sights}
 
 -- a downgrade goes out of the unseen into the seen

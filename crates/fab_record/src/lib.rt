@@ -7,7 +7,6 @@ mod entries;
 mod events;
 mod hidden;
 mod names;
-mod numbers;
 mod part;
 mod past;
 mod scope;

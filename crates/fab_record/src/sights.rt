@@ -7,10 +7,10 @@ ghost use Rattle.fab_record.specs.Views.{crosses, crossing_sites, sight_in};
 
 use crate::downgrades::{Downgrade, downgrades_of};
 use crate::hidden::hidden_sites;
-use crate::numbers::{is_listed, set_of};
 use fab_base::{NoMemory, Oid, Seq};
 use fab_places::Seen;
 use fab_rights::is_in;
+use fab_sets::{is_listed, set_of};
 use fab_tree::resolved::Resolved;
 use indexmap::IndexSet;
 use std::alloc::Global;

@@ -17,6 +17,7 @@ use Rattle.fab_command.specs.declared.command.Telling.{Telling}
 use Rattle.fab_replay.specs.Courses.{HasRun, IsAtStart, IsCourse}
 use Rattle.fab_replay.specs.Integral.{IsExcluded, IsIntegral}
 use Rattle.fab_replay.specs.Isolated.{IsIsolated}
+use Rattle.fab_replay.specs.Trusted.{IsTrusted}
 use Rattle.fab_replay.specs.Kept.{IsCutShort, IsEntryAt, IsOfRun, IsPossible, IsReplayed, KeepsSome, MakesAll, OfRun, Unkept, has_mark, with_more}
 use Rattle.fab_replay.specs.Replays.{StopsIn, Tells, events_of}
 use Rattle.fab_replay.specs.Running.{AreBehind, AreMarked, AreSure, AreUnfailed, ComesTo, HasMore, IsBehind, IsMarked, entries_of, failed_by}
@@ -108,14 +109,15 @@ module _ {J : Type 0} (seen : J → JournalModel) (core : CoreModel) (program : 
 
   module _ (wanted : Wanted) (answer : Replayed) (old new : Makers) (run : IsRun (setting core.given) core.moves) (tells : Tells core.given wanted core.moves answer) where
     pub ended : AreSure old.may_fail core.given core.journals → ((nodes : ℕ) (ex : ℕ → Bool) → IsExcluded core.given nodes ex → IsIntegral core.given core.moves (has_bit nodes) ex) → IsIsolated core.given core.moves
-        → new.kept ≡ with_more old.kept (entries_of program nodes (map seen journals)) → IsOfRun core.given wanted answer old new
-    ended sure whole apart k = record {
+        → IsTrusted core.given core.moves → new.kept ≡ with_more old.kept (entries_of program nodes (map seen journals)) → IsOfRun core.given wanted answer old new
+    ended sure whole apart trusted k = record {
       moves = core.moves;
       run = run;
       told = tells;
       sure = λ n cannot. (marked n).never (sure n cannot);
       integral = whole;
       isolated = apart;
+      trusted = trusted;
       kept = record { entries = entries; each = are; kept = k ∙ ap (with_more old.kept) are_those };
     }
 
@@ -173,6 +175,7 @@ module _ {E : Type 0} (g h : GivenModel) (same : h ≡ g) (wanted : Wanted) (res
         sure = λ n cannot. there.sure n (subst (λ t. CannotFail t (node_text g.program n)) (sym begun.told) cannot);
         integral = there.integral;
         isolated = there.isolated;
+        trusted = there.trusted;
       }
 
   pub ran_to : IfOk result (λ answer. IsOfRun h wanted answer mid new) → IfOk result (λ answer. IsReplayed g wanted answer old new)

@@ -12,6 +12,7 @@ pub mod Excluded
 pub mod Steps
 pub mod Scheduled
 pub mod Viewing
+pub mod Trusting
 pub mod Ends
 pub mod Starting
 pub mod Exact

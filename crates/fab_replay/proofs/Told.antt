@@ -11,7 +11,7 @@ use Rattle.fab_replay.specs.Replays.{HasNoFault, IsFaulty, IsStopped, IsWhole, S
 use Rattle.fab_replay.specs.declared.replayed.Replayed.{Replayed}
 use Rattle.fab_replay.specs.declared.replayed.Replayed.TheVariants as r
 use Rattle.fab_replay.specs.declared.replayed.Wanted.{Wanted}
-use Rattle.fab_replay.specs.declared.replayed.Wanted.TheVariants.{Report, Run, View}
+use Rattle.fab_replay.specs.declared.replayed.Wanted.TheVariants.{Report, Run, Trust, View}
 use Rattle.fab_replay.proofs.Marks.{first_has, first_marked, first_unmarked}
 
 -- ---- of a schedule
@@ -21,26 +21,31 @@ module _ (g : GivenModel) (moves : List Move) where
   whole_of Report is h = h
   whole_of (Run x) is h = absurd (false≢true is)
   whole_of (View nodes seen part) is h = h
+  whole_of (Trust nodes part) is h = h
 
   pub whole_by : (wanted : Wanted) → IsTrue (is_scheduled wanted) → moves ≡ moves_of (events_of g.program) → IsWhole g wanted moves
   whole_by Report is h = h
   whole_by (Run x) is h = absurd (false≢true is)
   whole_by (View nodes seen part) is h = h
+  whole_by (Trust nodes part) is h = h
 
   pub faulty_by : (wanted : Wanted) (node : ℕ) → IsTrue (is_scheduled wanted) → StopsIn g moves node → IsFaulty g wanted moves node
   faulty_by Report node is h = h
   faulty_by (Run x) node is h = absurd (false≢true is)
   faulty_by (View nodes seen part) node is h = h
+  faulty_by (Trust nodes part) node is h = h
 
   pub stopped_of : (wanted : Wanted) (number : ℕ) → IsStopped g wanted moves number → StopsBefore g moves number
   stopped_of Report number h = h
   stopped_of (Run x) number h = absurd h
   stopped_of (View nodes seen part) number h = h
+  stopped_of (Trust nodes part) number h = h
 
   pub stopped_by : (wanted : Wanted) (number : ℕ) → IsTrue (is_scheduled wanted) → StopsBefore g moves number → IsStopped g wanted moves number
   stopped_by Report number is h = h
   stopped_by (Run x) number is h = absurd (false≢true is)
   stopped_by (View nodes seen part) number is h = h
+  stopped_by (Trust nodes part) number is h = h
 
   -- ---- marks
 
@@ -51,6 +56,7 @@ module _ (g : GivenModel) (moves : List Move) where
   whole_unmarked Report h = unmarked_whole h
   whole_unmarked (Run x) h = h.1
   whole_unmarked (View nodes seen part) h = unmarked_whole h
+  whole_unmarked (Trust nodes part) h = unmarked_whole h
 
   pub stopped_unmarked : (wanted : Wanted) (number : ℕ) → IsStopped g wanted moves number → first_mark moves ≡ None
   stopped_unmarked wanted number h = let s = stopped_of wanted number h in ap first_mark s.moves_are ∙ first_unmarked s.before
@@ -62,6 +68,7 @@ module _ (g : GivenModel) (moves : List Move) where
   faulty_marked Report node h = marked_in node h
   faulty_marked (Run x) node h = h.1
   faulty_marked (View nodes seen part) node h = marked_in node h
+  faulty_marked (Trust nodes part) node h = marked_in node h
 
   pub faulty_has : (wanted : Wanted) (node : ℕ) → IsFaulty g wanted moves node → has_mark moves node ≡ true
   faulty_has wanted node h = first_has moves node (faulty_marked wanted node h)
@@ -85,6 +92,7 @@ module _ (g : GivenModel) (moves : List Move) where
   whole_stopped Report number h k = stopped_parts number k h
   whole_stopped (Run x) number h k = k
   whole_stopped (View nodes seen part) number h k = stopped_parts number k h
+  whole_stopped (Trust nodes part) number h k = stopped_parts number k h
 
   -- its number says how many moves there are
   numbered : (number : ℕ) → StopsBefore g moves number → number ≡ suc (length moves)

@@ -15,6 +15,7 @@ use Rattle.fab_core.specs.Honest.{AreFor, honest_in, honest_up}
 use Rattle.fab_core.specs.Starts.{IsLeft}
 use Rattle.fab_replay.specs.Integral.{IsExcluded, IsIntegral}
 use Rattle.fab_replay.specs.Isolated.{IsIsolated}
+use Rattle.fab_replay.specs.Trusted.{IsTrusted}
 use Rattle.fab_replay.specs.Replays.{Tells}
 use Rattle.fab_replay.specs.declared.replayed.Replayed.{Replayed}
 use Rattle.fab_replay.specs.declared.replayed.Replayed.TheVariants as r
@@ -79,8 +80,8 @@ pub record MakesFront (g : GivenModel) (old new : Makers) : Type 0 where
 -- ---- answers
 
 -- There are moves of a run of which the answer tells, and the journals are as these left them; none failed of which it is told that it can't.
--- Whichever nodes are distrusted, what the others then hold is what their commits give, and what they have sent to those is the public replay of
--- what the run released.
+-- Whichever nodes are distrusted, what the others then hold is what their commits give, and what trusted replay gives;
+-- and what they have sent to those is the public replay of what the run released.
 pub record IsOfRun (g : GivenModel) (wanted : Wanted) (answer : Replayed) (old new : Makers) : Type 0 where
   pub moves : List Move
   pub run : IsRun (setting g) moves
@@ -89,6 +90,7 @@ pub record IsOfRun (g : GivenModel) (wanted : Wanted) (answer : Replayed) (old n
   pub sure : (n : ℕ) → CannotFail old.may_fail (node_text g.program n) → has_mark moves n ≡ false
   pub integral : (nodes : ℕ) (ex : ℕ → Bool) → IsExcluded g nodes ex → IsIntegral g moves (has_bit nodes) ex
   pub isolated : IsIsolated g moves
+  pub trusted : IsTrusted g moves
 
 -- the journal of this node couldn't be made, for which there is a cause, those before it were, and nothing is kept; or all were made, and its
 -- header couldn't be written

@@ -5,4 +5,5 @@ pub mod Kept
 pub mod Making
 pub mod Replays
 pub mod Running
+pub mod Trusted
 pub mod View

@@ -22,12 +22,14 @@ use Rattle.fab_core.specs.Cores.{marked, setting, unmarked, world_by}
 use Rattle.fab_core.specs.Moved.{event_of as whole, node_at}
 use Rattle.fab_core.specs.Telling.{all_held, all_outcomes}
 use Rattle.fab_listing.specs.Listing.{listing}
+use Rattle.fab_listing.specs.Trusted.{trusted_text}
 use Rattle.fab_places.specs.declared.masks.Seen.{Seen}
 use Rattle.fab_release.specs.Bundles.{public_part}
 use Rattle.fab_replay.specs.Isolated.{IsSeeing}
+use Rattle.fab_replay.specs.Trusted.{IsTrusting, trusted_in}
 use Rattle.fab_replay.specs.declared.replayed.Replayed.{Replayed}
 use Rattle.fab_replay.specs.declared.replayed.Wanted.{Wanted}
-use Rattle.fab_replay.specs.declared.replayed.Wanted.TheVariants.{Report, Run, View}
+use Rattle.fab_replay.specs.declared.replayed.Wanted.TheVariants.{Report, Run, Trust, View}
 use Rattle.fab_replay.specs.declared.replayed.Replayed.TheVariants as r
 
 -- ---- the events of a schedule
@@ -71,12 +73,17 @@ told_of telling.Summary g moves = summary_of_run g moves
 abbrev pub view_of : GivenModel → ℕ → List Move → List ℕ
 view_of g nodes moves = listing g.program (has_bit nodes) (world_by g moves).sent
 
+-- what trusted replay gives
+abbrev pub trust_of : GivenModel → (ℕ → Bool) → (ℕ → Bool) → List Move → List ℕ
+trust_of g trusts keeps moves = trusted_text g.program (trusted_in g trusts keeps moves)
+
 abbrev pub text_of : GivenModel → Wanted → List Move → List ℕ
 text_of g Report moves = report_of g moves
 text_of g (Run x) moves = told_of x g moves
 text_of g (View nodes seen part) moves = view_of g nodes moves
+text_of g (Trust nodes part) moves = trust_of g (has_bit part.labels) (has_bit part.classes) moves
 
--- the hostile nodes are in the set, this is what it sees, and this is what everybody may know
+-- for `view`: the hostile nodes are in the set, this is what it sees, and this is what everybody may know
 pub record IsReadyToView (g : GivenModel) (nodes : ℕ) (seen : Seen) (part : Resolved) : Type 0 where
   pub sees : IsSeeing g nodes (has_bit seen.labels) (has_bit seen.classes)
   pub part_is : part ≡ public_part (has_bit seen.labels) (has_bit seen.classes) g.program
@@ -85,6 +92,7 @@ abbrev pub IsReady : GivenModel → Wanted → Type 0
 IsReady g Report = Unit {0}
 IsReady g (Run x) = Unit {0}
 IsReady g (View nodes seen part) = IsReadyToView g nodes seen part
+IsReady g (Trust nodes part) = IsTrusting g nodes (has_bit part.labels) (has_bit part.classes)
 
 -- ---- how far a replay comes
 
@@ -124,6 +132,7 @@ abbrev pub is_scheduled : Wanted → Bool
 is_scheduled Report = true
 is_scheduled (Run x) = false
 is_scheduled (View nodes seen part) = true
+is_scheduled (Trust nodes part) = true
 
 -- ---- answers
 

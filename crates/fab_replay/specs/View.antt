@@ -8,7 +8,7 @@ use Rattle.fab_release.specs.Bundles.{public_part}
 use Rattle.fab_views.specs.Views.{IsSeenBy}
 use Rattle.fab_places.specs.declared.masks.Seen.{Seen}
 use Rattle.fab_replay.specs.declared.replayed.Wanted.{Wanted}
-use Rattle.fab_replay.specs.declared.replayed.Wanted.TheVariants.{Report, Run, View}
+use Rattle.fab_replay.specs.declared.replayed.Wanted.TheVariants.{Report, Run, Trust, View}
 
 -- of a program within the limits, whose principals and classes have what they name, masks say what a set sees
 pub record CanBeSeen (r : Resolved) : Type 0 where
@@ -27,3 +27,4 @@ abbrev pub IsViewInto : Resolved → ℕ → Wanted → Type 0
 IsViewInto r nodes Report = ⊥
 IsViewInto r nodes (Run x) = ⊥
 IsViewInto r nodes (View mask seen part) = IsViewOf r nodes mask seen part
+IsViewInto r nodes (Trust mask part) = ⊥

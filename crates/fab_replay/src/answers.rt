@@ -11,6 +11,7 @@ ghost use Rattle.fab_replay.specs.declared.replayed.Wanted.TheVariants as wants;
 use crate::events::node_at;
 use crate::replayed::{Replayed, Wanted};
 use crate::running::Ran;
+use crate::trust::trust_of;
 use crate::view::view_of;
 use fab_base::{NoMemory, Seq};
 use fab_command::Telling;
@@ -79,6 +80,7 @@ fn text_of<J: Journal>(
         Wanted::Report => report_of(alloc, core, program),
         Wanted::Run(telling) => told_of(alloc, core, program, *telling),
         Wanted::View { nodes, seen, part } => view_of(alloc, core, program, *nodes, seen, part),
+        Wanted::Trust { part, .. } => trust_of(alloc, core, program, part),
     }
 }
 

@@ -142,6 +142,8 @@ pub fn make_run<C: Course<Core<M::Item>>, M: Journals>(
         Wanted::Run(telling) => {
             by_themselves(alloc, course, program, rights, wanted, *telling, journals)
         }
-        Wanted::Report | Wanted::View { .. } => replay(alloc, program, rights, wanted, journals),
+        Wanted::Report | Wanted::View { .. } | Wanted::Trust { .. } => replay(
+            alloc, program, rights, wanted, journals,
+        ),
     }
 }

@@ -10,6 +10,7 @@ use crate::integral::is_integral;
 use crate::isolated::is_isolated;
 use crate::journals::keep_all;
 use crate::replayed::{Replayed, Wanted};
+use crate::trust::is_trusted;
 use fab_base::NoMemory;
 use fab_core::Core;
 use fab_device::{Journal, Journals};
@@ -39,6 +40,7 @@ pub fn finished<M: Journals>(
     core.journals_are();
     is_integral(&core);
     is_isolated(&core);
+    is_trusted(&core);
     let nodes = honest_nodes(alloc, core.start(), core.rights())?;
     let program = core.start().clone()?;
     keep_all(&program, nodes.as_slice(), core.into_journals(), journals)?;

@@ -14,6 +14,7 @@ mod journals;
 mod laws;
 mod replayed;
 mod running;
+mod trust;
 mod view;
 mod whole;
 
@@ -27,5 +28,6 @@ pub use isolated::is_isolated;
 pub use journals::Unstarted;
 pub use laws::{replays_are_exact, runs_have_one_answer, views_are_public};
 pub use replayed::{Replayed, Wanted};
+pub use trust::{first_unkept, is_trusted, trust_in};
 pub use view::view_into;
 pub use whole::replay;

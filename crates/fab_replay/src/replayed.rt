@@ -6,8 +6,9 @@ use fab_places::Seen;
 use fab_tree::resolved::Resolved;
 
 /// What is wanted: the report of the schedule's run; what is to be told of a run that the nodes make by themselves;
-/// or what was sent in the schedule's run into a set of nodes, as a mask, by those outside it, for which what
-/// the set sees is kept and what everybody may know of the bundle.
+/// what was sent in the schedule's run into a set of nodes, as a mask, by those outside it, for which what
+/// the set sees is kept and what everybody may know of the bundle; or trusted replay of that run without such a
+/// set, for which the labels and classes that exclude it are kept.
 #[derive(Debug, Drop)]
 pub enum Wanted {
     Report,
@@ -16,6 +17,10 @@ pub enum Wanted {
         nodes: u64,
         seen: Seen,
         part: Resolved,
+    },
+    Trust {
+        nodes: u64,
+        part: Seen,
     },
 }
 

@@ -8,9 +8,10 @@ use Rattle.fab_labelling.specs.declared.rule.Side.{Side}
 use Rattle.fab_command.specs.declared.command.Command.{Command}
 use Rattle.fab_front.specs.declared.status.Status.{Status}
 use Rattle.fab_front.specs.declared.status.Status.TheVariants as status
-use Rattle.fab_front.specs.Refused.{syntax, limit, misnamed, unknown, mislabelled}
+use Rattle.fab_front.specs.Refused.{syntax, limit, misnamed as name_refused, unknown, mislabelled}
 use Rattle.fab_answers.specs.Says.{Says, refused, formatted, checked, evaluated, flow}
-use Rattle.fab_reply.specs.Reply.{Replies, usage, said, replayed, barred, Answers, one_reply, interrupted, ran, in_run, before, sound, faulty, RepliesWith, Ends}
+use Rattle.fab_inferred.specs.Infers.{Infers, misnamed, no_least, no_solution, solved}
+use Rattle.fab_reply.specs.Reply.{Replies, usage, said, replayed, barred, unrobust, inferred, Answers, one_reply, interrupted, ran, in_run, before, sound, faulty, RepliesWith, Ends}
 
 -- ---- statuses of replies
 
@@ -24,11 +25,13 @@ pub data IsOfReply : Status → Type 0 where
   IsLabel : {rule : LabelRule} {at : ℕ} {source target : Side} → IsOfReply (status.Label rule at source target)
   IsBarred : {event : ℕ} → IsOfReply (status.NotEnabled event)
   IsFault : {node : ℕ} → IsOfReply (status.JournalFault node)
+  IsNoLeast : {at : ℕ} → IsOfReply (status.NoLeast at)
+  IsUnrobust : {at source principal : ℕ} → IsOfReply (status.Robust at source principal)
 
 of_says : {command : Command} {text reply : List ℕ} {s : Status} → Says command text s reply → IsOfReply s
 of_says (refused (syntax g)) = IsSyntax
 of_says (refused (limit g)) = IsLimit
-of_says (refused (misnamed asks g h)) = IsName
+of_says (refused (name_refused asks g h)) = IsName
 of_says (refused (unknown lacks g h)) = IsName
 of_says (refused (mislabelled asks g h k)) = IsLabel
 of_says (formatted g) = IsOk
@@ -36,11 +39,19 @@ of_says (checked g h k) = IsOk
 of_says (evaluated g h k) = IsOk
 of_says (flow g h k m n) = IsOk
 
+of_infers : {text reply : List ℕ} {s : Status} → Infers text s reply → IsOfReply s
+of_infers (misnamed g h) = IsName
+of_infers (no_least g h k) = IsNoLeast
+of_infers (no_solution g h k) = IsLabel
+of_infers (solved g h k m) = IsOk
+
 of_replies : {command : Option Command} {text reply : List ℕ} {s : Status} → Replies command text s reply → IsOfReply s
 of_replies usage = IsUsage
 of_replies (said x) = of_says x
 of_replies (replayed w g h k) = IsOk
 of_replies (barred w g h k) = IsBarred
+of_replies (unrobust w g h k m) = IsUnrobust
+of_replies (inferred x) = of_infers x
 
 pub of_answers : {command : Option Command} {text reply : List ℕ} {s : Status} → Answers command text s reply → IsOfReply s
 of_answers (one_reply r) = of_replies r.is
@@ -59,6 +70,8 @@ ends_so l l' w w' old new IsName e = e
 ends_so l l' w w' old new IsLabel e = e
 ends_so l l' w w' old new IsBarred e = e
 ends_so l l' w w' old new IsFault e = e
+ends_so l l' w w' old new IsNoLeast e = e
+ends_so l l' w w' old new IsUnrobust e = e
 
 -- no reply has the status of a fault of the source or of the sink
 pub no_read_fault : {s : Status} {A : Type 0} → IsOfReply s → s ≡ status.ReadFault → A
@@ -70,6 +83,8 @@ no_read_fault IsName e = absurd (cc)
 no_read_fault IsLabel e = absurd (cc)
 no_read_fault IsBarred e = absurd (cc)
 no_read_fault IsFault e = absurd (cc)
+no_read_fault IsNoLeast e = absurd (cc)
+no_read_fault IsUnrobust e = absurd (cc)
 
 pub no_write_fault : {s : Status} {A : Type 0} → IsOfReply s → s ≡ status.WriteFault → A
 no_write_fault IsOk e = absurd (cc)
@@ -80,3 +95,5 @@ no_write_fault IsName e = absurd (cc)
 no_write_fault IsLabel e = absurd (cc)
 no_write_fault IsBarred e = absurd (cc)
 no_write_fault IsFault e = absurd (cc)
+no_write_fault IsNoLeast e = absurd (cc)
+no_write_fault IsUnrobust e = absurd (cc)

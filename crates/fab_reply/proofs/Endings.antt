@@ -4,17 +4,18 @@ use Rattle.fab_device.specs.Kept.{Makers}
 use Rattle.std.specs.Io.KnownBytes.{Appends, Keeps, IsAtEnd, Consumes}
 use Rattle.fab_base.specs.declared.limit.What.TheVariants.{Bytes}
 use Rattle.fab_command.specs.declared.command.Command.{Command}
-use Rattle.fab_command.specs.declared.command.Command.TheVariants.{Check, Evaluate, Flows, Format, Replay, Run, View}
+use Rattle.fab_command.specs.declared.command.Command.TheVariants.{Check, Evaluate, Flows, Format, Infer, Replay, Run, Trust, View}
 use Rattle.fab_front.specs.declared.status.Status.{Status}
-use Rattle.fab_front.specs.declared.status.Status.TheVariants.{Ok, Usage, ReadFault, WriteFault, Memory, Syntax, Limit, Name, Label as Labelled, NotEnabled, JournalFault}
+use Rattle.fab_front.specs.declared.status.Status.TheVariants.{Ok, Usage, ReadFault, WriteFault, Memory, Syntax, Limit, Name, Label as Labelled, NotEnabled, JournalFault, NoLeast, Robust}
 use Rattle.fab_front.specs.declared.texts.Outcome.TheVariants as outcome
 use Rattle.fab_front.specs.Front.{IsFront, IsTooLong}
 use Rattle.fab_front.specs.Lines.{line, what_word}
-use Rattle.fab_reply.specs.Reply.{Answers, one_reply, interrupted, ran, in_run, before, sound, faulty, IsNoRefusal, Interrupted, IsComplete, IsJournalFault, Ran, Replies, usage, said, replayed, barred}
+use Rattle.fab_reply.specs.Reply.{Answers, one_reply, interrupted, ran, in_run, before, sound, faulty, IsNoRefusal, Interrupted, IsComplete, IsJournalFault, Ran, Replies, usage, said, replayed, barred, unrobust, inferred}
 use Rattle.fab_reply.specs.Reply.{AreCut, cut_short, untouched, AreLeft, JournalsAre, RepliesInPart, IsReply, IsInput, unasked, read, RepliesWith, Ends, ComesTo, SpeaksOfText}
-use Rattle.fab_front.specs.Refused.{syntax, limit, misnamed, unknown, mislabelled}
+use Rattle.fab_front.specs.Refused.{syntax, limit, misnamed as name_refused, unknown, mislabelled}
 use Rattle.fab_answers.specs.Says.{MakesRuns, Says, refused, formatted, checked, evaluated, flow}
 use Rattle.fab_answers.proofs.Saying.{limit_said}
+use Rattle.fab_inferred.specs.Infers.{Infers, misnamed, no_least, no_solution, solved}
 use Rattle.fab_front.proofs.Accepting.{short}
 use Rattle.fab_front.proofs.Fronts.{one_of_long}
 use Rattle.fab_reply.specs.Headline.{Headline, IsPartFor, IsWholeFor}
@@ -128,6 +129,8 @@ module _ (command : Option Command) (l l' w w' : Option (List ℕ)) (old new : M
   exactly (Name x at) e f = with_reply e
   exactly (Labelled x at from to) e f = with_reply e
   exactly (NotEnabled event) e f = with_reply e
+  exactly (NoLeast at) e f = with_reply e
+  exactly (Robust at source principal) e f = with_reply e
   exactly (JournalFault node) e f = with_reply e
 
   -- a run of an accepted bundle isn't refused
@@ -150,6 +153,8 @@ module _ (command : Option Command) (l l' w w' : Option (List ℕ)) (old new : M
   completely (Name x at) e f = through e
   completely (Labelled x at from to) e f = through e
   completely (NotEnabled event) e f = through e
+  completely (NoLeast at) e f = through e
+  completely (Robust at source principal) e f = through e
   completely (JournalFault node) e f = through e
 
   speaks_not : {status : Status} → SpeaksOfText status → Limit Bytes ≡ status → ⊥
@@ -197,6 +202,8 @@ module _ (command : Option Command) (l l' w w' : Option (List ℕ)) (old new : M
   read_whole (Name x at) e s = to_end s e
   read_whole (Labelled x at from to) e s = to_end s e
   read_whole (NotEnabled event) e s = to_end s e
+  read_whole (NoLeast at) e s = to_end s e
+  read_whole (Robust at source principal) e s = to_end s e
   read_whole (JournalFault node) e s = to_end s e
 
   -- where nothing is asked, `usage` comes
@@ -219,13 +226,15 @@ module _ (command : Option Command) (l l' w w' : Option (List ℕ)) (old new : M
   usage_comes (Name x at) e f none = as_usage none e
   usage_comes (Labelled x at from to) e f none = as_usage none e
   usage_comes (NotEnabled event) e f none = as_usage none e
+  usage_comes (NoLeast at) e f none = as_usage none e
+  usage_comes (Robust at source principal) e f none = as_usage none e
   usage_comes (JournalFault node) e f none = as_usage none e
 
   -- and only there
   not_usage : {asked : Command} {text reply : List ℕ} {s : Status} → Says asked text s reply → s ≡ Usage → ⊥
   not_usage (refused (syntax g)) h = absurd (cc)
   not_usage (refused (limit g)) h = absurd (cc)
-  not_usage (refused (misnamed asks g k)) h = absurd (cc)
+  not_usage (refused (name_refused asks g k)) h = absurd (cc)
   not_usage (refused (unknown lacks g k)) h = absurd (cc)
   not_usage (refused (mislabelled asks g k m)) h = absurd (cc)
   not_usage (formatted g) h = absurd (cc)
@@ -233,12 +242,19 @@ module _ (command : Option Command) (l l' w w' : Option (List ℕ)) (old new : M
   not_usage (evaluated g k m) h = absurd (cc)
   not_usage (flow g k m n o) h = absurd (cc)
 
+  inferred_no_usage : {text reply : List ℕ} {s : Status} → Infers text s reply → s ≡ Usage → ⊥
+  inferred_no_usage (misnamed g k) h = absurd (cc)
+  inferred_no_usage (no_least g k m) h = absurd (cc)
+  inferred_no_usage (no_solution g k m) h = absurd (cc)
+  inferred_no_usage (solved g k m n) h = absurd (cc)
+
   nothing_asked : {asked : Option Command} {text reply : List ℕ} → Answers asked text Usage reply → asked ≡ None
   nothing_asked (one_reply r) = of_usage r.is
     where
       of_usage : {asked : Option Command} {text reply : List ℕ} → Replies asked text Usage reply → asked ≡ None
       of_usage usage = refl
       of_usage (said x) = absurd (not_usage x refl)
+      of_usage (inferred x) = absurd (inferred_no_usage x refl)
   nothing_asked {asked = asked} {text = text} {reply = reply} (interrupted x) = elim x [ ]
   nothing_asked {asked = asked} {text = text} {reply = reply} (ran x) = elim x [ ]
 
@@ -253,6 +269,8 @@ module _ (command : Option Command) (l l' w w' : Option (List ℕ)) (old new : M
   only_unasked (Name x at) e h = absurd (cc)
   only_unasked (Labelled x at from to) e h = absurd (cc)
   only_unasked (NotEnabled event) e h = absurd (cc)
+  only_unasked (NoLeast at) e h = absurd (cc)
+  only_unasked (Robust at source principal) e h = absurd (cc)
   only_unasked (JournalFault node) e h = absurd (cc)
 
   -- ---- runs
@@ -260,7 +278,7 @@ module _ (command : Option Command) (l l' w w' : Option (List ℕ)) (old new : M
   said_no_fault : {asked : Command} {text reply : List ℕ} {s : Status} {node : ℕ} → Says asked text s reply → s ≡ JournalFault node → ⊥
   said_no_fault (refused (syntax g)) h = absurd (cc)
   said_no_fault (refused (limit g)) h = absurd (cc)
-  said_no_fault (refused (misnamed asks g k)) h = absurd (cc)
+  said_no_fault (refused (name_refused asks g k)) h = absurd (cc)
   said_no_fault (refused (unknown lacks g k)) h = absurd (cc)
   said_no_fault (refused (mislabelled asks g k m)) h = absurd (cc)
   said_no_fault (formatted g) h = absurd (cc)
@@ -268,12 +286,20 @@ module _ (command : Option Command) (l l' w w' : Option (List ℕ)) (old new : M
   said_no_fault (evaluated g k m) h = absurd (cc)
   said_no_fault (flow g k m n o) h = absurd (cc)
 
+  inferred_no_fault : {text reply : List ℕ} {s : Status} {node : ℕ} → Infers text s reply → s ≡ JournalFault node → ⊥
+  inferred_no_fault (misnamed g k) h = absurd (cc)
+  inferred_no_fault (no_least g k m) h = absurd (cc)
+  inferred_no_fault (no_solution g k m) h = absurd (cc)
+  inferred_no_fault (solved g k m n) h = absurd (cc)
+
   -- no reply has the status of a journal's fault
   no_journal_fault : {asked : Option Command} {text reply : List ℕ} {s : Status} {node : ℕ} → Replies asked text s reply → s ≡ JournalFault node → ⊥
   no_journal_fault usage h = absurd (cc)
   no_journal_fault (said x) h = said_no_fault x h
   no_journal_fault (replayed w g k m) h = absurd (cc)
   no_journal_fault (barred w g k m) h = absurd (cc)
+  no_journal_fault (unrobust w g k m n) h = absurd (cc)
+  no_journal_fault (inferred x) h = inferred_no_fault x h
 
   of_run : {asked : Option Command} {text reply : List ℕ} {status : Status} {node : ℕ} → Answers asked text status reply → status ≡ JournalFault node → MakesRuns asked
   of_run (one_reply r) h = absurd (no_journal_fault r.is h)
@@ -295,6 +321,8 @@ module _ (command : Option Command) (l l' w w' : Option (List ℕ)) (old new : M
   fault_of_run (Name x at) e node h = absurd (cc)
   fault_of_run (Labelled x at from to) e node h = absurd (cc)
   fault_of_run (NotEnabled event) e node h = absurd (cc)
+  fault_of_run (NoLeast at) e node h = absurd (cc)
+  fault_of_run (Robust at source principal) e node h = absurd (cc)
 
   -- what is so of a command that makes a run is so of one that is asked
   for_runs : (P : Option Command → Type 0) → MakesRuns command → ((c : Command) → command ≡ Some c → MakesRuns (Some c) → P (Some c)) → P command
@@ -309,10 +337,12 @@ module _ (command : Option Command) (l l' w w' : Option (List ℕ)) (old new : M
   is_left Replay text reply status runs h = h
   is_left (Run x) text reply status runs h = h
   is_left (View names) text reply status runs h = h
+  is_left (Trust names) text reply status runs h = h
   is_left Check text reply status runs h = absurd runs
   is_left Evaluate text reply status runs h = absurd runs
   is_left (Flows a b) text reply status runs h = absurd runs
   is_left Format text reply status runs h = absurd runs
+  is_left Infer text reply status runs h = absurd runs
 
   -- the headline holds of what was written
   pub whole_headline : (status : Status) → Ends command status l l' w w' old new → MakesRuns command → status ≡ Ok → Headline command (IsWholeFor command) l l' w w'
@@ -347,6 +377,8 @@ module _ (command : Option Command) (l l' w w' : Option (List ℕ)) (old new : M
       → new.faults ≡ old.faults
   left_unfailed c text reply Ok h k = replay_unfailed c text reply Ok old new h k
   left_unfailed c text reply (NotEnabled event) h k = replay_unfailed c text reply (NotEnabled event) old new h k
+  left_unfailed c text reply (NoLeast at) h k = ap (λ (m : Makers). m.faults) h
+  left_unfailed c text reply (Robust at source principal) h k = ap (λ (m : Makers). m.faults) h
   left_unfailed c text reply (JournalFault node) h k = replay_unfailed c text reply (JournalFault node) old new h k
   left_unfailed c text reply Usage h k = ap (λ (m : Makers). m.faults) h
   left_unfailed c text reply ReadFault h k = ap (λ (m : Makers). m.faults) h
@@ -362,10 +394,12 @@ module _ (command : Option Command) (l l' w w' : Option (List ℕ)) (old new : M
   are_unfailed (Some Replay) text reply status h k = left_unfailed Replay text reply status h k
   are_unfailed (Some (Run x)) text reply status h k = left_unfailed (Run x) text reply status h k
   are_unfailed (Some (View names)) text reply status h k = left_unfailed (View names) text reply status h k
+  are_unfailed (Some (Trust names)) text reply status h k = left_unfailed (Trust names) text reply status h k
   are_unfailed (Some Check) text reply status h k = ap (λ (m : Makers). m.faults) h
   are_unfailed (Some Evaluate) text reply status h k = ap (λ (m : Makers). m.faults) h
   are_unfailed (Some (Flows a b)) text reply status h k = ap (λ (m : Makers). m.faults) h
   are_unfailed (Some Format) text reply status h k = ap (λ (m : Makers). m.faults) h
+  are_unfailed (Some Infer) text reply status h k = ap (λ (m : Makers). m.faults) h
   are_unfailed None text reply status h k = ap (λ (m : Makers). m.faults) h
 
   whole_unfailed : (status : Status) → RepliesWith status command l l' w w' old new → (IsJournalFault status → ⊥) → new.faults ≡ old.faults
@@ -391,4 +425,6 @@ module _ (command : Option Command) (l l' w w' : Option (List ℕ)) (old new : M
   makers_unfailed (Name x at) e none = whole_unfailed (Name x at) e none
   makers_unfailed (Labelled x at from to) e none = whole_unfailed (Labelled x at from to) e none
   makers_unfailed (NotEnabled event) e none = whole_unfailed (NotEnabled event) e none
+  makers_unfailed (NoLeast at) e none = whole_unfailed (NoLeast at) e none
+  makers_unfailed (Robust at source principal) e none = whole_unfailed (Robust at source principal) e none
   makers_unfailed (JournalFault node) e none = absurd (none tt)

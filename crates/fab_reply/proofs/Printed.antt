@@ -14,7 +14,7 @@ use Rattle.fab_command.specs.declared.command.Telling.TheVariants as telling
 use Rattle.fab_command.specs.declared.command.Command.TheVariants.{Replay, Run}
 use Rattle.fab_replay.specs.Replays.{text_of, told_of}
 use Rattle.fab_replay.specs.declared.replayed.Wanted.{Wanted}
-use Rattle.fab_replay.specs.declared.replayed.Wanted.TheVariants.{Report, Run as ByNodes, View as Viewed}
+use Rattle.fab_replay.specs.declared.replayed.Wanted.TheVariants.{Report, Run as ByNodes, Trust as Trusted, View as Viewed}
 use Rattle.fab_shown.specs.Shown.{report_of}
 use Rattle.fab_shown.proofs.Shown.{read_back}
 use Rattle.fab_front.specs.declared.texts.Outcome.TheVariants as outcome
@@ -41,11 +41,13 @@ of_replay : WantsReport Replay
 of_replay s rights moves Report h = refl
 of_replay s rights moves (ByNodes x) h = absurd h
 of_replay s rights moves (Viewed nodes seen part) h = absurd h
+of_replay s rights moves (Trusted nodes part) h = absurd h
 
 of_run : WantsReport (Run telling.Report)
 of_run s rights moves (ByNodes x) h = ap (λ y. told_of y (given_of s rights) moves) h
 of_run s rights moves Report h = absurd h
 of_run s rights moves (Viewed nodes seen part) h = absurd h
+of_run s rights moves (Trusted nodes part) h = absurd h
 
 same_command : (a b : Command) → Some a ≡ Some b → b ≡ a
 same_command a b e = cc

@@ -4,7 +4,7 @@ use Rattle.std.proofs.lemmas.List.{take_all}
 use Rattle.std.specs.Io.KnownBytes.{Appends, Keeps}
 use Rattle.fab_command.specs.declared.command.Command.{Command}
 use Rattle.fab_command.specs.declared.command.Telling.{Telling}
-use Rattle.fab_command.specs.declared.command.Command.TheVariants.{Replay, Run, View}
+use Rattle.fab_command.specs.declared.command.Command.TheVariants.{Replay, Run, Trust, View}
 use Rattle.fab_tree.specs.declared.start.Start.{Start}
 use Rattle.fab_language.specs.Numbers.{resolved}
 use Rattle.fab_language.specs.Words.{node_text}
@@ -14,7 +14,7 @@ use Rattle.fab_settings.specs.Settings.{IsAcceptedWith}
 use Rattle.fab_replay.specs.declared.replayed.Replayed.{Replayed}
 use Rattle.fab_replay.specs.declared.replayed.Replayed.TheVariants as replays
 use Rattle.fab_replay.specs.declared.replayed.Wanted.{Wanted}
-use Rattle.fab_replay.specs.declared.replayed.Wanted.TheVariants.{Report, Run as ByNodes, View as Viewed}
+use Rattle.fab_replay.specs.declared.replayed.Wanted.TheVariants.{Report, Run as ByNodes, Trust as Trusted, View as Viewed}
 use Rattle.fab_replay.specs.Kept.{IsCutShort, IsOfRun, IsPossible, IsReplayed, OfRun, with_more}
 use Rattle.fab_front.specs.declared.texts.Outcome.TheVariants as outcome
 use Rattle.fab_front.specs.declared.status.Status.{Status}
@@ -62,7 +62,8 @@ module _ {text : List ℕ} {start : Start} (f : IsFront text (outcome.Bundle sta
       wished
       (λ c u. (answer : Replayed) (old new : Makers) → IsReplayed (given_of start rights) u answer old new
       → Answers (Some c) text (status_of answer) (text_of answer))
-      (replay_answered Replay Report tt refl) run_answered (λ names nodes seen part named. replay_answered (View names) (Viewed nodes seen part) named refl) command wanted wants
+      (replay_answered Replay Report tt refl) run_answered (λ names nodes seen part named. replay_answered (View names) (Viewed nodes seen part) named refl)
+      (λ names nodes part trusted. replay_answered (Trust names) (Trusted nodes part) trusted refl) command wanted wants
 
 module _ {text : List ℕ} {start : Start} (f : IsFront text (outcome.Bundle start)) (rights : Rights) (accepted : IsAcceptedWith start rights)
     (command : Command) (wanted : Wanted) (wants : Wants start command wanted) where
@@ -153,6 +154,7 @@ module _ (l l' w w' : Option (List ℕ)) (old new : Makers) (command : Command) 
     reported = subst (Appends w w') (is ∙ of) all;
     integral = h.integral;
     isolated = h.isolated;
+    trusted = h.trusted;
   }
 
   done_headlined : (start : Start) (rights : Rights) (wanted : Wanted) (answer : Replayed) (text reply : List ℕ) → Wants start command wanted → ReadsText l l' text

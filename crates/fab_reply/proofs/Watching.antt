@@ -16,7 +16,7 @@ use Rattle.fab_rights.proofs.Bits.{bit_below, has_bit_exact}
 use Rattle.fab_settings.specs.Settings.{IsAcceptedWith, is_hostile_node}
 use Rattle.std.proofs.lemmas.List.{length-map}
 use Rattle.fab_command.specs.declared.command.Command.{Command}
-use Rattle.fab_command.specs.declared.command.Command.TheVariants.{View}
+use Rattle.fab_command.specs.declared.command.Command.TheVariants.{Trust, View}
 use Rattle.fab_tree.specs.declared.resolved.Resolved.{Resolved}
 use Rattle.fab_tree.specs.Limits.{first_passed}
 use Rattle.fab_language.specs.Faults.{faults}
@@ -27,9 +27,12 @@ use Rattle.fab_tables.proofs.LimitLemmas.{is_within}
 use Rattle.fab_views.specs.Views.{IsSeenBy}
 use Rattle.fab_views.proofs.Declared.{class_label_declared}
 use Rattle.fab_replay.specs.declared.replayed.Wanted.{Wanted}
-use Rattle.fab_replay.specs.declared.replayed.Wanted.TheVariants.{Report, Run as ByNodes, View as Viewed}
+use Rattle.fab_replay.specs.declared.replayed.Wanted.TheVariants.{Report, Run as ByNodes, Trust as Trusted, View as Viewed}
 use Rattle.fab_replay.specs.Replays.{IsReady}
 use Rattle.fab_replay.specs.View.{CanBeSeen, IsViewInto}
+use Rattle.fab_trusted.specs.Robust.{IsRobust}
+use Rattle.fab_trusted.specs.Trusts.{IsTrustedBy}
+use Rattle.fab_replay.specs.Trusted.{IsTrustIn}
 use Rattle.fab_reply.specs.Replays.{AreNamed, IsSetOf, Wants, given_of}
 
 -- hostile nodes are workers and stores, so their numbers are below 64
@@ -108,6 +111,15 @@ can_be_seen s r within right is =
       declared = class_label_declared s right;
     })
 
+either_true : (b : Bool) → (b || true) ≡ true
+either_true true = refl
+either_true false = refl
+
+-- the hostile nodes are in the set of a command
+pub hostile_in : (s : Start) (rights : Rights) (names : List (List ℕ)) (nodes : ℕ) → IsAcceptedWith s rights → AreNamed s names nodes → (n : ℕ) → is_hostile_node (resolved s) n ≡ true → has_bit nodes n ≡ true
+hostile_in s rights names nodes accepted named n hostile =
+    named.nodes_are n (hostile_below s rights accepted n hostile) ∙ ap (λ b. is_named (resolved s) names n || b) hostile ∙ either_true (is_named (resolved s) names n)
+
 -- what is wanted of its runs is ready
 pub ready_view : (s : Start) (command : Command) (names : List (List ℕ)) (set : ℕ) (program : Resolved) (w : Wanted) → program ≡ resolved s → command ≡ View names → IsSetOf s command set
     → IsViewInto program set w → Wants s command w × ((rights : Rights) → IsAcceptedWith s rights → IsReady (given_of s rights) w)
@@ -118,15 +130,25 @@ ready_view s command names set program (Viewed nodes seen part) is of h v =
       subst (λ c. Wants s c (Viewed nodes seen part)) (sym of) named,
       λ rights accepted. record {
         sees = record {
-          hostile = λ n hostile.
-              named.nodes_are n (hostile_below s rights accepted n hostile) ∙ ap (λ b. is_named (resolved s) names n || b) hostile ∙ either_true (is_named (resolved s) names n);
+          hostile = hostile_in s rights names nodes accepted named;
           seen = subst (λ (p : Resolved). IsSeenBy p nodes (has_bit seen.labels) (has_bit seen.classes)) is
               (subst (λ m. IsSeenBy program m (has_bit seen.labels) (has_bit seen.classes)) (sym v.nodes_are) v.sees);
         };
         part_is = v.part_is ∙ ap (public_part (has_bit seen.labels) (has_bit seen.classes)) is;
       },
     )
-  where
-    either_true : (b : Bool) → (b || true) ≡ true
-    either_true true = refl
-    either_true false = refl
+ready_view s command names set program (Trusted nodes part) is of h v = absurd v
+
+pub ready_trust : (s : Start) (command : Command) (names : List (List ℕ)) (set : ℕ) (program : Resolved) (w : Wanted) → program ≡ resolved s → command ≡ Trust names → IsSetOf s command set
+    → IsRobust (resolved s) → IsTrustIn program set w → Wants s command w × ((rights : Rights) → IsAcceptedWith s rights → IsReady (given_of s rights) w)
+ready_trust s command names set program Report is of h robust v = absurd v
+ready_trust s command names set program (ByNodes x) is of h robust v = absurd v
+ready_trust s command names set program (Viewed nodes seen part) is of h robust v = absurd v
+ready_trust s command names set program (Trusted nodes part) is of h robust v =
+    let named : AreNamed s names nodes = subst (AreNamed s names) (sym v.nodes_are) (let k = subst (λ c. IsSetOf s c set) of h in k) in
+    let trusts : IsTrustedBy (resolved s) nodes (has_bit part.labels) (has_bit part.classes) =
+    subst (λ (p : Resolved). IsTrustedBy p nodes (has_bit part.labels) (has_bit part.classes)) is
+    (subst (λ m. IsTrustedBy program m (has_bit part.labels) (has_bit part.classes)) (sym v.nodes_are) v.trusts) in (
+      subst (λ c. Wants s c (Trusted nodes part)) (sym of) (record { named = named; robust = robust; trusts = trusts }),
+      λ rights accepted. record { hostile = hostile_in s rights names nodes accepted named; trusted = trusts },
+    )

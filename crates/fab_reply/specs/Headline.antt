@@ -15,6 +15,7 @@ use Rattle.fab_replay.specs.declared.replayed.Wanted.{Wanted}
 use Rattle.fab_replay.specs.Replays.{IsRunOver, StopsIn, events_of, first_mark, moves_of, text_of}
 use Rattle.fab_replay.specs.Integral.{IsExcluded, IsIntegral}
 use Rattle.fab_replay.specs.Isolated.{IsIsolated}
+use Rattle.fab_replay.specs.Trusted.{IsTrusted}
 use Rattle.fab_front.specs.declared.texts.Outcome.TheVariants as outcome
 use Rattle.fab_front.specs.Front.{Front}
 use Rattle.fab_front.specs.Reading.{ReadsText}
@@ -41,8 +42,8 @@ IsPartFor _ node g moves = IsOfFault node g moves
 
 -- A text was read that spells an accepted bundle, and what was written is the text that the command wants of one run from its start, of which P
 -- holds: for `replay` and `run` its report. And for every set of nodes that contains the hostile ones, each object whose integrity excludes the set holds
--- what replaying the committed requests of the others in the order of their decisions gives, each at most once; and each node outside the set
--- has sent each node of it exactly the public replay of the release record.
+-- what replaying the committed requests of the others in the order of their decisions gives, each at most once; and what trusted replay of these requests
+-- gives, in which of what was answered endorsed values alone have part; and each node outside the set has sent each node of it exactly the public replay of the release record.
 pub record Headline (command : Option Command) (P : GivenModel → List Move → Type 0) (left left' written written' : Option (List ℕ)) : Type 0 where
   pub text : List ℕ
   pub start : Start
@@ -60,3 +61,4 @@ pub record Headline (command : Option Command) (P : GivenModel → List Move →
   pub reported : Appends written written' (text_of (given_of start rights) wanted moves)
   pub integral : (nodes : ℕ) (ex : ℕ → Bool) → IsExcluded (given_of start rights) nodes ex → IsIntegral (given_of start rights) moves (has_bit nodes) ex
   pub isolated : IsIsolated (given_of start rights) moves
+  pub trusted : IsTrusted (given_of start rights) moves

@@ -3,3 +3,4 @@ pub mod Headline
 pub mod Printed
 pub mod Replays
 pub mod Reply
+pub mod Shown

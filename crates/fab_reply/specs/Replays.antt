@@ -4,7 +4,11 @@ use Rattle.fab_tree.specs.declared.start.Start.{Start}
 use Rattle.fab_language.specs.Numbers.{resolved}
 use Rattle.fab_rights.specs.declared.rights.Rights.{Rights}
 use Rattle.fab_rights.specs.Computed.{has_bit}
+use Rattle.fab_places.specs.declared.masks.Seen.{Seen}
 use Rattle.fab_settings.specs.Settings.{is_hostile_node}
+use Rattle.fab_trusted.specs.declared.rows.Guard.{Guard}
+use Rattle.fab_trusted.specs.Robust.{IsFirstUnkept, IsRobust, guards}
+use Rattle.fab_trusted.specs.Trusts.{IsTrustedBy}
 use Rattle.fab_world.specs.Machine.{Move}
 use Rattle.fab_world.specs.Serial.{IsRun}
 use Rattle.fab_node.specs.Standing.{GivenModel}
@@ -12,11 +16,11 @@ use Rattle.fab_core.specs.Cores.{setting}
 use Rattle.fab_core.specs.Starts.{given_by}
 use Rattle.fab_command.specs.declared.command.Command.{Command}
 use Rattle.fab_command.specs.declared.command.Telling.{Telling}
-use Rattle.fab_command.specs.declared.command.Command.TheVariants.{Check, Evaluate, Flows, Format, Replay, Run, View}
+use Rattle.fab_command.specs.declared.command.Command.TheVariants.{Check, Evaluate, Flows, Format, Infer, Replay, Run, Trust, View}
 use Rattle.fab_front.specs.Named.{are_node_names, is_named}
 use Rattle.fab_replay.specs.declared.replayed.Replayed.{Replayed}
 use Rattle.fab_replay.specs.declared.replayed.Wanted.{Wanted}
-use Rattle.fab_replay.specs.declared.replayed.Wanted.TheVariants.{Report, Run as ByNodes, View as Viewed}
+use Rattle.fab_replay.specs.declared.replayed.Wanted.TheVariants.{Report, Run as ByNodes, Trust as Trusted, View as Viewed}
 use Rattle.fab_replay.specs.Replays.{Tells, is_scheduled}
 
 -- what the nodes of a bundle are given
@@ -41,22 +45,36 @@ pub record AreNamed (s : Start) (names : List (List ℕ)) (nodes : ℕ) : Type 0
   pub names_are : are_node_names (resolved s) names ≡ true
   pub nodes_are : (n : ℕ) → n < 64 → has_bit nodes n ≡ (is_named (resolved s) names n || is_hostile_node (resolved s) n)
 
--- what a command wants: `replay` the report of the schedule's run, `run` what it tells of a run that the nodes make by themselves, and `view` what was sent
--- in the schedule's run into the set of the nodes that it names and of the hostile ones
+-- the declassifications are robust, the words are names of nodes, and these labels and classes exclude those nodes and the hostile ones
+pub record AreDistrusted (s : Start) (names : List (List ℕ)) (nodes : ℕ) (part : Seen) : Type 0 where
+  pub named : AreNamed s names nodes
+  pub robust : IsRobust (resolved s)
+  pub trusts : IsTrustedBy (resolved s) nodes (has_bit part.labels) (has_bit part.classes)
+
+-- what a command wants: `replay` the report of the schedule's run, `run` what it tells of a run that the nodes make by themselves, `view` what was sent
+-- in the schedule's run into the set of the nodes that it names and of the hostile ones, and `trust`, of a robust bundle, trusted replay without that set
 abbrev pub Wants : Start → Command → Wanted → Type 0
 Wants s Replay Report = Unit {0}
 Wants s Replay (ByNodes x) = ⊥
 Wants s Replay (Viewed nodes seen part) = ⊥
+Wants s Replay (Trusted nodes part) = ⊥
 Wants s (Run x) Report = ⊥
 Wants s (Run x) (ByNodes y) = y ≡ x
 Wants s (Run x) (Viewed nodes seen part) = ⊥
+Wants s (Run x) (Trusted nodes part) = ⊥
 Wants s (View names) Report = ⊥
 Wants s (View names) (ByNodes x) = ⊥
 Wants s (View names) (Viewed nodes seen part) = AreNamed s names nodes
+Wants s (View names) (Trusted nodes part) = ⊥
+Wants s (Trust names) Report = ⊥
+Wants s (Trust names) (ByNodes x) = ⊥
+Wants s (Trust names) (Viewed nodes seen part) = ⊥
+Wants s (Trust names) (Trusted nodes part) = AreDistrusted s names nodes part
 Wants s Check wanted = ⊥
 Wants s Evaluate wanted = ⊥
 Wants s (Flows a b) wanted = ⊥
 Wants s Format wanted = ⊥
+Wants s Infer wanted = ⊥
 
 -- such runs are made as this command may want, by who makes these
 abbrev pub CanMake : (Wanted → Bool) → Option Command → Type 0
@@ -66,4 +84,15 @@ CanMake makes (Some command) = (s : Start) (wanted : Wanted) → Wants s command
 -- these are the nodes of the command's set, if it has one
 abbrev pub IsSetOf : Start → Command → ℕ → Type 0
 IsSetOf s (View names) nodes = AreNamed s names nodes
+IsSetOf s (Trust names) nodes = AreNamed s names nodes
 IsSetOf s _ nodes = Unit {0}
+
+-- `trust` asks for robust declassifications
+abbrev pub KeepsRobust : Command → Start → Type 0
+KeepsRobust (Trust names) s = IsRobust (resolved s)
+KeepsRobust _ s = Unit {0}
+
+-- this is the first that isn't
+abbrev pub IsUnrobust : Command → Start → Guard → Type 0
+IsUnrobust (Trust names) s x = IsFirstUnkept (resolved s) (guards (resolved s)) x
+IsUnrobust _ s x = ⊥

@@ -1,15 +1,21 @@
 -- What the program replies.
-use Rattle.std.specs.Prelude.{◌≡◌, ◌≢◌, ◌⊎◌, ℕ, IsTrue, List, [], Option, Some, None, codes}
+use Rattle.std.specs.Prelude.{◌≡◌, ◌≢◌, ◌⊎◌, ℕ, true, IsTrue, List, [], Option, Some, None, codes}
 use Rattle.fab_device.specs.Kept.{Makers}
 use Rattle.std.specs.Io.KnownBytes.{Appends, Keeps}
 use Rattle.fab_base.specs.declared.limit.What.TheVariants as w
 use Rattle.fab_tree.specs.declared.start.Start.{Start}
+use Rattle.fab_language.specs.Faults.{faults}
 use Rattle.fab_language.specs.Numbers.{resolved}
+use Rattle.fab_labelling.specs.Claims.{IsWellLabelled}
+use Rattle.fab_trusted.specs.declared.rows.Guard.{Guard}
+use Rattle.fab_trusted.specs.Robust.{IsFirstUnkept, guards}
 use Rattle.fab_front.specs.declared.texts.Outcome.{Outcome}
 use Rattle.fab_front.specs.declared.texts.Outcome.TheVariants as outcome
 use Rattle.fab_front.specs.Front.{Front, IsFront}
-use Rattle.fab_front.specs.Lines.{barred_line, line}
+use Rattle.fab_front.specs.Lines.{barred_line, line, robust_line}
+use Rattle.fab_front.specs.Named.{are_node_names}
 use Rattle.fab_answers.specs.Says.{Says}
+use Rattle.fab_inferred.specs.Infers.{Infers}
 use Rattle.fab_front.specs.Reading.{ReadsText, WritesFront}
 use Rattle.fab_reply.specs.Replays.{ReplaysTo, RunsTo, Wants, given_of}
 use Rattle.fab_rights.specs.declared.rights.Rights.{Rights}
@@ -20,13 +26,14 @@ use Rattle.fab_replay.specs.declared.replayed.Replayed.TheVariants as replays
 use Rattle.fab_replay.specs.declared.replayed.Wanted.{Wanted}
 use Rattle.fab_replay.specs.Kept.{IsCutShort, IsReplayed, IsPossible}
 use Rattle.fab_front.specs.declared.status.Status.{Status}
-use Rattle.fab_front.specs.declared.status.Status.TheVariants.{Ok, Usage, ReadFault, WriteFault, Memory, Syntax, Name, Label as Labelled, Limit, NotEnabled, JournalFault}
+use Rattle.fab_front.specs.declared.status.Status.TheVariants.{Ok, Usage, ReadFault, WriteFault, Memory, Syntax, Name, Label as Labelled, Limit, NotEnabled, JournalFault, NoLeast, Robust}
 use Rattle.fab_command.specs.declared.command.Command.{Command}
 use Rattle.fab_command.specs.declared.command.Telling.{Telling}
-use Rattle.fab_command.specs.declared.command.Command.TheVariants.{Replay, Run, View}
+use Rattle.fab_command.specs.declared.command.Command.TheVariants.{Infer, Replay, Run, Trust, View}
 
 -- Replies command text status written: the status, and what is written, for what is asked and the text that there was: what is said of it without a
--- run; what is wanted of the schedule's run, or the first of its events that may not come.
+-- run; what is wanted of the schedule's run, or the first of its events that may not come; for `trust` the first declassification that isn't robust;
+-- and for `infer` what its holes come to.
 pub data Replies : Option Command → List ℕ → Status → List ℕ → Type 0 where
   usage : {text : List ℕ} → Replies None text Usage (line (codes "usage"))
   said : {command : Command} {text reply : List ℕ} {status : Status} → Says command text status reply → Replies (Some command) text status reply
@@ -36,6 +43,11 @@ pub data Replies : Option Command → List ℕ → Status → List ℕ → Type 
   barred : {command : Command} {wanted : Wanted} {text : List ℕ} {s : Start} {rights : Rights} {event : ℕ}
       → Wants s command wanted → Front text (outcome.Bundle s) → IsAcceptedWith s rights → ReplaysTo s rights wanted (replays.NotEnabled event)
       → Replies (Some command) text (NotEnabled event) (barred_line event)
+  unrobust : {names : List (List ℕ)} {text : List ℕ} {s : Start} {x : Guard}
+      → are_node_names (resolved s) names ≡ true → Front text (outcome.Bundle s) → faults s ≡ [] → IsWellLabelled (resolved s)
+      → IsFirstUnkept (resolved s) (guards (resolved s)) x
+      → Replies (Some (Trust names)) text (Robust x.at x.source x.principal) (robust_line (resolved s) x.at x.source x.principal)
+  inferred : {text reply : List ℕ} {status : Status} → Infers text status reply → Replies (Some Infer) text status reply
 
 -- Interrupted command text status written: a node's journal failed. In the schedule's run that is what is wanted of the run as it stands; before
 -- there is a run nothing is written.
@@ -114,6 +126,7 @@ abbrev pub JournalsAre : Option Command → List ℕ → Makers → Makers → S
 JournalsAre (Some Replay) text old new status reply = AreLeft Replay text old new status reply
 JournalsAre (Some (Run x)) text old new status reply = AreLeft (Run x) text old new status reply
 JournalsAre (Some (View names)) text old new status reply = AreLeft (View names) text old new status reply
+JournalsAre (Some (Trust names)) text old new status reply = AreLeft (Trust names) text old new status reply
 JournalsAre command text old new status reply = new ≡ old
 
 -- Memory ran out: of the journals of a run the first were kept, perhaps none, and their makers haven't failed.
@@ -181,6 +194,8 @@ SpeaksOfText (Name x at) = Unit {0}
 SpeaksOfText (Labelled x at source target) = Unit {0}
 SpeaksOfText (NotEnabled event) = Unit {0}
 SpeaksOfText (JournalFault node) = Unit {0}
+SpeaksOfText (NoLeast at) = Unit {0}
+SpeaksOfText (Robust at source principal) = Unit {0}
 SpeaksOfText _ = ⊥
 
 abbrev pub IsJournalFault : Status → Type 0

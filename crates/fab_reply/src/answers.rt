@@ -9,7 +9,10 @@ ghost use Rattle.fab_front.specs.Accepted.{IsAccepted};
 ghost use Rattle.fab_front.specs.Refused.{LacksName};
 ghost use Rattle.fab_front.specs.declared.accepted.Accepted.TheVariants.{Bundle as Whole};
 ghost use Rattle.fab_answers.specs.Says.{MakesRuns};
-ghost use Rattle.fab_reply.specs.Replays.{CanMake, IsSetOf, Wants, given_of};
+ghost use Rattle.fab_authority.specs.Authority.{HasFew};
+ghost use Rattle.fab_flows.specs.Numbers.{HasPrincipals};
+ghost use Rattle.fab_labelling.specs.Claims.{IsWellLabelled};
+ghost use Rattle.fab_reply.specs.Replays.{CanMake, IsSetOf, IsUnrobust, KeepsRobust, Wants, given_of};
 ghost use Rattle.fab_replay.specs.Courses.{IsCourse};
 ghost use Rattle.fab_replay.specs.Replays.{IsReady};
 ghost use Rattle.fab_rights.specs.declared.rights.Rights.{Rights as AnyRights};
@@ -21,12 +24,15 @@ use fab_base::{NoMemory, Seq};
 use fab_command::Command;
 use fab_core::Core;
 use fab_device::Journals;
-use fab_front::{Accepted, Status, accept, barred_line, mislabelled, named, refused, unknown};
+use fab_front::{
+    Accepted, Status, accept, barred_line, mislabelled, named, refused, unknown, unrobust,
+};
 use fab_listing::{hostile_nodes, nodes_named};
-use fab_replay::{Course, Replayed, Wanted, make_run, view_into};
+use fab_replay::{Course, Replayed, Wanted, first_unkept, make_run, trust_in, view_into};
 use fab_setup::accepted_setup;
 use fab_tree::Start;
 use fab_tree::resolved::Resolved;
+use fab_trusted::Guard;
 use std::alloc::Global;
 
 /// The status and the text of what a run comes to.
@@ -57,21 +63,31 @@ fn set_of(program: &Resolved, command: &Command) -> Option<u64>
             Some(named) => Some(named | hostile_nodes(program)),
             None => None,
         },
+        Command::Trust { nodes } => match nodes_named(program, nodes.as_slice()) {
+            Some(named) => Some(named | hostile_nodes(program)),
+            None => None,
+        },
         _ => Some(0),
     }
 }
 
-/// What a command wants of runs of the bundle: for `view`, what its set sees and what everybody may know.
+/// What a command wants of runs of the bundle: for `view`, what its set sees and what everybody may know; for
+/// `trust`, which labels and classes exclude its set.
 fn wanted_of(alloc: Global, start: &Start, command: &Command, set: u64) -> Result<Wanted, NoMemory>
     requires runs { MakesRuns (Some command.now) }
     requires within { first_passed start.now ≡ Nothing }
     requires right { faults start.now ≡ [] }
     requires set { IsSetOf start.now command.now set }
+    requires robust { KeepsRobust command.now start.now }
     ensures { IfOk result (λ w. Wants start.now command.now w × ((rights : AnyRights) → IsAcceptedWith start.now rights → IsReady (given_of start.now rights) w)) }
 {
     match command {
         Command::View { .. } => match named(alloc, start)? {
             Ok(program) => view_into(alloc, program, set),
+            Err(_) => unreachable!(),
+        },
+        Command::Trust { .. } => match named(alloc, start)? {
+            Ok(program) => trust_in(alloc, &program, set),
             Err(_) => unreachable!(),
         },
         Command::Run(telling) => Ok(Wanted::Run(*telling)),
@@ -96,6 +112,7 @@ fn run_of<C: Course<Core<M::Item>>, M: Journals>(
     requires made { CanMake C.makes (Some command.now) }
     requires course { IsCourse C.makes (C.may course.now) (C.comes course.now) }
     requires set { IsSetOf start.now command.now set }
+    requires robust { KeepsRobust command.now start.now }
     ensures replies { IfOk result (λ r. Answers (Some command.now) text.now r.0 r.1) }
     ensures journals { IfOk result (λ r. AreLeft command.now text.now (M.seen journals.old) (M.seen journals.new) r.0 r.1) }
     ensures cut { OnErr result (IsCut command.now text.now (M.seen journals.old) (M.seen journals.new)) }
@@ -116,7 +133,50 @@ fn run_of<C: Course<Core<M::Item>>, M: Journals>(
     told(alloc, answer)
 }
 
-/// What a command that makes a run, as `replay`, `run` and `view` do, replies to a text with this bundle.
+/// The first declassification of an accepted bundle that isn't robust, where the command asks for robust ones.
+fn unkept(alloc: Global, program: &Resolved, command: &Command) -> Result<Option<Guard>, NoMemory>
+    requires principals { HasPrincipals program.now }
+    requires few { HasFew program.now }
+    requires labelled { IsWellLabelled program.now }
+    ensures { IfOk result (λ found. (s : AnyStart) → program.now ≡ resolved_of s → MatchOption found (KeepsRobust command.now s) (IsUnrobust command.now s)) }
+{
+    match command {
+        Command::Trust { .. } => first_unkept(alloc, program),
+        _ => Ok(None),
+    }
+}
+
+/// What a command that makes a run replies to a text with this bundle, which is accepted, and whose nodes its words
+/// name.
+fn accepted<C: Course<Core<M::Item>>, M: Journals>(
+    alloc: Global,
+    course: &C,
+    text: &[u8],
+    start: &Start,
+    command: &Command,
+    program: Resolved,
+    set: u64,
+    journals: &mut M,
+) -> Result<(Status, Seq<u8>), NoMemory>
+    requires front { IsFront text.now (Bundle start.now) }
+    requires accepted { IsAccepted start.now (Whole program) }
+    requires runs { MakesRuns (Some command.now) }
+    requires made { CanMake C.makes (Some command.now) }
+    requires course { IsCourse C.makes (C.may course.now) (C.comes course.now) }
+    requires set { IsSetOf start.now command.now set }
+    ensures replies { IfOk result (λ r. Answers (Some command.now) text.now r.0 r.1) }
+    ensures journals { IfOk result (λ r. AreLeft command.now text.now (M.seen journals.old) (M.seen journals.new) r.0 r.1) }
+    ensures cut { OnErr result (IsCut command.now text.now (M.seen journals.old) (M.seen journals.new)) }
+    ensures later { (M.seen journals.old).faults ≤ (M.seen journals.new).faults }
+    ensures told { (M.seen journals.new).may_fail ≡ (M.seen journals.old).may_fail }
+{
+    match unkept(alloc, &program, command)? {
+        Some(guard) => { unrobust(alloc, &program, guard.at, guard.source, guard.principal) }
+        None => run_of(alloc, course, text, start, command, program, set, journals),
+    }
+}
+
+/// What a command that makes a run, as `replay`, `run`, `view` and `trust` do, replies to a text with this bundle.
 pub(crate) fn replayed<C: Course<Core<M::Item>>, M: Journals>(
     alloc: Global,
     course: &C,
@@ -137,7 +197,7 @@ pub(crate) fn replayed<C: Course<Core<M::Item>>, M: Journals>(
 {
     match accept(alloc, start)? {
         Accepted::Bundle(program) => match set_of(&program, command) {
-            Some(set) => run_of(alloc, course, text, start, command, program, set, journals),
+            Some(set) => accepted(alloc, course, text, start, command, program, set, journals),
             None => unknown(alloc, text),
         },
         Accepted::Misnamed(fault) => refused(alloc, fault),

@@ -1,5 +1,5 @@
 //! The reply to what is asked.
-ghost use Rattle.std.specs.Prelude.{◌≡◌, ◌≢◌, ◌⊎◌, ◌≤◌, List, ℕ, [], Some, None as Nothing, codes, IfOk, IfSome, IsErrOf, OnErr};
+ghost use Rattle.std.specs.Prelude.{◌≡◌, ◌≢◌, ◌⊎◌, ◌↔◌, ◌≤◌, IsTrue, List, ℕ, [], Some, None as Nothing, codes, IfOk, IfSome, IsErrOf, OnErr};
 ghost use Rattle.std.specs.Io.KnownBytes.{Keeps, IsAtEnd};
 ghost use Rattle.fab_base.specs.Faults.{Rose};
 ghost use Rattle.fab_reply.specs.Headline.{Headline, IsPartFor, IsWholeFor};
@@ -8,6 +8,7 @@ ghost use Rattle.fab_reply.specs.Reply.{Answers, AreCut, ComesTo, Ends, IsCut, I
 ghost use Rattle.fab_replay.specs.Courses.{IsCourse};
 ghost use Rattle.fab_front.specs.Reading.{TakesAtMost};
 ghost use Rattle.fab_answers.specs.Says.{MakesRuns};
+ghost use Rattle.fab_command.specs.declared.command.Command.TheVariants.{Infer};
 ghost use Rattle.fab_reply.specs.Replays.{CanMake};
 ghost use Rattle.fab_front.specs.declared.reading.ReadError.TheVariants.{Fault, Memory as Wanting};
 ghost use Rattle.fab_front.specs.declared.status.Status.{Status as AnyStatus};
@@ -20,8 +21,16 @@ use fab_command::Command;
 use fab_core::Core;
 use fab_device::Journals;
 use fab_front::{ReadError, Status, read_all, usage, write_all};
+use fab_inferred::inferred;
 use fab_replay::Course;
 use std::alloc::Global;
+
+/// Whether a command fills holes, and makes no run.
+fn fills_holes(command: &Command) -> bool
+    ensures { IsTrue result ↔ (command.now ≡ Infer) }
+{
+    matches!(command, Command::Infer)
+}
 
 /// What a command replies to a text.
 pub(crate) fn replied<C: Course<Core<M::Item>>, M: Journals>(
@@ -42,7 +51,13 @@ pub(crate) fn replied<C: Course<Core<M::Item>>, M: Journals>(
 {
     match said_of(alloc, command, text)? {
         Said::Reply { status, reply } => Ok((status, reply)),
-        Said::OfRuns(start) => replayed(alloc, course, text, &start, command, journals),
+        Said::Bundle(start) => {
+            if fills_holes(command) {
+                inferred(alloc, text, start)
+            } else {
+                replayed(alloc, course, text, &start, command, journals)
+            }
+        }
     }
 }
 
@@ -123,9 +138,10 @@ fn run<C: Course<Core<M::Item>>, S: Source, K: Sink, M: Journals>(
 /// `check` asks whether the bundle that the source has keeps the rules of labels, `eval` for its
 /// evaluation, `flows A B` whether its label A
 /// flows to its label B, with the reasons, `fmt` for its canonical text, `replay` for the report of its
-/// schedule's run, `run` for that, or the summary, of a run that its nodes make by themselves, and `view NODE ..` for what was
-/// sent in the schedule's run into the set of these nodes and the hostile ones, by those outside it. A text has
-/// at most 4,194,304 bytes. Of what the source has left, what the sink holds and which journals were kept, the
+/// schedule's run, `run` for that, or the summary, of a run that its nodes make by themselves, `view NODE ..` for what was
+/// sent in the schedule's run into the set of these nodes and the hostile ones, by those outside it, `trust NODE ..`
+/// for its trusted replay without that set, and `infer` for the canonical text with the least labels for the bundle's
+/// holes. A text has at most 4,194,304 bytes. Of what the source has left, what the sink holds and which journals were kept, the
 /// clauses speak where these tell it.
 pub fn answer<C: Course<Core<M::Item>>, S: Source, K: Sink, M: Journals>(
     alloc: Global,
@@ -179,13 +195,13 @@ pub fn answer<C: Course<Core<M::Item>>, S: Source, K: Sink, M: Journals>(
     ensures sink_unfailed { result ≢ WriteFault → K.faults sink.new ≡ K.faults sink.old }
 
     // With `Ok` of a command that makes a run, and where a journal failed in its run, the text that it wants of that
-    // run was written, for `replay` the report and for `run` what it tells, and the headline holds of the run, integrity and isolation.
+    // run was written, for `replay` the report and for `run` what it tells, and the headline holds of the run, integrity, trusted replay and isolation.
     // Where a journal failed before there was a run, nothing was written.
     ensures headline { MakesRuns asked → result ≡ Done → Headline asked (IsWholeFor asked) (S.left source.old) (S.left source.new) (K.written sink.old) (K.written sink.new) }
     ensures headline_of_a_part { (node : ℕ) → result ≡ JournalFault node
         → Keeps (K.written sink.old) (K.written sink.new) ⊎ Headline asked (IsPartFor asked node) (S.left source.old) (S.left source.new) (K.written sink.old) (K.written sink.new) }
 
-    // `JournalFault` comes of `replay`, `run` and `view` alone, and only these make journals and have them kept. What was
+    // `JournalFault` comes of `replay`, `run`, `view` and `trust` alone, and only these make journals and have them kept. What was
     // kept, and which faults there were, says `means`. With each other status no journal's making failed.
     ensures journal_fault { (node : ℕ) → result ≡ JournalFault node → MakesRuns asked }
     ensures journals_unfailed { (IsJournalFault result → ⊥) → (M.seen journals.new).faults ≡ (M.seen journals.old).faults }

@@ -8,4 +8,4 @@ mod laws;
 
 pub use at_hand::answer_text;
 pub use command::answer;
-pub use laws::{calls_are_isolated_alike, written_reports_are_read_back};
+pub use laws::{calls_are_isolated_alike, trust_shows_what_is_held, written_reports_are_read_back};

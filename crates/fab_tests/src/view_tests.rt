@@ -1,5 +1,6 @@
-//! Views that can't be written whole, or whose run a journal's fault ends.
+//! Views and trusted replays that can't be written whole, or whose run a journal's fault ends.
 
+use crate::replay_tests::{COUNT, TRANSFER, events_between};
 use crate::tests::{expect_fronts, words_of};
 use fab_base::{NoMemory, Seq, SureSink, SureSource, Text};
 use fab_device::MemJournals;
@@ -65,5 +66,38 @@ fn views_in_part(rt: HostRuntime) -> Result<(), Fail> {
     let [fetch, prepare, commit] = TO_BOX;
     let text = format!(in alloc; "{fetch}{prepare}{commit}end 3\n")?;
     expect_fronts(&rt, alloc, "view h1", PINS, text.as_str())?;
+    Ok(())
+}
+
+/// The accounts of the transfer before it is decided, and behind.
+const UNDECIDED: &str = "robust\nobject s1 a Account 100\nobject s1 b Account 0\nend 2\n";
+
+const DECIDED: &str = "robust\nobject s1 a Account 95\nobject s1 b Account 5\nend 2\n";
+
+/// A commit whose record is cut is none; one that a store can't write down any more was decided before.
+#[test]
+fn trust_to_a_fault(rt: HostRuntime) -> Result<(), Fail> {
+    let alloc = rt.alloc();
+    let schedule = events_between(alloc, 0, COUNT)?;
+    let bundle = format!(in alloc; "{TRANSFER}{schedule}}}}}")?;
+    for (node, call, text) in [("w1", 2, ""), ("w1", 4, UNDECIDED), ("s1", 6, DECIDED)] {
+        let words = words_of(alloc, "trust")?;
+        let mut source = SureSource::new(Seq::from_slice(alloc, bundle.as_str().as_bytes())?);
+        let mut sink = SureSink::new(alloc)?;
+        let mut fails = Seq::new(alloc);
+        fails.push((Text::make(alloc, node)?, call))?;
+        let mut journals = MemJournals::with_fails(alloc, fails)?;
+        let found = fab(
+            &rt,
+            alloc,
+            &words,
+            &mut source,
+            &mut sink,
+            &mut journals,
+            &OpenGate,
+        );
+        assert_eq!(&rt; found.number(), 10, "{node} {call}");
+        assert_eq!(&rt; sink.bytes(), text.as_bytes(), "{node} {call}");
+    }
     Ok(())
 }

@@ -34,8 +34,9 @@ use std::thread::Threads;
 ///
 /// `check` asks whether the bundle that the source has keeps the rules of labels, `eval` for its
 /// evaluation, `flows A B` whether its label A flows to its label B, with the reasons, `fmt` for its
-/// canonical text, `replay` for the report of its schedule's run, and `view NODE ..` for what was sent in
-/// that run into the set of these nodes and the hostile ones, by those outside it. A text has at most
+/// canonical text, `infer` for its canonical text with the least labels for its holes, `replay` for the report of
+/// its schedule's run, `view NODE ..` for what was sent in that run into the set of these nodes and the hostile
+/// ones, by those outside it, and `trust NODE ..` for its trusted replay without that set. A text has at most
 /// 4,194,304 bytes. `gen N SIZE` reads nothing, and asks for the text of the bundle that is made up from
 /// these numbers. Of what the source has left, what the sink holds and which journals were kept, the clauses speak
 /// where these tell it.
@@ -87,13 +88,13 @@ pub fn plain<S: Source, K: Sink, M: Journals>(
     ensures sink_unfailed { result ≢ WriteFault → K.faults sink.new ≡ K.faults sink.old }
 
     // With `Ok` of a command that makes a run, and where a journal failed in its run, the text that it wants of that
-    // run was written, for `replay` the report, and the headline holds of the run, integrity and isolation.
+    // run was written, for `replay` the report, and the headline holds of the run, integrity, trusted replay and isolation.
     // Where a journal failed before there was a run, nothing was written.
     ensures headline { MakesRuns (command_in (asked_by words.now)) → result ≡ Done → Headline (command_in (asked_by words.now)) (IsWholeFor (command_in (asked_by words.now))) (input_of (asked_by words.now) (S.left source.old)) (rest_of (asked_by words.now) (S.left source.new)) (K.written sink.old) (K.written sink.new) }
     ensures headline_of_a_part { (node : ℕ) → result ≡ JournalFault node
         → Keeps (K.written sink.old) (K.written sink.new) ⊎ Headline (command_in (asked_by words.now)) (IsPartFor (command_in (asked_by words.now)) node) (input_of (asked_by words.now) (S.left source.old)) (rest_of (asked_by words.now) (S.left source.new)) (K.written sink.old) (K.written sink.new) }
 
-    // `JournalFault` comes of `replay` and `view` alone, and only these make journals and have them kept. What was
+    // `JournalFault` comes of `replay`, `view` and `trust` alone, and only these make journals and have them kept. What was
     // kept, and which faults there were, says `means`. With each other status no journal's making failed.
     ensures journal_fault { (node : ℕ) → result ≡ JournalFault node → MakesRuns (command_in (asked_by words.now)) }
     ensures journals_unfailed { (IsJournalFault result → ⊥) → (M.seen journals.new).faults ≡ (M.seen journals.old).faults }
@@ -169,13 +170,13 @@ pub fn fab<R: Threads + Wait + Sync, S: Source, K: Sink, M: Journals, G: Gate + 
     ensures sink_unfailed { result ≢ WriteFault → K.faults sink.new ≡ K.faults sink.old }
 
     // With `Ok` of a command that makes a run, and where a journal failed in its run, the text that it wants of that
-    // run was written, for `replay` and `run` the report and for `drill` the summary, and the headline holds of the run, integrity and isolation.
+    // run was written, for `replay` and `run` the report and for `drill` the summary, and the headline holds of the run, integrity, trusted replay and isolation.
     // Where a journal failed before there was a run, nothing was written.
     ensures headline { MakesRuns (command_in (asked_by words.now)) → result ≡ Done → Headline (command_in (asked_by words.now)) (IsWholeFor (command_in (asked_by words.now))) (input_of (asked_by words.now) (S.left source.old)) (rest_of (asked_by words.now) (S.left source.new)) (K.written sink.old) (K.written sink.new) }
     ensures headline_of_a_part { (node : ℕ) → result ≡ JournalFault node
         → Keeps (K.written sink.old) (K.written sink.new) ⊎ Headline (command_in (asked_by words.now)) (IsPartFor (command_in (asked_by words.now)) node) (input_of (asked_by words.now) (S.left source.old)) (rest_of (asked_by words.now) (S.left source.new)) (K.written sink.old) (K.written sink.new) }
 
-    // `JournalFault` comes of `replay`, `run`, `drill` and `view` alone, and only these make journals and have them kept. What was
+    // `JournalFault` comes of `replay`, `run`, `drill`, `view` and `trust` alone, and only these make journals and have them kept. What was
     // kept, and which faults there were, says `means`. With each other status no journal's making failed.
     ensures journal_fault { (node : ℕ) → result ≡ JournalFault node → MakesRuns (command_in (asked_by words.now)) }
     ensures journals_unfailed { (IsJournalFault result → ⊥) → (M.seen journals.new).faults ≡ (M.seen journals.old).faults }

@@ -1,5 +1,5 @@
--- Trusted replay: what commits make of the objects that some nodes can't have influenced, from these objects and the endorsed
--- values alone.
+-- Trusted replay: what commits make of the objects of classes that exclude some nodes, from these objects, the requests and the
+-- endorsed values.
 --
 -- It is serial replay with the erased meaning: who can't have influenced a label stands where who sees one stood. No answer
 -- enters it. A request whose begin label isn't trusted does nothing.

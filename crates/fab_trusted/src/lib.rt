@@ -1,5 +1,5 @@
-//! Trusted replay: what commits make of the objects that some nodes can't have influenced, from these
-//! objects and endorsed values alone; and robust declassifications. Definitions and laws.
+//! Trusted replay: what commits make of the objects of classes that exclude some nodes, from these objects,
+//! the requests and endorsed values, without answers; and robust declassifications. Definitions and laws.
 #![tactic(auto)]
 
 mod laws;

@@ -8,7 +8,7 @@ use Rattle.clap.specs.Words.{Text, matches_of, takes}
 use Rattle.clap.proofs.WalkLemmas.{list_any-map}
 use Rattle.fab_asked.specs.Names.{is_name_word}
 use Rattle.fab_asked.specs.Numbers.{number_of, numbers_of, paired}
-use Rattle.fab_asked.specs.Words.{asked, asked_by, begins_with_dash, command_among, command_asked, command_of, command_with, view_of}
+use Rattle.fab_asked.specs.Words.{asked, asked_by, begins_with_dash, command_among, command_asked, command_of, command_with, trust_of, view_of}
 use Rattle.fab_words.specs.Line.{asked_in, command_line}
 use Rattle.fab_asked.proofs.Decimals.{dashed_number}
 use Rattle.fab_words.proofs.Taken.{found_rows, rows_for, words_taken}
@@ -76,7 +76,10 @@ not_all_names (w ∷ ws) e = elim (either (begins_with_dash w) (list_any begins_
 no_view : (words : List Text) → list_any begins_with_dash words ≡ true → view_of words ≡ None
 no_view words e = rw (no_second (nat_le (length words) 32) (list_all is_name_word words) (not_all_names words e)) refl
 
--- where the command's word is `view`, the dash is behind it
+no_trust : (words : List Text) → list_any begins_with_dash words ≡ true → trust_of words ≡ None
+no_trust words e = rw (no_second (nat_le (length words) 32) (list_all is_name_word words) (not_all_names words e)) refl
+
+-- where the command's word is `view` or `trust`, the dash is behind it
 behind_view : (word : Text) (operands : List Text) → bytes_eq word (codes "view") ≡ true → list_any begins_with_dash (word ∷ operands) ≡ true → list_any begins_with_dash operands ≡ true
 behind_view [] operands v e = e
 behind_view (b ∷ bs) operands v e = elim (cases_Bool (b == 45)) [
@@ -84,10 +87,20 @@ behind_view (b ∷ bs) operands v e = elim (cases_Bool (b == 45)) [
   | inr other ↦ rw other at e
 ]
 
+behind_trust : (word : Text) (operands : List Text) → bytes_eq word (codes "trust") ≡ true → list_any begins_with_dash (word ∷ operands) ≡ true → list_any begins_with_dash operands ≡ true
+behind_trust [] operands v e = e
+behind_trust (b ∷ bs) operands v e = elim (cases_Bool (b == 45)) [
+  | inl dash ↦ absurd (let no : bytes_eq (45 ∷ bs) (codes "trust") ≡ true = subst (λ x. bytes_eq (x ∷ bs) (codes "trust") ≡ true) (eqb-true b 45 dash) v in cc)
+  | inr other ↦ rw other at e
+]
+
 no_command_asked : (word : Text) (operands : List Text) → list_any begins_with_dash (word ∷ operands) ≡ true → command_asked word operands ≡ None
 no_command_asked word operands e = elim (cases_Bool (bytes_eq word (codes "view"))) [
   | inl view ↦ rw view (no_view operands (behind_view word operands view e))
-  | inr other ↦ rw other (not_among word operands e)
+  | inr other ↦ elim (cases_Bool (bytes_eq word (codes "trust"))) [
+    | inl trust ↦ rw (other, trust) (no_trust operands (behind_trust word operands trust e))
+    | inr last ↦ rw (other, last) (not_among word operands e)
+  ]
 ]
 
 -- one of the words is no number

@@ -14,7 +14,7 @@ returns-clause-answer g c =
     c.requires.marked (c.deref-2.ensures ∙ c.in_ok-program.ensures.cases ∙ c.start-2.ensures)
     (c.as_slice.ensures ∙ c.in_ok-nodes.ensures ∙ honest_alike core.given c.deref.result.now c.rights.result.now (c.deref.ensures ∙ c.start.ensures) c.rights.ensures) c.into_journals.ensures
     c.args.wanted.now c.args.answer (M.seen c.args.journals.now) (M.seen c.keep_all.new.journals) c.is_a_run.ensures.run c.requires.answer.told
-    c.requires.sure c.is_integral.ensures c.is_isolated.ensures c.in_ok-keep_all.ensures.kept
+    c.requires.sure c.is_integral.ensures c.is_isolated.ensures c.is_trusted.ensures c.in_ok-keep_all.ensures.kept
 
 pub returns-clause-possible : goal.returns-clause-possible
 returns-clause-possible g c =

@@ -1,5 +1,5 @@
 use Rattle.fab_replay.proofs.Viewing.{if_ok_weaker}
-use Rattle.fab_reply.proofs.Watching.{can_be_seen, ready_view}
+use Rattle.fab_reply.proofs.Watching.{can_be_seen, ready_trust, ready_view}
 use Rattle.fab_reply.proofs.answers.wanted_of.Goals as goal
 
 pub view_into-requires : goal.view_into-requires
@@ -11,3 +11,14 @@ pub returns-in-Ok : goal.returns-in-Ok
 returns-in-Ok c =
     let p = rw c.in-Ok.is at c.in_ok-program-in-View.ensures in
     if_ok_weaker c.view_into.result (λ w v. ready_view c.args.start.now c.args.command.now _ c.args.set c.in-Ok.program w p.1 c.in-View.is c.requires.set v) c.view_into.ensures
+
+pub trust_in-requires : goal.trust_in-requires
+trust_in-requires c =
+    let p = rw c.in-Ok-2.is at c.in_ok-program-in-Trust.ensures in
+    can_be_seen c.args.start.now c.in-Ok-2.program c.requires.within c.requires.right p.1
+
+pub returns-in-Ok-2 : goal.returns-in-Ok-2
+returns-in-Ok-2 c =
+    let p = rw c.in-Ok-2.is at c.in_ok-program-in-Trust.ensures in
+    let robust = rw c.in-Trust.is at c.requires.robust in
+    if_ok_weaker c.trust_in.result (λ w v. ready_trust c.args.start.now c.args.command.now _ c.args.set c.in-Ok-2.program w p.1 c.in-Trust.is c.requires.set robust v) c.trust_in.ensures

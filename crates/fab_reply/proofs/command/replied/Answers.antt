@@ -1,7 +1,8 @@
+use Rattle.std.proofs.Common.{sym, ◌∙◌, true≢false}
 use Rattle.fab_reply.specs.Reply.{one_reply}
 use Rattle.fab_device.specs.Kept.{Makers}
 use Rattle.fab_reply.proofs.Replying.{said_reply}
-use Rattle.fab_reply.proofs.Saying.{all_left, is_left}
+use Rattle.fab_reply.proofs.Saying.{all_left, answered_infer, is_left, runs_else}
 use Rattle.fab_reply.proofs.command.replied.Goals as goal
 
 pub returns-in-Reply-clause-replies : goal.returns-in-Reply-clause-replies
@@ -11,18 +12,29 @@ pub returns-in-Reply-clause-journals : goal.returns-in-Reply-clause-journals
 returns-in-Reply-clause-journals g c = let p = rw c.in-Reply.is at c.in_ok-status.ensures in is_left _ p.is
 
 pub replayed-requires-clause-front : goal.replayed-requires-clause-front
-replayed-requires-clause-front g c κs bounds = let p = rw c.in-OfRuns.is at c.in_ok-status.ensures in p.1
+replayed-requires-clause-front g c κs bounds = let p = rw c.in-Bundle.is at c.in_ok-status.ensures in p.1
 
 pub replayed-requires-clause-runs : goal.replayed-requires-clause-runs
-replayed-requires-clause-runs g c κs bounds = let p = rw c.in-OfRuns.is at c.in_ok-status.ensures in p.0
+replayed-requires-clause-runs g c κs bounds =
+    let p = rw c.in-Bundle.is at c.in_ok-status.ensures in
+    runs_else c.args.command.now p.0 (λ is. true≢false (sym (c.fills_holes.ensures.1 is) ∙ c.if-fills_holes.false))
 
-pub returns-in-OfRuns-clause-journals : goal.returns-in-OfRuns-clause-journals
-returns-in-OfRuns-clause-journals g c =
+pub returns-then-fills_holes-clause-replies : goal.returns-then-fills_holes-clause-replies
+returns-then-fills_holes-clause-replies g c =
+    let p = rw c.in-Bundle.is at c.in_ok-status.ensures in
+    let is = c.fills_holes.ensures.0 c.if-fills_holes.true in
+    answered_infer c.args.command.now c.args.text.now c.in-Bundle.start c.inferred.result is p.1 c.inferred.ensures
+
+pub returns-else-fills_holes-clause-journals : goal.returns-else-fills_holes-clause-journals
+returns-else-fills_holes-clause-journals g c =
     let J = g.M.Journals in
-    let p = rw c.in-OfRuns.is at c.in_ok-status.ensures in
+    let p = rw c.in-Bundle.is at c.in_ok-status.ensures in
     let old : Makers = J.seen c.args.journals.now in
     let new : Makers = J.seen c.replayed.new.journals in
-    all_left c.args.command.now c.args.text.now old new c.replayed.result p.0 c.replayed.ensures.journals
+    let runs = runs_else c.args.command.now p.0 (λ is. true≢false (sym (c.fills_holes.ensures.1 is) ∙ c.if-fills_holes.false)) in
+    all_left c.args.command.now c.args.text.now old new c.replayed.result runs c.replayed.ensures.journals
 
-pub returns-in-OfRuns-clause-untouched : goal.returns-in-OfRuns-clause-untouched
-returns-in-OfRuns-clause-untouched g c none = let p = rw c.in-OfRuns.is at c.in_ok-status.ensures in absurd (none p.0)
+pub returns-else-fills_holes-clause-untouched : goal.returns-else-fills_holes-clause-untouched
+returns-else-fills_holes-clause-untouched g c none =
+    let p = rw c.in-Bundle.is at c.in_ok-status.ensures in
+    absurd (none (runs_else c.args.command.now p.0 (λ is. true≢false (sym (c.fills_holes.ensures.1 is) ∙ c.if-fills_holes.false))))

@@ -2,7 +2,7 @@ use Rattle.std.proofs.Common.{◌≡◌, ℕ, not, ◌&&◌, ◌==◌, ap, ◌�
 use Rattle.std.specs.List.{list_any}
 use Rattle.fab_erasure.specs.Agreement.{Downgrading, in_view}
 use Rattle.fab_rights.specs.Computed.{has_bit}
-use Rattle.fab_record.specs.Numbers.{is_listed}
+use Rattle.fab_sets.specs.Numbers.{is_listed}
 use Rattle.fab_record.specs.Views.{crossing_sites}
 use Rattle.fab_record.proofs.Hiding.{crossing_are, hidden_are}
 use Rattle.fab_record.proofs.sights.Sights.make.Goals as goal

@@ -1,0 +1,14 @@
+pub mod Answered
+pub mod Few
+pub mod Fills
+pub mod Flowing
+pub mod Holding
+pub mod HoldingPlaces
+pub mod Kept
+pub mod Limited
+pub mod Near
+pub mod Passing
+pub mod Ruled
+pub mod Subsets
+pub mod Tabled
+pub mod Turns

@@ -1,0 +1,4 @@
+pub mod Fill
+pub mod Masks
+pub mod Shown
+pub mod Small

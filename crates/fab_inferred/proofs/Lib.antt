@@ -1,0 +1,2 @@
+pub mod Holed
+pub mod Inferring
