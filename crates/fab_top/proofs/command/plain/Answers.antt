@@ -1,4 +1,4 @@
-use Rattle.std.proofs.Common.{◌≡◌, ◌⊎◌, Option, subst, sym}
+use Rattle.std.proofs.Common.{◌≡◌, ◌≢◌, ◌⊎◌, IfSome, List, ℕ, Option, subst, sym}
 use Rattle.fab_device.specs.Kept.{Makers}
 use Rattle.std.proofs.lemmas.Bool.{false≢true}
 use Rattle.std.specs.Io.KnownBytes.{Keeps}
@@ -6,13 +6,24 @@ use Rattle.fab_command.specs.declared.task.Task.{Task}
 use Rattle.fab_gen.specs.Generated.{generated_text}
 use Rattle.fab_replay.specs.Replays.{is_scheduled}
 use Rattle.fab_reply.specs.Replays.{CanMake}
-use Rattle.fab_reply.specs.Reply.{AreCut, RepliesInPart}
-use Rattle.fab_front.specs.declared.status.Status.TheVariants.{Memory}
+use Rattle.fab_reply.specs.Reply.{AreCut, ComesTo, Replies, RepliesInPart}
+use Rattle.fab_front.specs.declared.status.Status.{Status}
+use Rattle.fab_front.specs.declared.status.Status.TheVariants.{Memory, ReadFault}
 use Rattle.fab_top.specs.Tasks.{IsReplied, command_in, input_of, rest_of}
 use Rattle.fab_asked.specs.Words.{asked_by}
 use Rattle.fab_reply.proofs.Wishes.{by_hand}
 use Rattle.fab_top.proofs.Fronts.{none_written}
 use Rattle.fab_top.proofs.command.plain.Goals as goal
+
+pub returns-in-Ok-clause-exact : goal.returns-in-Ok-clause-exact
+returns-in-Ok-clause-exact g c =
+    let l = g.S.Source.left c.args.source.now in
+    let w = g.K.Sink.written c.args.sink.now in
+    let w' = g.K.Sink.written c.done.new.sink in
+    subst
+    (λ (task : Option Task). IsReplied task → c.done.result ≢ ReadFault
+    → IfSome (input_of task l) (λ text. (status : Status) (reply : List ℕ) → Replies (command_in task) text status reply → ComesTo c.done.result status w w' reply))
+    c.in-Ok.ensures.asked c.done.ensures.exact
 
 pub returns-in-Ok-clause-memory : goal.returns-in-Ok-clause-memory
 returns-in-Ok-clause-memory g c =
