@@ -1,4 +1,4 @@
-"""Rows of trusted replay: after each event it gives what the report of the run has, but for versions, of the classes that it keeps."""
+"""Rows of trusted replay: after each event it gives what the report of the run has, but for versions, of the classes that it keeps; and the reports beside."""
 
 # Which classes each set can't have influenced.
 KEPT = {"": ("Mine", "Yours", "Free"), " b": ("Mine",), " a": ("Yours",)}
@@ -26,3 +26,8 @@ def rows(fill):
                     return output.decode() == "\n".join(["robust", *found, f"end {len(found)}", ""])
 
                 yield f"{count} events, {crashed or 'all up'}, trust{nodes}", [("replay", text, 0, replayed), ("trust" + nodes, text, 0, trusted)]
+
+    # what a hostile store answered stands in a box that nobody trusts, where it isn't endorsed
+    for answer in ("09", "04"):
+        line = f"object s1 c Box 2 {int(answer)}"
+        yield f"answer {answer}", [("replay", fill("[UNENDORSED]", ANSWER=answer), 0, lambda report, line=line: line in report.decode().splitlines())]
