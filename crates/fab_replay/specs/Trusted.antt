@@ -26,13 +26,15 @@ abbrev pub trusted_in : GivenModel → (ℕ → Bool) → (ℕ → Bool) → Lis
 trusted_in g trusts keeps moves =
     trusted_replay trusts keeps g.program (commits_at (setting g) moves) (endorsed trusts keeps g.program (commits_at (setting g) moves))
 
--- What the others hold of these classes is that, and it is the same without the commits of the mask's own workers. Each commit ends in it; where the program is robust, it downgrades at the sites that declassify
--- with the authority of a principal for whom no node of the mask acts what its attempt did.
+-- What the others hold of these classes is that, and it is the same without the commits of the mask's own workers. Each commit ends in it; where the
+-- program is robust, it downgrades at the sites that declassify with the authority of a principal for whom no node of the mask acts what its attempt did.
 pub record AreTrusted (g : GivenModel) (moves : List Move) (nodes : ℕ) (trusts keeps : ℕ → Bool) : Type 0 where
   pub held : held_map (setting g) (has_bit nodes) keeps (world_by g moves) ≡ trusted_in g trusts keeps moves
   pub outside : held_map (setting g) (has_bit nodes) keeps (world_by g moves)
-      ≡ trusted_replay trusts keeps g.program (commits_in (setting g) (has_bit nodes) moves) (endorsed trusts keeps g.program (commits_in (setting g) (has_bit nodes) moves))
-  pub followed : AreFollowed trusts keeps g.program (λ site. IsRobust g.program × IsGuarded g.program nodes site) (within keeps (setting g).roots) (commits_at (setting g) moves)
+      ≡ trusted_replay trusts keeps g.program (commits_in (setting g) (has_bit nodes) moves)
+      (endorsed trusts keeps g.program (commits_in (setting g) (has_bit nodes) moves))
+  pub followed : AreFollowed trusts keeps g.program (λ site. IsRobust g.program × IsGuarded g.program nodes site)
+      (within keeps (setting g).roots) (commits_at (setting g) moves)
 
 abbrev pub IsTrusted : GivenModel → List Move → Type 0
 IsTrusted g moves = (nodes : ℕ) (trusts keeps : ℕ → Bool) → IsTrusting g nodes trusts keeps → AreTrusted g moves nodes trusts keeps
