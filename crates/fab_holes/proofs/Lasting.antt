@@ -78,7 +78,7 @@ module _ (n : ℕ) where
     each_method (m ∷ ms) h = both_parts n (method_owes classes methods m) (flat_map (method_owes classes methods) ms) (method_flows classes methods m) (flat_map (method_flows classes methods) ms) (one_method m h.0) (each_method ms h.1)
 
   -- flows to declared labels change nothing
-  all_only : (ms : List ℕ) (ps : List (ℕ × ℕ)) → put_all n ms (only n ps) ≡ put_all n ms ps
+  pub all_only : (ms : List ℕ) (ps : List (ℕ × ℕ)) → put_all n ms (only n ps) ≡ put_all n ms ps
   all_only ms [] = refl
   all_only ms (p ∷ ps) = by (nat_lt p.1 n) refl (λ qs. all_only qs ps)
     where

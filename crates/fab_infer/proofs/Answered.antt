@@ -3,6 +3,7 @@ use Rattle.std.proofs.Common.{◌≡◌, ◌↔◌, ℕ, zero, suc, ◌+◌, ◌
 use Rattle.std.specs.Prelude.{IfOk, slice_get}
 use Rattle.std.specs.List.{flat_map}
 use Rattle.std.proofs.lemmas.List.Elements.{All-nil, All-cons, All-head, All-tail}
+use Rattle.fab_base.specs.Principals.{Leads}
 use Rattle.fab_tree.specs.declared.start.Start.{Start}
 use Rattle.fab_tree.specs.declared.resolved.Method.{Method}
 use Rattle.fab_tree.specs.declared.resolved.Resolved.{Resolved}
@@ -12,18 +13,19 @@ use Rattle.fab_labelling.specs.Claims.{IsWellLabelled}
 use Rattle.fab_labelling.specs.Refusals.{IsFirstRefusal}
 use Rattle.fab_authority.specs.Authority.{IsFew, HasFew}
 use Rattle.fab_holes.specs.Chosen.{places_of, put_method, put_methods, with_chosen}
-use Rattle.fab_holes.specs.Flowing.{method_flows}
+use Rattle.fab_holes.specs.Flowing.{all_flows, method_flows, only}
 use Rattle.fab_holes.specs.Holes.{holes, filled, IsNamed}
 use Rattle.fab_holes.specs.Least.{AreLeast, IsChoice, IsLeast, IsSolved, LiesBelow, HasNoLeast, HasNoSolution}
 use Rattle.fab_holes.specs.Open.{opened}
 use Rattle.fab_holes.specs.Passes.{mask_at, put_all, HasNoMore}
 use Rattle.fab_holes.proofs.Conditions.{fine}
-use Rattle.fab_holes.proofs.Lasting.{lasting, pass_sound}
+use Rattle.fab_holes.proofs.Lasting.{all_only, flows_are, lasting}
 use Rattle.fab_holes.proofs.Puts.{chosen_is, places_are}
 use Rattle.fab_holes.proofs.Solving.{is_a_choice, refused, solved}
 use Rattle.fab_infer.specs.declared.error.InferError.{InferError}
 use Rattle.fab_infer.specs.declared.error.InferError.TheVariants.{NoLeast}
 use Rattle.fab_infer.specs.Masks.{AreBelow, IsWithout}
+use Rattle.fab_infer.specs.Spreading.{AreClosed}
 use Rattle.fab_infer.proofs.Holding.{are_below}
 
 -- labels for holes leave the authority of methods
@@ -50,11 +52,11 @@ module _ (s : Start) (named : IsNamed s) where
   is_choice : (choice : List ℕ) → length choice ≡ length (places_of r) → AreLeast r 0 choice → IsChoice s choice
   is_choice choice many least = is_a_choice s choice (long choice many) least
 
-  still_sound : (masks : List ℕ) → HasNoMore r masks → HasNoMore r (put_all (length r.labels) masks (flat_map (method_flows r.classes methods) methods))
-  still_sound masks sound = pass_sound s named masks sound
-
-  all_below : (masks : List ℕ) → length masks ≡ length (places_of r) → HasNoMore r masks → put_all (length r.labels) masks (flat_map (method_flows r.classes methods) methods) ≡ masks → AreBelow r 0 masks
-  all_below masks many sound leaves = are_below r 0 masks (λ i l. let e : i ≡ 0 + i = omega arith in subst (λ (z : ℕ). IsBitSet (mask_at masks i) l ↔ LiesBelow r l z) e (lasting s named masks (long masks many) sound leaves i l))
+  all_below : (masks : List ℕ) → AreClosed (length r.labels) (length (places_of r)) (only (length r.labels) (all_flows (opened r))) masks → AreBelow r 0 masks
+  all_below masks c =
+      let leaves : put_all (length r.labels) masks (all_flows (opened r)) ≡ masks = sym (all_only (length r.labels) masks (all_flows (opened r))) ∙ c.closed in
+      let sound : HasNoMore r masks = subst (λ (ps : List (ℕ × ℕ)). (h l : ℕ) → IsBitSet (mask_at masks h) l → (l < length r.labels) × ((way : List ℕ) × Leads ps l way (length r.labels + h))) (sym (flows_are s named)) c.led in
+      are_below r 0 masks (λ i l. let e : i ≡ 0 + i = omega arith in subst (λ (z : ℕ). IsBitSet (mask_at masks i) l ↔ LiesBelow r l z) e (lasting s named masks (long masks c.many) sound leaves i l))
 
   solved_all : (choice : List ℕ) → length choice ≡ length (places_of r) → AreLeast r 0 choice → IsWellLabelled (with_chosen r choice) → IsSolved s choice
   solved_all choice many least right =
@@ -80,18 +82,13 @@ module _ (s : Start) (named : IsNamed s) where
 -- ---- the same of a bundle that is the numbered one
 
 module _ (s : Start) (given : Resolved) (named : IsNamed s) (is : given ≡ resolved s) where
-  abbrev put_given : List Method → List ℕ → List ℕ
-  put_given ms masks = put_all (length given.labels) masks (flat_map (method_flows given.classes ms) ms)
+  abbrev given_flows : List Method → List (ℕ × ℕ)
+  given_flows ms = only (length given.labels) (flat_map (method_flows given.classes ms) ms)
 
-  pub sound_more : (masks : List ℕ) (ms : List Method) → ms ≡ (opened given).methods → HasNoMore given masks → HasNoMore given (put_given ms masks)
-  sound_more masks ms e sound =
-      subst (λ (z : List Method). HasNoMore given (put_given z masks)) (sym e)
-      (subst (λ (g : Resolved). HasNoMore g masks → HasNoMore g (put_all (length g.labels) masks (flat_map (method_flows g.classes (opened g).methods) (opened g).methods))) (sym is) (still_sound s named masks) sound)
-
-  pub below_all : (masks : List ℕ) (ms : List Method) → ms ≡ (opened given).methods → length masks ≡ length (places_of given) → HasNoMore given masks → put_given ms masks ≡ masks → AreBelow given 0 masks
-  below_all masks ms e many sound leaves =
-      subst (λ (g : Resolved). length masks ≡ length (places_of g) → HasNoMore g masks → put_all (length g.labels) masks (flat_map (method_flows g.classes (opened g).methods) (opened g).methods) ≡ masks → AreBelow g 0 masks) (sym is)
-      (all_below s named masks) many sound (ap (λ (z : List Method). put_given z masks) (sym e) ∙ leaves)
+  pub below_all : (masks : List ℕ) (ms : List Method) → ms ≡ (opened given).methods → AreClosed (length given.labels) (length (places_of given)) (given_flows ms) masks → AreBelow given 0 masks
+  below_all masks ms e closed =
+      subst (λ (g : Resolved). AreClosed (length g.labels) (length (places_of g)) (only (length g.labels) (flat_map (method_flows g.classes (opened g).methods) (opened g).methods)) masks → AreBelow g 0 masks) (sym is)
+      (all_below s named masks) (subst (λ (z : List Method). AreClosed (length given.labels) (length (places_of given)) (given_flows z) masks) e closed)
 
   pub solved_is : (choice : List ℕ) → length choice ≡ length (places_of given) → AreLeast given 0 choice → IsWellLabelled (with_chosen given choice) → IsSolved s choice
   solved_is choice = subst (λ (g : Resolved). length choice ≡ length (places_of g) → AreLeast g 0 choice → IsWellLabelled (with_chosen g choice) → IsSolved s choice) (sym is) (solved_all s named choice)

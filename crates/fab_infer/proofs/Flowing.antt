@@ -15,11 +15,10 @@ use Rattle.fab_tree.specs.declared.resolved.Local.{Local}
 use Rattle.fab_labelling.specs.Obligations.{label_of_local, parameter_labels, under}
 use Rattle.fab_holes.specs.Flowing as f
 use Rattle.fab_holes.specs.Flowing.{Flowing, all_to, flows_step, method_flows}
-use Rattle.fab_holes.specs.Passes.{put_all}
 use Rattle.fab_authority.proofs.Walks.{front}
 use Rattle.fab_infer.specs.Shown.{assigning, block_flows, call_flows, given_flows, inside_of, labels_of, right_flows, right_labels, statement_flows}
 use Rattle.fab_infer.specs.declared.scope.Scope.{Scope}
-use Rattle.fab_infer.proofs.Passing.{in_parts}
+use Rattle.fab_infer.proofs.Gathering.{in_none, in_parts, with_flows}
 
 module _ (x : Scope) (pc : List ℕ) where
   by_layer : (t : Statement) (y : s.Statement-F Statement) → t ≡ roll-Statement y
@@ -64,24 +63,24 @@ no_authority classes methods m = refl
 
 -- ---- values that are given in turn
 
-module _ (x : Scope) (pc : List ℕ) (ms : List ℕ) where
-  pub given_none : (whole : List ℕ) (es : List Expression) (to : List ℕ) → length to ≡ 0 → put_all x.count ms (given_flows x pc es to) ≡ whole → ms ≡ whole
-  given_none whole [] to empty so_far = so_far
-  given_none whole (e ∷ es) [] empty so_far = so_far
+module _ (x : Scope) (pc : List ℕ) (out : List (ℕ × ℕ)) where
+  pub given_none : (whole : List (ℕ × ℕ)) (es : List Expression) (to : List ℕ) → length to ≡ 0 → with_flows x.count out (given_flows x pc es to) ≡ whole → out ≡ whole
+  given_none whole [] to empty so_far = sym (in_none x.count out) ∙ so_far
+  given_none whole (e ∷ es) [] empty so_far = sym (in_none x.count out) ∙ so_far
   given_none whole (e ∷ es) (l ∷ ls) empty so_far = absurd (omega (arith, empty))
 
-  pub given_more : (more whole : List ℕ) (es : List Expression) (i : ℕ) (e : Expression) → i < length es → e ≡ get_or es i e → (l : ℕ) (to after : List ℕ) → to ≡ l ∷ after
-      → more ≡ put_all x.count ms (all_to (pc ++ labels_of x.names e) l) → put_all x.count ms (given_flows x pc (drop i es) to) ≡ whole → put_all x.count more (given_flows x pc (drop (i + 1) es) after) ≡ whole
+  pub given_more : (more whole : List (ℕ × ℕ)) (es : List Expression) (i : ℕ) (e : Expression) → i < length es → e ≡ get_or es i e → (l : ℕ) (to after : List ℕ) → to ≡ l ∷ after
+      → more ≡ with_flows x.count out (all_to (pc ++ labels_of x.names e) l) → with_flows x.count out (given_flows x pc (drop i es) to) ≡ whole → with_flows x.count more (given_flows x pc (drop (i + 1) es) after) ≡ whole
   given_more more whole es i e within is l to after is_to next so_far =
       let rest = given_flows x pc (drop (i + 1) es) after in
-      ap (λ (z : List ℕ). put_all x.count z rest) next
-      ∙ sym (in_parts x.count ms (all_to (pc ++ labels_of x.names e) l) rest)
-      ∙ ap (λ (ys : List Expression). put_all x.count ms (given_flows x pc ys (l ∷ after))) (sym (front es i e within is))
-      ∙ ap (λ (ls : List ℕ). put_all x.count ms (given_flows x pc (drop i es) ls)) (sym is_to)
+      ap (λ (z : List (ℕ × ℕ)). with_flows x.count z rest) next
+      ∙ sym (in_parts x.count out (all_to (pc ++ labels_of x.names e) l) rest)
+      ∙ ap (λ (ys : List Expression). with_flows x.count out (given_flows x pc ys (l ∷ after))) (sym (front es i e within is))
+      ∙ ap (λ (ls : List ℕ). with_flows x.count out (given_flows x pc (drop i es) ls)) (sym is_to)
       ∙ so_far
 
-  pub given_end : (whole : List ℕ) (es : List Expression) (i : ℕ) (to : List ℕ) → length es ≤ i → put_all x.count ms (given_flows x pc (drop i es) to) ≡ whole → ms ≡ whole
-  given_end whole es i to past so_far = ap (λ (ys : List Expression). put_all x.count ms (given_flows x pc ys to)) (sym (empty (drop i es) (simp length-drop (omega arith)))) ∙ so_far
+  pub given_end : (whole : List (ℕ × ℕ)) (es : List Expression) (i : ℕ) (to : List ℕ) → length es ≤ i → with_flows x.count out (given_flows x pc (drop i es) to) ≡ whole → out ≡ whole
+  given_end whole es i to past so_far = sym (in_none x.count out) ∙ ap (λ (ys : List Expression). with_flows x.count out (given_flows x pc ys to)) (sym (empty (drop i es) (simp length-drop (omega arith)))) ∙ so_far
     where
       empty : (ys : List Expression) → length ys ≡ 0 → ys ≡ []
       empty [] e = refl

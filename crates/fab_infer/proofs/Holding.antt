@@ -1,19 +1,18 @@
 -- Holes, their places and the masks of what lies below them.
-use Rattle.std.proofs.Common.{◌≡◌, ◌↔◌, ℕ, zero, suc, ◌+◌, ◌-◌, ◌^◌, ◌<◌, ◌≤◌, nat_lt, not, Bool, true, false, cond, if◌then◌else◌, List, [], ◌∷◌, map, filter, length, replicate, Some, None, refl, sym, ap, ◌∙◌, subst, arith, IsBitSet, bit_or, get_or}
-use Rattle.std.specs.Prelude.{slice_get, slice_set}
+use Rattle.std.proofs.Common.{◌≡◌, ◌↔◌, ℕ, zero, suc, ◌+◌, ◌<◌, ◌≤◌, ◌==◌, nat_lt, not, Bool, true, false, cond, if◌then◌else◌, List, [], ◌∷◌, map, filter, length, replicate, refl, ap, ◌∙◌, subst, arith, IsBitSet, bit_or, get_or}
+use Rattle.std.specs.Prelude.{slice_set}
 use Rattle.std.specs.List.{flat_map}
 use Rattle.std.proofs.lemmas.List.{length-append}
 use Rattle.fab_tree.specs.declared.resolved.Local.{Local}
 use Rattle.fab_tree.specs.declared.resolved.Method.{Method}
 use Rattle.fab_tree.specs.declared.resolved.Resolved.{Resolved}
 use Rattle.fab_language.specs.MethodNumbers.{in_turn}
-use Rattle.fab_places.proofs.Bits.{none_set}
 use Rattle.fab_holes.specs.Chosen.{places_in, places_of}
 use Rattle.fab_holes.specs.Least.{LiesBelow}
 use Rattle.fab_holes.specs.Open.{with_label, opened, opened_local, opened_method}
-use Rattle.fab_holes.specs.Passes.{mask_at, mask_of, put, with_more, HasNoMore}
-use Rattle.fab_holes.proofs.Choosing.{lt_false}
+use Rattle.fab_holes.specs.Passes.{mask_at, with_more}
 use Rattle.fab_infer.specs.Masks.{AreBelow}
+use Rattle.fab_infer.specs.Spreading.{is_gain}
 
 -- there are as many holes as places of them
 module _ (n : ℕ) where
@@ -40,7 +39,7 @@ module _ (n : ℕ) where
       by next here rest all e f = omega (arith, e, f)
 
 -- no mask has a bit at first
-no_mask : (many h : ℕ) → mask_at (replicate many 0) h ≡ 0
+pub no_mask : (many h : ℕ) → mask_at (replicate many 0) h ≡ 0
 no_mask zero h = refl
 no_mask (suc many) zero = refl
 no_mask (suc many) (suc h) = no_mask many h
@@ -49,22 +48,16 @@ pub long_zeros : (many : ℕ) → length {A = ℕ} (replicate many 0) ≡ many
 long_zeros zero = refl
 long_zeros (suc many) = ap suc (long_zeros many)
 
-pub none_more : (r : Resolved) (many : ℕ) → HasNoMore r (replicate many 0)
-none_more r many h l bit = absurd (none_set l (subst (λ (z : ℕ). IsBitSet z l) (no_mask many h) bit))
+-- the mask of a hole that is there, and of one that isn't
+pub mask_some : (ms : List ℕ) (h m : ℕ) → true ≡ nat_lt h (length ms) → m ≡ get_or ms h m → m ≡ mask_at ms h
+mask_some [] h m inside e = absurd (search (arith, inside))
+mask_some (x ∷ ms) zero m inside e = e
+mask_some (x ∷ ms) (suc h) m inside e = mask_some ms h m (search (arith, inside)) e
 
--- the mask of a hole, where it is looked up
-pub mask_some : (ms : List ℕ) (h m : ℕ) → slice_get ms h ≡ Some m → m ≡ mask_at ms h
-mask_some [] h m e = absurd (cc)
-mask_some (x ∷ xs) zero m e = let same : x ≡ m = cc in sym same
-mask_some (x ∷ xs) (suc h) m e = mask_some xs h m e
-
-pub mask_none : (ms : List ℕ) (h : ℕ) → slice_get ms h ≡ None → 0 ≡ mask_at ms h
-mask_none [] h e = refl
-mask_none (x ∷ xs) zero e = absurd (cc)
-mask_none (x ∷ xs) (suc h) e = mask_none xs h e
-
-pub mask_behind : (n : ℕ) (ms : List ℕ) (l : ℕ) → n ≤ l → mask_at ms (l - n) ≡ mask_of n ms l
-mask_behind n ms l h = sym (ap (λ b. if b then 2 ^ l else mask_at ms (l - n)) (lt_false l n h))
+pub mask_none : (ms : List ℕ) (h : ℕ) → false ≡ nat_lt h (length ms) → 0 ≡ mask_at ms h
+mask_none [] h past = refl
+mask_none (x ∷ ms) zero past = absurd (search (arith, past))
+mask_none (x ∷ ms) (suc h) past = mask_none ms h (search (arith, past))
 
 -- a mask that gains
 pub set_more : (ms : List ℕ) (h more : ℕ) → h < length ms → slice_set ms h (bit_or (get_or ms h 0) more) ≡ with_more ms h more
@@ -77,8 +70,15 @@ set_none [] h more past = refl
 set_none (m ∷ ms) zero more past = absurd (omega (arith, past))
 set_none (m ∷ ms) (suc h) more past = ap (λ l. m ∷ l) (set_none ms h more (omega (arith, past)))
 
-pub put_hole : (n : ℕ) (ms : List ℕ) (from to : ℕ) → n ≤ to → with_more ms (to - n) (mask_of n ms from) ≡ put n ms (from, to)
-put_hole n ms from to h = sym (ap (λ b. if b then ms else with_more ms (to - n) (mask_of n ms from)) (lt_false to n h))
+pub gained : (ms : List ℕ) (h more : ℕ) → h < length ms → not (get_or (slice_set ms h (bit_or (get_or ms h 0) more)) h 0 == get_or ms h 0) ≡ is_gain ms h more
+gained [] h more inside = absurd (omega (arith, inside))
+gained (m ∷ ms) zero more inside = refl
+gained (m ∷ ms) (suc h) more inside = gained ms h more (omega (arith, inside))
+
+pub not_gained : (ms : List ℕ) (h more : ℕ) → length ms ≤ h → false ≡ is_gain ms h more
+not_gained [] h more past = refl
+not_gained (m ∷ ms) zero more past = absurd (omega (arith, past))
+not_gained (m ∷ ms) (suc h) more past = not_gained ms h more (omega (arith, past))
 
 -- masks in turn
 pub are_below : (r : Resolved) (h : ℕ) (masks : List ℕ) → ((i l : ℕ) → IsBitSet (mask_at masks i) l ↔ LiesBelow r l (h + i)) → AreBelow r h masks

@@ -2,13 +2,16 @@ pub mod Answered
 pub mod Few
 pub mod Fills
 pub mod Flowing
+pub mod Gathering
 pub mod Holding
 pub mod HoldingPlaces
 pub mod Kept
 pub mod Limited
 pub mod Near
-pub mod Passing
 pub mod Ruled
+pub mod Settling
 pub mod Subsets
 pub mod Tabled
+pub mod Targets
+pub mod Totals
 pub mod Turns

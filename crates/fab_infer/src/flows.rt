@@ -1,10 +1,8 @@
-//! A pass over what flows to the locals of methods: each hole gains what is known to lie below what
-//! flows to it.
-ghost use Rattle.std.specs.Prelude.{◌≡◌, ◌≤◌, ◌++◌, IfOk, OnOk, option_copied, slice_get};
+//! What flows to the holes of a bundle, gathered in one walk over the bodies of its methods.
+ghost use Rattle.std.specs.Prelude.{◌≡◌, ◌++◌, [], ◌∷◌, IfOk, OnOk, option_copied, slice_get};
 ghost use Rattle.std.specs.List.{flat_map};
 ghost use Rattle.fab_labelling.specs.Obligations.{parameter_labels};
-ghost use Rattle.fab_holes.specs.Flowing.{all_to, method_flows};
-ghost use Rattle.fab_holes.specs.Passes.{mask_of, put, put_all};
+ghost use Rattle.fab_holes.specs.Flowing.{all_to, method_flows, only};
 ghost use Rattle.fab_infer.specs.Shown.{assigning, block_flows, call_flows, given_flows, inside_of, labels_of, returned, right_flows, right_labels, statement_flows};
 
 use crate::labels::{Names, inside, local_at, put_labels};
@@ -14,54 +12,30 @@ use fab_base::{NoMemory, Seq};
 use fab_tree::resolved::{Class, Expression, Right, Statement, Use};
 use std::alloc::Global;
 
-/// The mask of the hole of a number.
-fn mask_at(masks: &[u64], hole: usize) -> Option<u64>
-    ensures { result ≡ slice_get masks.now hole }
-{
-    masks.get(hole).copied()
-}
+/// The number of the label that flows, and of the one to which it flows: first the declared labels, and
+/// behind them the holes.
+pub(crate) type Flow = (u32, u32);
 
-/// A declared label itself, and what is known to lie below a hole.
-fn mask_of(masks: &[u64], count: u16, label: u32) -> u64
-    requires { count ≤ 64 }
-    ensures { result ≡ mask_of count masks.now label }
+/// The first label flows to the second, which is told of holes.
+fn put(flows: &mut Seq<Flow>, count: u16, from: u32, to: u32) -> Result<(), NoMemory>
+    ensures { OnOk result (flows.new ≡ flows.old ++ only count ((from, to) ∷ [])) }
 {
-    let count = u32::from(count);
-    if label < count {
-        return 1 << label;
+    if to < u32::from(count) {
+        return Ok(());
     }
-    match mask_at(masks, (label - count) as usize) {
-        Some(mask) => mask,
-        None => 0,
-    }
-}
-
-/// The first label flows to the second, which gains by it if it is a hole.
-fn put(masks: &mut [u64], count: u16, from: u32, to: u32)
-    requires { count ≤ 64 }
-    ensures { masks.new ≡ put count masks.old (from, to) }
-{
-    let first = u32::from(count);
-    if to < first {
-        return;
-    }
-    let more = mask_of(masks, count, from);
-    let hole = (to - first) as usize;
-    if hole < masks.len() {
-        masks[hole] |= more;
-    }
+    flows.push((from, to))
 }
 
 /// Each of these labels flows to that one.
-fn put_each(masks: &mut [u64], count: u16, from: &[u32], to: u32)
-    requires { count ≤ 64 }
-    ensures { masks.new ≡ put_all count masks.old (all_to from.now to) }
+fn put_each(flows: &mut Seq<Flow>, count: u16, from: &[u32], to: u32) -> Result<(), NoMemory>
+    ensures { OnOk result (flows.new ≡ flows.old ++ only count (all_to from.now to)) }
 {
     let mut rest = from;
     'labels: while let Some((label, after)) = rest.split_first() {
-        put(masks, count, *label, to);
+        put(flows, count, *label, to)?;
         rest = after;
     }
+    Ok(())
 }
 
 /// The labels of a method's parameters.
@@ -91,40 +65,37 @@ fn labels_behind(scope: &Scope<'_>, pc: &[u32], value: &Expression) -> Result<Se
 
 /// A value is given to what has this label.
 fn put_value(
-    masks: &mut [u64],
+    flows: &mut Seq<Flow>,
     scope: &Scope<'_>,
     pc: &[u32],
     value: &Expression,
     to: u32,
 ) -> Result<(), NoMemory>
-    requires { scope.now.count ≤ 64 }
-    ensures { OnOk result (masks.new ≡ put_all scope.now.count masks.old (all_to (pc.now ++ labels_of scope.now.names value.now) to)) }
+    ensures { OnOk result (flows.new ≡ flows.old ++ only scope.now.count (all_to (pc.now ++ labels_of scope.now.names value.now) to)) }
 {
     if to < u32::from(scope.count) {
         return Ok(());
     }
     let from = labels_behind(scope, pc, value)?;
-    put_each(masks, scope.count, from.as_slice(), to);
-    Ok(())
+    put_each(flows, scope.count, from.as_slice(), to)
 }
 
 /// Values are given in turn to what has these labels.
 fn put_given(
-    masks: &mut [u64],
+    flows: &mut Seq<Flow>,
     scope: &Scope<'_>,
     pc: &[u32],
     values: &[Expression],
     to: &[u32],
 ) -> Result<(), NoMemory>
-    requires { scope.now.count ≤ 64 }
-    ensures { OnOk result (masks.new ≡ put_all scope.now.count masks.old (given_flows scope.now pc.now values.now to.now)) }
+    ensures { OnOk result (flows.new ≡ flows.old ++ only scope.now.count (given_flows scope.now pc.now values.now to.now)) }
 {
     let mut to = to;
     for value in values {
         match to.split_first() {
             None => return Ok(()),
             Some((label, after)) => {
-                put_value(masks, scope, pc, value, *label)?;
+                put_value(flows, scope, pc, value, *label)?;
                 to = after;
             }
         }
@@ -141,20 +112,19 @@ fn method_at<'a>(scope: &Scope<'a>, number: u16) -> Option<&'a OpenMethod<'a>>
 
 /// A method is called.
 fn put_call(
-    masks: &mut [u64],
+    flows: &mut Seq<Flow>,
     scope: &Scope<'_>,
     pc: &[u32],
     method: Use,
     arguments: &[Expression],
 ) -> Result<(), NoMemory>
-    requires { scope.now.count ≤ 64 }
-    ensures { OnOk result (masks.new ≡ put_all scope.now.count masks.old (call_flows scope.now pc.now method arguments.now)) }
+    ensures { OnOk result (flows.new ≡ flows.old ++ only scope.now.count (call_flows scope.now pc.now method arguments.now)) }
 {
     match method_at(scope, method.number) {
         None => Ok(()),
         Some(called) => {
             let to = parameter_labels(scope.alloc, called)?;
-            put_given(masks, scope, pc, arguments, to.as_slice())
+            put_given(flows, scope, pc, arguments, to.as_slice())
         }
     }
 }
@@ -196,56 +166,52 @@ fn labels_of_right(scope: &Scope<'_>, pc: &[u32], right: &Right) -> Result<Seq<u
 
 /// What flows to the parameters of a method whose result is assigned.
 fn put_right(
-    masks: &mut [u64],
+    flows: &mut Seq<Flow>,
     scope: &Scope<'_>,
     pc: &[u32],
     right: &Right,
 ) -> Result<(), NoMemory>
-    requires { scope.now.count ≤ 64 }
-    ensures { OnOk result (masks.new ≡ put_all scope.now.count masks.old (right_flows scope.now pc.now right.now)) }
+    ensures { OnOk result (flows.new ≡ flows.old ++ only scope.now.count (right_flows scope.now pc.now right.now)) }
 {
     match right {
         Right::Call { method, arguments } => {
-            put_call(masks, scope, pc, *method, arguments.as_slice())
+            put_call(flows, scope, pc, *method, arguments.as_slice())
         }
         Right::Plain(_) | Right::New { .. } | Right::Downgrade { .. } => Ok(()),
     }
 }
 
-/// What is assigned to a local with this label, which gains where it is a hole.
+/// What is assigned to a local with this label.
 fn put_assigned(
-    masks: &mut [u64],
+    flows: &mut Seq<Flow>,
     scope: &Scope<'_>,
     pc: &[u32],
     right: &Right,
     to: u32,
 ) -> Result<(), NoMemory>
-    requires { scope.now.count ≤ 64 }
-    ensures { OnOk result (masks.new ≡ put_all scope.now.count masks.old (all_to (pc.now ++ right_labels scope.now right.now) to)) }
+    ensures { OnOk result (flows.new ≡ flows.old ++ only scope.now.count (all_to (pc.now ++ right_labels scope.now right.now) to)) }
 {
     if to < u32::from(scope.count) {
         return Ok(());
     }
     let from = labels_of_right(scope, pc, right)?;
-    put_each(masks, scope.count, from.as_slice(), to);
-    Ok(())
+    put_each(flows, scope.count, from.as_slice(), to)
 }
 
 /// A local is assigned.
 fn put_assignment(
-    masks: &mut [u64],
+    flows: &mut Seq<Flow>,
     scope: &Scope<'_>,
     pc: &[u32],
     local: u16,
     right: &Right,
 ) -> Result<(), NoMemory>
-    requires { scope.now.count ≤ 64 }
-    ensures { OnOk result (masks.new ≡ put_all scope.now.count masks.old (assigning scope.now pc.now local right.now)) }
+    ensures { OnOk result (flows.new ≡ flows.old ++ only scope.now.count (assigning scope.now pc.now local right.now)) }
 {
-    put_right(masks, scope, pc, right)?;
+    put_right(flows, scope, pc, right)?;
     match local_at(&scope.names, local) {
         None => Ok(()),
-        Some(found) => put_assigned(masks, scope, pc, right, found.label()),
+        Some(found) => put_assigned(flows, scope, pc, right, found.label()),
     }
 }
 
@@ -265,16 +231,15 @@ fn inside_condition(
 /// The statements of a block.
 #[cycle(block)]
 fn put_block(
-    masks: &mut [u64],
+    flows: &mut Seq<Flow>,
     scope: &Scope<'_>,
     pc: &[u32],
     statements: &[Statement],
 ) -> Result<(), NoMemory>
-    requires { scope.now.count ≤ 64 }
-    ensures { OnOk result (masks.new ≡ put_all scope.now.count masks.old (block_flows scope.now pc.now statements.now)) }
+    ensures { OnOk result (flows.new ≡ flows.old ++ only scope.now.count (block_flows scope.now pc.now statements.now)) }
 {
     for statement in statements {
-        put_statement(masks, scope, pc, statement)?;
+        put_statement(flows, scope, pc, statement)?;
     }
     Ok(())
 }
@@ -282,19 +247,18 @@ fn put_block(
 /// A statement.
 #[cycle(block)]
 fn put_statement(
-    masks: &mut [u64],
+    flows: &mut Seq<Flow>,
     scope: &Scope<'_>,
     pc: &[u32],
     statement: &Statement,
 ) -> Result<(), NoMemory>
-    requires { scope.now.count ≤ 64 }
-    ensures { OnOk result (masks.new ≡ put_all scope.now.count masks.old (statement_flows scope.now pc.now statement.now)) }
+    ensures { OnOk result (flows.new ≡ flows.old ++ only scope.now.count (statement_flows scope.now pc.now statement.now)) }
 {
     match statement {
-        Statement::Assign { local, right, .. } => put_assignment(masks, scope, pc, *local, right),
+        Statement::Assign { local, right, .. } => put_assignment(flows, scope, pc, *local, right),
         Statement::Write { .. } | Statement::Fail { .. } => Ok(()),
         Statement::Call { method, arguments } => {
-            put_call(masks, scope, pc, *method, arguments.as_slice())
+            put_call(flows, scope, pc, *method, arguments.as_slice())
         }
         Statement::If {
             condition,
@@ -302,12 +266,12 @@ fn put_statement(
             otherwise,
         } => {
             let inner = inside_condition(scope, pc, condition)?;
-            put_block(masks, scope, inner.as_slice(), block.as_slice())?;
-            put_block(masks, scope, inner.as_slice(), otherwise.as_slice())
+            put_block(flows, scope, inner.as_slice(), block.as_slice())?;
+            put_block(flows, scope, inner.as_slice(), otherwise.as_slice())
         }
         Statement::While { condition, block } => {
             let inner = inside_condition(scope, pc, condition)?;
-            put_block(masks, scope, inner.as_slice(), block.as_slice())
+            put_block(flows, scope, inner.as_slice(), block.as_slice())
         }
         Statement::Atomic {
             label,
@@ -316,8 +280,8 @@ fn put_statement(
             ..
         } => {
             let inner = inside(scope.alloc, pc, &[u32::from(label.number)])?;
-            put_block(masks, scope, inner.as_slice(), block.as_slice())?;
-            put_block(masks, scope, inner.as_slice(), otherwise.as_slice())
+            put_block(flows, scope, inner.as_slice(), block.as_slice())?;
+            put_block(flows, scope, inner.as_slice(), otherwise.as_slice())
         }
     }
 }
@@ -325,14 +289,13 @@ fn put_statement(
 /// A method.
 fn put_method(
     alloc: Global,
-    masks: &mut [u64],
+    flows: &mut Seq<Flow>,
     classes: &[Class],
     methods: &[OpenMethod<'_>],
     method: &OpenMethod<'_>,
     count: u16,
 ) -> Result<(), NoMemory>
-    requires { count ≤ 64 }
-    ensures { OnOk result (masks.new ≡ put_all count masks.old (method_flows classes.now methods.now method.now)) }
+    ensures { OnOk result (flows.new ≡ flows.old ++ only count (method_flows classes.now methods.now method.now)) }
 {
     let scope = Scope {
         names: Names {
@@ -343,22 +306,21 @@ fn put_method(
         count,
         alloc,
     };
-    put_block(masks, &scope, &[method.begin()], method.body())
+    put_block(flows, &scope, &[method.begin()], method.body())
 }
 
-/// All methods of a bundle: each hole gains what is known to lie below what flows to it.
-pub(crate) fn pass(
+/// All that flows to holes in the methods of a bundle, in the order of the text.
+pub(crate) fn gathered(
     alloc: Global,
-    masks: &mut [u64],
     classes: &[Class],
     methods: &[OpenMethod<'_>],
     count: u16,
-) -> Result<(), NoMemory>
-    requires { count ≤ 64 }
-    ensures { OnOk result (masks.new ≡ put_all count masks.old (flat_map (method_flows classes.now methods.now) methods.now)) }
+) -> Result<Seq<Flow>, NoMemory>
+    ensures { IfOk result (λ flows. flows ≡ only count (flat_map (method_flows classes.now methods.now) methods.now)) }
 {
+    let mut flows = Seq::new(alloc);
     for method in methods {
-        put_method(alloc, masks, classes, methods, method, count)?;
+        put_method(alloc, &mut flows, classes, methods, method, count)?;
     }
-    Ok(())
+    Ok(flows)
 }

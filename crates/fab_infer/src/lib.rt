@@ -4,6 +4,7 @@
 
 mod below;
 mod choice;
+mod closing;
 mod declared;
 mod error;
 mod filled;
