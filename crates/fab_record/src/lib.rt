@@ -2,7 +2,6 @@
 #![tactic(auto)]
 
 mod changes;
-mod downgrades;
 mod entries;
 mod events;
 mod hidden;

@@ -1,13 +1,14 @@
 //! What a set of nodes sees of a program, computed once.
-ghost use Rattle.std.specs.Prelude.{◌≡◌, ◌&&◌, IfOk};
+ghost use Rattle.std.specs.Prelude.{◌≡◌, ◌&&◌, IfOk, map};
+ghost use Rattle.fab_downgrades.specs.Downgraded.{plain};
 ghost use Rattle.fab_release.specs.Bundles.{sight_of};
 ghost use Rattle.fab_release.specs.Record.{is_in_view};
 ghost use Rattle.fab_rights.specs.Computed.{has_bit};
 ghost use Rattle.fab_record.specs.Views.{crosses, crossing_sites, sight_in};
 
-use crate::downgrades::{Downgrade, downgrades_of};
 use crate::hidden::hidden_sites;
 use fab_base::{NoMemory, Oid, Seq};
+use fab_downgrades::{Downgraded, downgraded_by_all};
 use fab_places::Seen;
 use fab_rights::is_in;
 use fab_sets::{is_listed, set_of};
@@ -36,7 +37,7 @@ impl Sights {
         ensures { IfOk result (λ sights. sight_in sights ≡ sight_of (has_bit seen.now.labels) (has_bit seen.now.classes) (has_bit nodes) start.now) }
     {
         let hidden = hidden_sites(alloc, start, seen.labels)?;
-        let downgrades = downgrades_of(alloc, start)?;
+        let downgrades = downgraded_by_all(alloc, start.methods.as_slice())?;
         let crossing = crossing_sites(alloc, downgrades.as_slice(), seen.labels)?;
         Ok(Sights {
             nodes,
@@ -83,25 +84,24 @@ impl Sights {
 }
 
 /// Whether a downgrade goes out of what isn't seen into what is.
-fn crosses(downgrade: Downgrade, labels: u64) -> bool
-    ensures { result ≡ crosses (has_bit labels) downgrade }
+fn crosses(downgrade: &Downgraded, labels: u64) -> bool
+    ensures { result ≡ crosses (has_bit labels) (plain downgrade.now) }
 {
-    let (_, (from, to)) = downgrade;
-    !is_in(labels, from) && is_in(labels, to)
+    !is_in(labels, downgrade.from) && is_in(labels, downgrade.to)
 }
 
 /// The sites of those downgrades that go out of what isn't seen into what is.
 fn crossing_sites(
     alloc: Global,
-    downgrades: &[Downgrade],
+    downgrades: &[Downgraded],
     labels: u64,
 ) -> Result<Seq<u16>, NoMemory>
-    ensures { IfOk result (λ sites. sites ≡ crossing_sites (has_bit labels) downgrades.now) }
+    ensures { IfOk result (λ sites. sites ≡ crossing_sites (has_bit labels) (map plain downgrades.now)) }
 {
     let mut sites = Seq::new(alloc);
     for downgrade in downgrades {
-        if crosses(*downgrade, labels) {
-            sites.push(downgrade.0)?;
+        if crosses(downgrade, labels) {
+            sites.push(downgrade.site)?;
         }
     }
     Ok(sites)

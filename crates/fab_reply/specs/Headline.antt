@@ -43,7 +43,8 @@ IsPartFor _ node g moves = IsOfFault node g moves
 -- A text was read that spells an accepted bundle, and what was written is the text that the command wants of one run from its start, of which P
 -- holds: for `replay` and `run` its report. And for every set of nodes that contains the hostile ones, each object whose integrity excludes the set holds
 -- what replaying the committed requests of the others in the order of their decisions gives, each at most once; and what trusted replay of these requests
--- gives, in which of what was answered endorsed values alone have part; and each node outside the set has sent each node of it exactly the public replay of the release record.
+-- gives, in which of what was answered endorsed values alone have part; and each node outside the set has sent each node of it exactly the public
+-- replay of the release record.
 pub record Headline (command : Option Command) (P : GivenModel → List Move → Type 0) (left left' written written' : Option (List ℕ)) : Type 0 where
   pub text : List ℕ
   pub start : Start

@@ -21,7 +21,8 @@ pub record ShowsHeld (names : List (List ℕ)) (P : GivenModel → List Move →
   pub part : Seen
   pub distrusted : AreDistrusted h.start names nodes part
   pub shown : Appends written written'
-      (trusted_text (resolved h.start) (held_map (setting (given_of h.start h.rights)) (has_bit nodes) (has_bit part.classes) (world_by (given_of h.start h.rights) h.moves)))
+      (trusted_text (resolved h.start)
+      (held_map (setting (given_of h.start h.rights)) (has_bit nodes) (has_bit part.classes) (world_by (given_of h.start h.rights) h.moves)))
 
 abbrev pub ShowsHeldOf : (GivenModel → List Move → Type 0) → Type 0
 ShowsHeldOf P =

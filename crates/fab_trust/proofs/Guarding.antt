@@ -6,9 +6,9 @@ use Rattle.fab_tree.specs.declared.resolved.Method.{Method}
 use Rattle.fab_tree.specs.declared.resolved.Resolved.{Resolved}
 use Rattle.fab_tree.specs.declared.resolved.Use.{Use}
 use Rattle.fab_labelling.specs.Sites.{pcs_of}
-use Rattle.fab_trusted.specs.declared.rows.Downgraded.{Downgraded}
+use Rattle.fab_downgrades.specs.declared.rows.Downgraded.{Downgraded}
 use Rattle.fab_trusted.specs.declared.rows.Guard.{Guard}
-use Rattle.fab_trusted.specs.Downgraded.{declassifies, downgraded_by}
+use Rattle.fab_downgrades.specs.Downgraded.{declassifies, downgraded_by}
 use Rattle.fab_trusted.specs.Robust as robust
 use Rattle.fab_trust.specs.Noted.{guards_at, kind_guards, method_guards, row_guards}
 

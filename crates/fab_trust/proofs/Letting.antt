@@ -16,8 +16,8 @@ use Rattle.fab_protocol.specs.Versions.{objects_of}
 use Rattle.fab_settings.specs.Settings.{meant_of, request_at}
 use Rattle.fab_erasure.specs.Agreement.{in_view}
 use Rattle.fab_sets.specs.Numbers.{is_listed}
-use Rattle.fab_trusted.specs.declared.rows.Downgraded.{Downgraded}
-use Rattle.fab_trusted.specs.Downgraded.{downgraded_by, endorses}
+use Rattle.fab_downgrades.specs.declared.rows.Downgraded.{Downgraded}
+use Rattle.fab_downgrades.specs.Downgraded.{downgraded_by, endorses}
 use Rattle.fab_trusted.specs.Trusted.{done_by, endorsed, endorses_at, lets_in}
 use Rattle.fab_trust.specs.declared.endorsing.Doors.{Doors}
 use Rattle.fab_trust.specs.Endorsing.{is_let_in, opens_at, sites_let_in, values_let_in}

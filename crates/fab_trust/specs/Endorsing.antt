@@ -4,8 +4,8 @@ use Rattle.std.specs.List.{filter, flat_map, list_all}
 use Rattle.fab_base.specs.declared.object.Value.{Value}
 use Rattle.fab_rights.specs.Computed.{has_bit}
 use Rattle.fab_sets.specs.Numbers.{is_listed}
-use Rattle.fab_trusted.specs.declared.rows.Downgraded.{Downgraded}
-use Rattle.fab_trusted.specs.Downgraded.{endorses}
+use Rattle.fab_downgrades.specs.declared.rows.Downgraded.{Downgraded}
+use Rattle.fab_downgrades.specs.Downgraded.{endorses}
 use Rattle.fab_trust.specs.declared.endorsing.Doors.{Doors}
 
 -- what isn't trusted is endorsed to what is

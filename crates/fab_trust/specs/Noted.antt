@@ -7,9 +7,9 @@ use Rattle.fab_tree.specs.declared.resolved.Resolved.{Resolved}
 use Rattle.fab_tree.specs.declared.resolved.Use.{Use}
 use Rattle.fab_labelling.specs.Readers.{label_at}
 use Rattle.fab_authority.specs.Decided.{covers}
-use Rattle.fab_trusted.specs.declared.rows.Downgraded.{Downgraded}
+use Rattle.fab_downgrades.specs.declared.rows.Downgraded.{Downgraded}
 use Rattle.fab_trusted.specs.declared.rows.Guard.{Guard}
-use Rattle.fab_trusted.specs.Downgraded.{declassifies, downgraded_by}
+use Rattle.fab_downgrades.specs.Downgraded.{declassifies, downgraded_by}
 
 -- some policy of integrity covers that of the principal alone
 abbrev pub is_kept : Resolved → Guard → Bool

@@ -8,13 +8,13 @@ ghost use Rattle.fab_meaning.specs.Ends.{IsMeant};
 ghost use Rattle.fab_protocol.specs.Versions.{objects_of};
 ghost use Rattle.fab_rights.specs.Computed.{has_bit};
 ghost use Rattle.fab_settings.specs.Settings.{meant_of, request_at as request_of};
-ghost use Rattle.fab_trusted.specs.Downgraded.{downgraded_by};
+ghost use Rattle.fab_downgrades.specs.Downgraded.{downgraded_by};
 ghost use Rattle.fab_trusted.specs.Trusted.{endorsed, endorses_at};
 ghost use Rattle.fab_trust.specs.Endorsing.{is_let_in, opens_at, sites_let_in, values_let_in};
 
-use crate::downgrades::downgraded_by;
 use fab_base::{NoMemory, Object, Oid, Seq, Value};
 use fab_check::Checked;
+use fab_downgrades::{Downgraded, downgraded_by};
 use fab_map::ObjectMap;
 use fab_meaning::{Meant, plain_meaning};
 use fab_net::Commit;
@@ -24,7 +24,6 @@ use fab_serial::request_at;
 use fab_sets::{is_listed, set_of};
 use fab_tree::Downgrade;
 use fab_tree::resolved::{Method, Request, Resolved};
-use fab_trusted::Downgraded;
 use indexmap::IndexSet;
 use std::alloc::Global;
 

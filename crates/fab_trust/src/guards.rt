@@ -8,15 +8,15 @@ ghost use Rattle.fab_trusted.specs.Robust.{IsFirstUnkept, IsRobust, guards};
 ghost use Rattle.fab_trust.specs.Noted.{guards_at, kind_guards, method_guards, is_kept, noted, sooner};
 ghost use Rattle.fab_trust.specs.declared.error.RobustError.TheVariants.{Refused};
 
-use crate::downgrades::downgraded_by;
 use crate::error::RobustError;
 use fab_base::{NoMemory, Policy, Seq};
 use fab_check::Checked;
+use fab_downgrades::{Downgraded, downgraded_by};
 use fab_labels::first_cover;
 use fab_principals::Acts;
 use fab_tree::Downgrade;
 use fab_tree::resolved::{Method, Resolved, Use};
-use fab_trusted::{Downgraded, Guard};
+use fab_trusted::Guard;
 use std::alloc::Global;
 
 /// A bundle, the labels of its sites, and who acts for whom in it.

@@ -2,7 +2,6 @@
 //! have influenced, from these objects and endorsed values alone.
 #![tactic(auto)]
 
-mod downgrades;
 mod endorsing;
 mod error;
 mod guards;

@@ -24,8 +24,8 @@ use Rattle.fab_shapes.proofs.Lists.{in_both}
 use Rattle.fab_views.proofs.Labels.{AreBelow, HasLabels, IsLabelledMethod, labels_in, labels_in_block, labels_step, named_by_right}
 use Rattle.std.specs.Prelude.{slice_get}
 use Rattle.fab_trusted.specs.Trusts.{IsTrustedBy}
-use Rattle.fab_trusted.specs.declared.rows.Downgraded.{Downgraded}
-use Rattle.fab_trusted.specs.Downgraded.{all_in, downgraded_by, downgraded_by_right, downgraded_in, downgraded_step, endorses as is_endorsed}
+use Rattle.fab_downgrades.specs.declared.rows.Downgraded.{Downgraded}
+use Rattle.fab_downgrades.specs.Downgraded.{all_in, downgraded_by, downgraded_by_right, downgraded_in, downgraded_step, endorses as is_endorsed}
 use Rattle.fab_trusted.specs.Trusted.{endorses_at}
 use Rattle.fab_trusted.proofs.Trusting.{excluded_back}
 

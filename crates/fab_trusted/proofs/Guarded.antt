@@ -1,5 +1,5 @@
 -- A site that declassifies robustly, with the authority of a principal for whom no node of a set acts, is trusted, and so is what it declassifies.
-use Rattle.std.proofs.Common.{◌≡◌, inl, inr, ℕ, zero, suc, ◌+◌, ◌<◌, Bool, true, false, not, ◌&&◌, ◌||◌, ◌==◌, List, [], ◌∷◌, ◌++◌, map, length, Option, Some, None, refl, sym, ap, ◌∙◌, subst, arith}
+use Rattle.std.proofs.Common.{◌≡◌, inl, inr, ℕ, zero, suc, ◌+◌, ◌<◌, Bool, true, false, not, ◌&&◌, ◌||◌, ◌==◌, List, [], ◌∷◌, map, length, Option, Some, None, refl, sym, ap, ◌∙◌, subst, arith}
 use Rattle.std.specs.Prelude.{Any, IsBitSet, option_map, slice_get, unwrap_or}
 use Rattle.std.specs.List.{flat_map, list_all, list_any, filter, enumerate_from}
 use Rattle.std.proofs.lemmas.Bool.{and_from, eqb-true, eq-eqb, or_left}
@@ -10,22 +10,19 @@ use Rattle.fab_base.specs.Principals.{ActsFor}
 use Rattle.fab_tree.specs.declared.resolved.Method.{Method}
 use Rattle.fab_tree.specs.declared.resolved.NamedLabel.{NamedLabel}
 use Rattle.fab_tree.specs.declared.resolved.Resolved.{Resolved}
-use Rattle.fab_tree.specs.declared.resolved.Right.{Right}
-use Rattle.fab_tree.specs.declared.resolved.Right.TheVariants as rights
-use Rattle.fab_tree.specs.declared.resolved.Statement.{Statement, ind-Statement, roll-Statement, fold-roll-Statement, map-Statement}
-use Rattle.fab_tree.specs.declared.resolved.Statement.TheOpen as s
 use Rattle.fab_language.specs.Flows.{delegations_of}
 use Rattle.fab_labelling.specs.Obligations.{authority_of}
 use Rattle.fab_labelling.specs.Readers.{Excludes, IsNode, label_at, principal_of}
 use Rattle.fab_labelling.specs.Sites.{pcs_of, sites_of}
-use Rattle.fab_erasure.specs.Agreement.{Downgrading, IsIn, all_of, downgrade_step, downgrades_in, downgrades_in_right, downgrades_of, downs_seen, in_view}
+use Rattle.fab_erasure.specs.Agreement.{Downgrading, IsIn, downgrades_in, downgrades_of, downs_seen, in_view}
 use Rattle.fab_erasure.proofs.Agrees.{all_pass, one_passes}
 use Rattle.fab_erasure.proofs.Views.{filter_within}
-use Rattle.fab_integrity.proofs.Lists.{each_of, flat_in, in_append, in_filter, in_left, in_right, map_in}
+use Rattle.fab_integrity.proofs.Lists.{each_of, flat_in, in_filter, in_left, in_right, map_in}
 use Rattle.fab_trusted.specs.Trusts.{IsTrustedBy}
-use Rattle.fab_trusted.specs.declared.rows.Downgraded.{Downgraded}
+use Rattle.fab_downgrades.specs.declared.rows.Downgraded.{Downgraded}
 use Rattle.fab_trusted.specs.declared.rows.Guard.{Guard}
-use Rattle.fab_trusted.specs.Downgraded.{all_in, declassified_by, declassifies, downgraded_by, downgraded_by_right, downgraded_in, downgraded_step}
+use Rattle.fab_downgrades.specs.Downgraded.{declassified_by, declassifies, downgraded_by, plain}
+use Rattle.fab_downgrades.proofs.Plain.{methods_are_plain}
 use Rattle.fab_trusted.specs.Robust.{IsGuarded, IsRobust, Keeps, guards, guards_in, guards_of, sources_of}
 use Rattle.fab_labels.proofs.FlowLemmas.{covered_by_denial}
 use Rattle.fab_labels.proofs.Searches.{Any-cases}
@@ -43,62 +40,10 @@ narrower p site passes ds es e =
 
 -- ---- downgrades with their kinds are downgrades
 
-abbrev plain : Downgraded → Downgrading
-plain d = (d.site, (d.from, d.to))
-
-abbrev Lists : List Downgraded → List Downgrading → Type 0
-Lists ds es = (d : Downgraded) → IsIn d ds → IsIn (plain d) es
-
-both_list : (ds : List Downgraded) (es : List Downgrading) (fs : List Downgraded) (gs : List Downgrading) → Lists ds es → Lists fs gs → Lists (ds ++ fs) (es ++ gs)
-both_list ds es fs gs h k d i = elim (in_append d ds fs i) [ inl a ↦ in_left (plain d) es gs (h d a) | inr b ↦ in_right (plain d) es gs (k d b) ]
-
-of_right : (x : Right) → Lists (downgraded_by_right x) (downgrades_in_right x)
-of_right (rights.Plain e) d i = absurd i
-of_right (rights.Call x es) d i = absurd i
-of_right (rights.New x store es site at) d i = absurd i
-of_right (rights.Downgrade k e from to site at) d (inl same) = inl (ap plain same)
-of_right (rights.Downgrade k e from to site at) d (inr none) = absurd none
-
-abbrev OfStatement : Statement → Type 0
-OfStatement x = Lists (downgraded_in x) (downgrades_in x)
-
-abbrev Known : Type 0
-Known = (x : Statement) × OfStatement x
-
-abbrev bare : List Known → List Statement
-bare ks = map (λ (k : Known). k.0) ks
-
-rows : (ks : List Known) → Lists (all_in (map downgraded_in (bare ks))) (all_of (map downgrades_in (bare ks)))
-rows [] d i = absurd i
-rows (k ∷ ks) d i = both_list (downgraded_in k.0) (downgrades_in k.0) (all_in (map downgraded_in (bare ks))) (all_of (map downgrades_in (bare ks))) k.1 (rows ks) d i
-
-abbrev pieces : s.Statement-F Known → s.Statement-F Statement
-pieces y = map-Statement Known Statement (λ k. k.0) y
-
-layer : (y : s.Statement-F Known) → Lists (downgraded_step (map-Statement Statement (List Downgraded) downgraded_in (pieces y)))
-    (downgrade_step (map-Statement Statement (List Downgrading) downgrades_in (pieces y)))
-layer (s.Assign x r at) d i = of_right r d i
-layer (s.Write x field e site) d i = absurd i
-layer (s.Call x es) d i = absurd i
-layer (s.If e xs ys) d i = both_list (all_in (map downgraded_in (bare xs))) (all_of (map downgrades_in (bare xs)))
-    (all_in (map downgraded_in (bare ys))) (all_of (map downgrades_in (bare ys))) (rows xs) (rows ys) d i
-layer (s.While e xs) d i = rows xs d i
-layer (s.Atomic x xs ys at) d i = both_list (all_in (map downgraded_in (bare xs))) (all_of (map downgrades_in (bare xs)))
-    (all_in (map downgraded_in (bare ys))) (all_of (map downgrades_in (bare ys))) (rows xs) (rows ys) d i
-layer (s.Fail at) d i = absurd i
-
-statements : (x : Statement) → OfStatement x
-statements = ind-Statement OfStatement (λ x y is. subst (λ z. OfStatement (roll-Statement z)) is
-    (rw (fold-roll-Statement (List Downgraded) downgraded_step (pieces y), fold-roll-Statement (List Downgrading) downgrade_step (pieces y)) (layer y)))
-
-blocks : (xs : List Statement) → Lists (flat_map downgraded_in xs) (flat_map downgrades_in xs)
-blocks [] d i = absurd i
-blocks (x ∷ xs) d i = both_list (downgraded_in x) (downgrades_in x) (flat_map downgraded_in xs) (flat_map downgrades_in xs) (statements x) (blocks xs) d i
-
 methods : (ms : List Method) (m : Method) (d : Downgraded) → IsIn m ms → IsIn d (declassified_by m) → IsIn (plain d) (flat_map (λ (m : Method). flat_map downgrades_in m.body) ms)
 methods ms m d i j =
-    flat_in (λ (m : Method). flat_map downgrades_in m.body) (plain d) m ms i
-    (blocks m.body d (in_filter (λ (x : Downgraded). declassifies x.downgrade) d (downgraded_by m) j).0)
+    let found = flat_in downgraded_by d m ms i (in_filter (λ (x : Downgraded). declassifies x.downgrade) d (downgraded_by m) j).0 in
+    subst (IsIn (plain d)) (methods_are_plain ms) (map_in plain d (flat_map downgraded_by ms) found)
 
 -- ---- what is kept is of declared labels, and trusted
 

@@ -18,9 +18,9 @@ use Rattle.fab_labelling.proofs.Forms.{expression_at, sites_are, sited_is}
 use Rattle.fab_labels.proofs.Searches.{Any-head}
 use Rattle.fab_language.specs.Flows.{delegations_of}
 use Rattle.fab_erasure.specs.Agreement.{IsIn}
-use Rattle.fab_trusted.specs.declared.rows.Downgraded.{Downgraded}
+use Rattle.fab_downgrades.specs.declared.rows.Downgraded.{Downgraded}
 use Rattle.fab_trusted.specs.declared.rows.Guard.{Guard}
-use Rattle.fab_trusted.specs.Downgraded.{declassified_by, downgraded_step}
+use Rattle.fab_downgrades.specs.Downgraded.{declassified_by, downgraded_step}
 use Rattle.fab_trusted.specs.Robust.{IsFirstUnkept, IsGuarded, IsRobust, Keeps, guards, guards_of}
 use Rattle.fab_trusted.proofs.Box.{bundle, classes, locals, method, used}
 use Rattle.fab_trusted.proofs.TrustsExamples.{h_alone, of_h, w_for_a}

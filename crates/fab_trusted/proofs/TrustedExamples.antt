@@ -23,8 +23,8 @@ use Rattle.fab_net.specs.declared.note.Commit.{Commit}
 use Rattle.fab_language.specs.Meaning.{State}
 use Rattle.fab_erasure.specs.Erased.{Part, part, value}
 use Rattle.fab_erasure.proofs.ErasedForms as forms
-use Rattle.fab_trusted.specs.declared.rows.Downgraded.{Downgraded}
-use Rattle.fab_trusted.specs.Downgraded.{downgraded_in, downgraded_step}
+use Rattle.fab_downgrades.specs.declared.rows.Downgraded.{Downgraded}
+use Rattle.fab_downgrades.specs.Downgraded.{downgraded_in, downgraded_step}
 use Rattle.fab_trusted.specs.Trusted.{done_by, endorsed, endorses_at, trusted_replay}
 use Rattle.fab_trusted.proofs.TrustsExamples.{keeps, trusts}
 use Rattle.fab_trusted.proofs.Box.{box, bundle, classes, holding, locals, method, used, vault}

@@ -1,4 +1,3 @@
-pub mod Downgraded
 pub mod Trusts
 pub mod Trusted
 pub mod Robust

@@ -10,9 +10,9 @@ use Rattle.fab_labelling.specs.Obligations.{authority_of}
 use Rattle.fab_labelling.specs.Readers.{IsNode, label_at, principal_of}
 use Rattle.fab_labelling.specs.Sites.{pcs_of}
 use Rattle.fab_erasure.specs.Agreement.{IsIn}
-use Rattle.fab_trusted.specs.declared.rows.Downgraded.{Downgraded}
+use Rattle.fab_downgrades.specs.declared.rows.Downgraded.{Downgraded}
 use Rattle.fab_trusted.specs.declared.rows.Guard.{Guard}
-use Rattle.fab_trusted.specs.Downgraded.{declassified_by}
+use Rattle.fab_downgrades.specs.Downgraded.{declassified_by}
 
 -- of a declassification, the labels that decide that it is done, the outermost first, and the one from which it is
 abbrev pub sources_of : Resolved → Downgraded → List ℕ

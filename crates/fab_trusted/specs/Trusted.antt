@@ -19,8 +19,8 @@ use Rattle.fab_erasure.specs.Erased.{erased}
 use Rattle.fab_settings.specs.Settings.{meant_of, request_at}
 use Rattle.fab_world.specs.Serial.{within}
 use Rattle.fab_integrity.specs.Changed.{changed}
-use Rattle.fab_trusted.specs.declared.rows.Downgraded.{Downgraded}
-use Rattle.fab_trusted.specs.Downgraded.{downgraded_by, endorses}
+use Rattle.fab_downgrades.specs.declared.rows.Downgraded.{Downgraded}
+use Rattle.fab_downgrades.specs.Downgraded.{downgraded_by, endorses}
 
 -- the first of some lists of values, and those behind it
 abbrev pub first_of : List (List Value) → List Value

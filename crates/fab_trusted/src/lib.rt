@@ -6,4 +6,4 @@ mod laws;
 mod rows;
 
 pub use laws::{robust_values_trusted, trusted_replay_agrees};
-pub use rows::{Downgraded, Guard};
+pub use rows::Guard;

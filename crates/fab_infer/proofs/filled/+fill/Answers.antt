@@ -42,7 +42,10 @@ fill_block-fill_statement-requires t c =
     let all = c.args.block in
     let given = c.into_iter-statement-iterator.ensures.into_iter_gives in
     let vec_long = c.into_vec-statement-items.result.ok.0 in
-    let turn = YieldsList-turn (YieldsList-from_vec {s = c.into_iter-statement-iterator.result} all (given.0 ∙ c.into_vec-statement-items.ensures) (given.1 ∙ vec_long ∙ ap (λ (l : List Statement). length l) c.into_vec-statement-items.ensures)) c.statements.yielded c.statements.statement-iterator c.statements.yielded_by c.next.result c.next.new.self c.in-Some.statement c.in-Some.is c.next.ensures.steps in
+    let is_long = given.1 ∙ vec_long ∙ ap (λ (l : List Statement). length l) c.into_vec-statement-items.ensures in
+    let yields = YieldsList-from_vec {s = c.into_iter-statement-iterator.result} all (given.0 ∙ c.into_vec-statement-items.ensures) is_long in
+    let turn = YieldsList-turn yields c.statements.yielded c.statements.statement-iterator c.statements.yielded_by c.next.result c.next.new.self c.in-Some.statement
+    c.in-Some.is c.next.ensures.steps in
     let w = weight_within all (length c.statements.yielded) c.in-Some.statement turn.0 turn.1 in
     let h : 4 * weight c.in-Some.statement < t = omega (arith, w, c.decreases) in
     (h, tt)

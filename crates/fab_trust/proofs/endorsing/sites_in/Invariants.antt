@@ -2,7 +2,7 @@ use Rattle.std.proofs.Common.{◌≡◌, ◌++◌, drop}
 use Rattle.std.specs.List.{flat_map}
 use Rattle.fab_rights.specs.Computed.{has_bit}
 use Rattle.fab_tree.specs.declared.resolved.Method.{Method}
-use Rattle.fab_trusted.specs.Downgraded.{downgraded_by}
+use Rattle.fab_downgrades.specs.Downgraded.{downgraded_by}
 use Rattle.fab_trust.specs.Endorsing.{sites_let_in}
 use Rattle.fab_trust.proofs.endorsing.sites_in.Given as goal
 

@@ -3,7 +3,7 @@ use Rattle.std.specs.Prelude.{slice_get}
 use Rattle.std.specs.List.{flat_map}
 use Rattle.fab_tree.specs.declared.statement.Downgrade.{Downgrade}
 use Rattle.fab_trusted.specs.declared.rows.Guard.{Guard}
-use Rattle.fab_trusted.specs.Downgraded.{declassifies}
+use Rattle.fab_downgrades.specs.Downgraded.{declassifies}
 use Rattle.fab_trust.specs.Noted.{guards_at, noted}
 use Rattle.fab_trust.proofs.Least.{noted_parts}
 use Rattle.fab_trust.proofs.guards.note_row.Goals as goal

@@ -1,10 +1,11 @@
-//! The downgrades of a method, with their kinds.
+//! The walk over the statements of a method.
 ghost use Rattle.std.specs.Prelude.{◌≡◌, ◌++◌, IfOk, OnOk, map};
-ghost use Rattle.fab_trusted.specs.Downgraded.{all_in, downgraded_by, downgraded_by_right, downgraded_in};
+ghost use Rattle.std.specs.List.{flat_map};
+ghost use Rattle.fab_downgrades.specs.Downgraded.{all_in, downgraded_by, downgraded_by_right, downgraded_in};
 
+use crate::rows::Downgraded;
 use fab_base::{NoMemory, Seq};
 use fab_tree::resolved::{Method, Right, Statement};
-use fab_trusted::Downgraded;
 use std::alloc::Global;
 
 /// The downgrade that is assigned, if one is.
@@ -69,11 +70,30 @@ fn put_statement(out: &mut Seq<Downgraded>, statement: &Statement) -> Result<(),
     }
 }
 
+/// The downgrades of a method, behind others.
+fn put_method(out: &mut Seq<Downgraded>, method: &Method) -> Result<(), NoMemory>
+    ensures { OnOk result (out.new ≡ out.old ++ downgraded_by method.now) }
+{
+    put_block(out, method.body.as_slice())?;
+    Ok(())
+}
+
 /// The downgrades of a method, in the order of the text.
-pub(crate) fn downgraded_by(alloc: Global, method: &Method) -> Result<Seq<Downgraded>, NoMemory>
+pub fn downgraded_by(alloc: Global, method: &Method) -> Result<Seq<Downgraded>, NoMemory>
     ensures { IfOk result (λ found. found ≡ downgraded_by method.now) }
 {
     let mut out = Seq::new(alloc);
-    put_block(&mut out, method.body.as_slice())?;
+    put_method(&mut out, method)?;
+    Ok(out)
+}
+
+/// The downgrades of several methods, in the order of the text.
+pub fn downgraded_by_all(alloc: Global, methods: &[Method]) -> Result<Seq<Downgraded>, NoMemory>
+    ensures { IfOk result (λ found. found ≡ flat_map downgraded_by methods.now) }
+{
+    let mut out = Seq::new(alloc);
+    for method in methods {
+        put_method(&mut out, method)?;
+    }
     Ok(out)
 }

@@ -8,7 +8,8 @@ use Rattle.fab_tree.specs.declared.resolved.Right.{Right}
 use Rattle.fab_tree.specs.declared.resolved.Right.TheVariants as rights
 use Rattle.fab_tree.specs.declared.resolved.Statement.{Statement, fold-Statement}
 use Rattle.fab_tree.specs.declared.resolved.Statement.TheOpen as s
-use Rattle.fab_trusted.specs.declared.rows.Downgraded.{Downgraded}
+use Rattle.fab_erasure.specs.Agreement.{Downgrading}
+use Rattle.fab_downgrades.specs.declared.rows.Downgraded.{Downgraded}
 
 abbrev pub downgraded_by_right : Right → List Downgraded
 downgraded_by_right (rights.Plain e) = []
@@ -48,3 +49,9 @@ endorses Endorse = true
 
 abbrev pub declassified_by : Method → List Downgraded
 declassified_by m = filter (λ d. declassifies d.downgrade) (downgraded_by m)
+
+-- ---- without kind and place
+
+-- its site, and the labels from and to which it goes
+abbrev pub plain : Downgraded → Downgrading
+plain d = (d.site, (d.from, d.to))
