@@ -40,7 +40,8 @@ narrower p site passes ds es e =
 
 -- ---- downgrades with their kinds are downgrades
 
-methods : (ms : List Method) (m : Method) (d : Downgraded) → IsIn m ms → IsIn d (declassified_by m) → IsIn (plain d) (flat_map (λ (m : Method). flat_map downgrades_in m.body) ms)
+methods : (ms : List Method) (m : Method) (d : Downgraded) → IsIn m ms → IsIn d (declassified_by m)
+    → IsIn (plain d) (flat_map (λ (m : Method). flat_map downgrades_in m.body) ms)
 methods ms m d i j =
     let found = flat_in downgraded_by d m ms i (in_filter (λ (x : Downgraded). declassifies x.downgrade) d (downgraded_by m) j).0 in
     subst (IsIn (plain d)) (methods_are_plain ms) (map_in plain d (flat_map downgraded_by ms) found)
