@@ -2,7 +2,7 @@
 //! event drawn has a row of its own, from 1 on; row 0 is that of the heads.
 
 use fab_base::Seq;
-use fab_tree::declaration::Role;
+use fab_tree::Role;
 
 /// What happens in an event.
 #[derive(Clone, Copy, Debug)]

@@ -1,0 +1,226 @@
+//! Shapes, each as a group of elements on a line of its own.
+ghost use Rattle.std.specs.Prelude.{◌≡◌, ◌++◌, OnOk};
+ghost use Rattle.fab_language.specs.Words.{line};
+ghost use Rattle.fab_svg.specs.Svg.{arrow_text, beyond, end_text, event_text, ground_text, head_text, life_class as life_class_of, line_at, across as across_of, down as down_of, mark_text, note_text};
+
+use crate::elements::{put, put_line, put_path, put_text, put_title};
+use crate::places::{above, across, before, behind, down};
+use crate::words::{
+    arrow_class, box_class, group_opening, life_class, role_word, sign_class, sign_path,
+};
+use fab_base::{NoMemory, Seq};
+use fab_marks::{Shape, Sign, Spot};
+use fab_tree::Role;
+use std::alloc::Global;
+
+/// The box of a node, with its kind and name.
+fn put_head(
+    alloc: Global,
+    out: &mut Seq<u8>,
+    column: u32,
+    role: Role,
+    label: &[u8],
+    name: &[u8],
+) -> Result<(), NoMemory>
+    ensures { OnOk result (out.new ≡ out.old ++ head_text column role label.now name.now) }
+{
+    let left = 135 + 230 * u64::from(column);
+    put(out, "<g>")?;
+    put_title(out, name)?;
+    put_path(alloc, out, box_class(role), left, 35, "h210v36h-210z")?;
+    let word = role_word(role).as_bytes();
+    put_text(alloc, out, "middle", across(column), 49, word)?;
+    put_text(alloc, out, "middle name", across(column), 64, label)?;
+    put(out, "</g>")
+}
+
+/// A part of a node's line.
+fn put_life(
+    alloc: Global,
+    out: &mut Seq<u8>,
+    column: u32,
+    from: u32,
+    to: u32,
+    up: bool,
+) -> Result<(), NoMemory>
+    ensures { OnOk result (out.new ≡ out.old ++ line_at (life_class_of up) (across_of column) (down_of from) (across_of column) (down_of to)) }
+{
+    let x = across(column);
+    put_line(alloc, out, life_class(up), (x, down(from)), (x, down(to)))
+}
+
+/// The sign of what happens at a node.
+fn put_mark(
+    alloc: Global,
+    out: &mut Seq<u8>,
+    at: Spot,
+    sign: Sign,
+    label: &[u8],
+    title: &[u8],
+) -> Result<(), NoMemory>
+    ensures { OnOk result (out.new ≡ out.old ++ mark_text at sign label.now title.now) }
+{
+    let (x, y) = (across(at.column), down(at.row));
+    put(out, "<g>")?;
+    put_title(out, title)?;
+    put_path(alloc, out, sign_class(sign), x, y, sign_path(sign))?;
+    put_text(alloc, out, "start", behind(at.column), above(at.row), label)?;
+    put(out, "</g>")
+}
+
+/// The cross where a message is lost.
+fn put_end(alloc: Global, out: &mut Seq<u8>, lost: bool, to: Spot) -> Result<(), NoMemory>
+    ensures { OnOk result (out.new ≡ out.old ++ end_text lost to) }
+{
+    if !lost {
+        return Ok(());
+    }
+    let path = sign_path(Sign::Crash);
+    put_path(alloc, out, "cross", across(to.column), down(to.row), path)
+}
+
+/// An arrow's label, on the side of the receiver's line that the arrow doesn't come from.
+fn put_beyond(
+    alloc: Global,
+    out: &mut Seq<u8>,
+    from_left: bool,
+    to: Spot,
+    label: &[u8],
+) -> Result<(), NoMemory>
+    ensures { OnOk result (out.new ≡ out.old ++ beyond from_left to label.now) }
+{
+    if from_left {
+        put_text(alloc, out, "start", behind(to.column), above(to.row), label)
+    } else {
+        put_text(alloc, out, "end", before(to.column), above(to.row), label)
+    }
+}
+
+/// How a message went.
+#[derive(Clone, Copy)]
+struct Way {
+    from: Spot,
+    to: Spot,
+    lost: bool,
+    stands_out: bool,
+}
+
+/// The arrow of a message.
+fn put_arrow(
+    alloc: Global,
+    out: &mut Seq<u8>,
+    way: Way,
+    label: &[u8],
+    title: &[u8],
+) -> Result<(), NoMemory>
+    ensures { OnOk result (out.new ≡ out.old ++ arrow_text way.from way.to way.lost way.stands_out label.now title.now) }
+{
+    let Way {
+        from,
+        to,
+        lost,
+        stands_out,
+    } = way;
+    let start = (across(from.column), down(from.row));
+    let end = (across(to.column), down(to.row));
+    put(out, group_opening(stands_out))?;
+    put_title(out, title)?;
+    put_line(alloc, out, arrow_class(lost), start, end)?;
+    put_end(alloc, out, lost, to)?;
+    put_beyond(alloc, out, from.column < to.column, to, label)?;
+    put(out, "</g>")
+}
+
+/// A line at the foot of a node's line.
+fn put_note(
+    alloc: Global,
+    out: &mut Seq<u8>,
+    at: Spot,
+    label: &[u8],
+    title: &[u8],
+) -> Result<(), NoMemory>
+    ensures { OnOk result (out.new ≡ out.old ++ note_text at label.now title.now) }
+{
+    put(out, "<g>")?;
+    put_title(out, title)?;
+    put_text(
+        alloc,
+        out,
+        "middle",
+        across(at.column),
+        above(at.row),
+        label,
+    )?;
+    put(out, "</g>")
+}
+
+/// Nodes and what stands at their feet; nothing for an event.
+pub(crate) fn put_ground(alloc: Global, out: &mut Seq<u8>, shape: &Shape) -> Result<(), NoMemory>
+    ensures { OnOk result (out.new ≡ out.old ++ ground_text shape.now) }
+{
+    match shape {
+        Shape::Caption { text } => put_text(alloc, out, "start", 20, 20, text.as_slice())?,
+        Shape::Head {
+            column,
+            role,
+            label,
+            title,
+        } => {
+            put_head(
+                alloc,
+                out,
+                *column,
+                *role,
+                label.as_slice(),
+                title.as_slice(),
+            )?;
+        }
+        Shape::Life {
+            column,
+            from,
+            to,
+            up,
+        } => put_life(alloc, out, *column, *from, *to, *up)?,
+        Shape::Note { at, label, title } => {
+            put_note(alloc, out, *at, label.as_slice(), title.as_slice())?;
+        }
+        Shape::Mark { .. } | Shape::Arrow { .. } => return Ok(()),
+    }
+    put(out, "\n")
+}
+
+/// The mark of an event; nothing for any other shape.
+pub(crate) fn put_event(alloc: Global, out: &mut Seq<u8>, shape: &Shape) -> Result<(), NoMemory>
+    ensures { OnOk result (out.new ≡ out.old ++ event_text shape.now) }
+{
+    match shape {
+        Shape::Mark {
+            at,
+            sign,
+            label,
+            title,
+        } => {
+            put_mark(alloc, out, *at, *sign, label.as_slice(), title.as_slice())?;
+        }
+        Shape::Arrow {
+            from,
+            to,
+            lost,
+            stands_out,
+            label,
+            title,
+        } => {
+            let way = Way {
+                from: *from,
+                to: *to,
+                lost: *lost,
+                stands_out: *stands_out,
+            };
+            put_arrow(alloc, out, way, label.as_slice(), title.as_slice())?;
+        }
+        Shape::Caption { .. } | Shape::Head { .. } | Shape::Life { .. } | Shape::Note { .. } => {
+            return Ok(());
+        }
+    }
+    put(out, "\n")
+}
