@@ -2,7 +2,7 @@
 //! event drawn has a row of its own, from 1 on; row 0 is that of the heads.
 
 use fab_base::Seq;
-use fab_tree::declaration::Role;
+use fab_tree::Role;
 
 /// What happens in an event.
 #[derive(Clone, Copy, Debug)]
@@ -28,7 +28,9 @@ pub struct Spot {
 #[derive(Debug, Drop)]
 pub enum Shape {
     /// A line of text above all.
-    Caption { text: Seq<u8> },
+    Caption {
+        text: Seq<u8>,
+    },
     /// The box of a node with its kind and name.
     Head {
         column: u32,
