@@ -28,7 +28,9 @@ pub struct Spot {
 #[derive(Debug, Drop)]
 pub enum Shape {
     /// A line of text above all.
-    Caption { text: Seq<u8> },
+    Caption {
+        text: Seq<u8>,
+    },
     /// The box of a node with its kind and name.
     Head {
         column: u32,

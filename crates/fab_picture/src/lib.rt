@@ -1,0 +1,13 @@
+//! The picture of a report: its shapes, in order.
+#![tactic(auto)]
+
+mod events;
+mod fitting;
+mod foot;
+mod notes;
+mod outcomes;
+mod pictures;
+
+pub use fitting::first_unfit;
+pub use foot::Foot;
+pub use pictures::picture;
