@@ -33,19 +33,30 @@ above row = 70 + 20 * row
 abbrev pub title : List ℕ → List ℕ
 title text = codes "<title>" ++ escaped text ++ codes "</title>"
 
+-- an attribute, and one whose value is a number
+abbrev pub attribute : List ℕ → List ℕ → List ℕ
+attribute name value = codes " " ++ name ++ codes "='" ++ value ++ codes "'"
+
+abbrev pub number_attribute : List ℕ → ℕ → List ℕ
+number_attribute name n = attribute name (decimal n)
+
 -- a text of a class at a place
 abbrev pub text_at : List ℕ → ℕ → ℕ → List ℕ → List ℕ
 text_at class x y text =
-    codes "<text class='" ++ class ++ codes "' x='" ++ decimal x ++ codes "' y='" ++ decimal y ++ codes "'>" ++ escaped text ++ codes "</text>"
+    codes "<text" ++ attribute (codes "class") class ++ number_attribute (codes "x") x ++ number_attribute (codes "y") y
+    ++ codes ">" ++ escaped text ++ codes "</text>"
 
 abbrev pub line_at : List ℕ → ℕ → ℕ → ℕ → ℕ → List ℕ
 line_at class x y to_x to_y =
-    codes "<line class='" ++ class ++ codes "' x1='" ++ decimal x ++ codes "' y1='" ++ decimal y
-    ++ codes "' x2='" ++ decimal to_x ++ codes "' y2='" ++ decimal to_y ++ codes "'/>"
+    codes "<line" ++ attribute (codes "class") class ++ number_attribute (codes "x1") x ++ number_attribute (codes "y1") y
+    ++ number_attribute (codes "x2") to_x ++ number_attribute (codes "y2") to_y ++ codes "/>"
 
 -- a path from a place on
+abbrev pub path_start : ℕ → ℕ → List ℕ
+path_start x y = codes " d='M" ++ decimal x ++ codes "," ++ decimal y
+
 abbrev pub path_at : List ℕ → ℕ → ℕ → List ℕ → List ℕ
-path_at class x y path = codes "<path class='" ++ class ++ codes "' d='M" ++ decimal x ++ codes " " ++ decimal y ++ path ++ codes "'/>"
+path_at class x y path = codes "<path" ++ attribute (codes "class") class ++ path_start x y ++ path ++ codes "'/>"
 
 -- ---- shapes
 
@@ -176,8 +187,7 @@ last_row most (x ∷ xs) = last_row (max most (row_of x)) xs
 
 abbrev pub opening : ℕ → ℕ → List ℕ
 opening width height =
-    line (codes "<svg xmlns='http://www.w3.org/2000/svg' width='" ++ decimal width ++ codes "' height='" ++ decimal height
-    ++ codes "' viewBox='0 0 " ++ decimal width ++ codes " " ++ decimal height ++ codes "'>")
+    line (codes "<svg xmlns='http://www.w3.org/2000/svg'" ++ number_attribute (codes "width") width ++ number_attribute (codes "height") height ++ codes ">")
 
 -- black on white: lines of nodes that are down are dotted, arrows that are lost dashed, what stands out is thick, and text has a white edge
 abbrev pub style : List (List ℕ)

@@ -3,7 +3,7 @@ ghost use Rattle.std.specs.Prelude.{◌≡◌, ◌++◌, OnOk, IfOk, flat_map};
 ghost use Rattle.fab_language.specs.Words.{line};
 ghost use Rattle.fab_svg.specs.Svg.{column_of as column_in, events_text, ground_text, last_column as last_column_of, last_row as last_row_of, opening, row_of as row_in, style, svg as svg_of};
 
-use crate::elements::{put, put_number};
+use crate::elements::{put, put_number_attribute};
 use crate::shapes::{put_event, put_ground};
 use fab_base::{NoMemory, Seq};
 use fab_marks::Shape;
@@ -78,15 +78,11 @@ fn last_row(shapes: &[Shape]) -> u32
 fn put_opening(alloc: Global, out: &mut Seq<u8>, width: u64, height: u64) -> Result<(), NoMemory>
     ensures { OnOk result (out.new ≡ out.old ++ opening width height) }
 {
-    put(out, "<svg xmlns='http://www.w3.org/2000/svg' width='")?;
-    put_number(alloc, out, width)?;
-    put(out, "' height='")?;
-    put_number(alloc, out, height)?;
-    put(out, "' viewBox='0 0 ")?;
-    put_number(alloc, out, width)?;
-    put(out, " ")?;
-    put_number(alloc, out, height)?;
-    put(out, "'>\n")
+    put(out, "<svg xmlns='http://www.w3.org/2000/svg'")?;
+    put_number_attribute(alloc, out, "width", width)?;
+    put_number_attribute(alloc, out, "height", height)?;
+    put(out, ">")?;
+    put(out, "\n")
 }
 
 /// How shapes are drawn.

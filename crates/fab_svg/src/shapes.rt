@@ -1,7 +1,7 @@
 //! Shapes, each as a group of elements on a line of its own.
-ghost use Rattle.std.specs.Prelude.{◌≡◌, ◌++◌, OnOk};
+ghost use Rattle.std.specs.Prelude.{◌≡◌, ◌++◌, OnOk, codes};
 ghost use Rattle.fab_language.specs.Words.{line};
-ghost use Rattle.fab_svg.specs.Svg.{arrow_text, beyond, end_text, event_text, ground_text, head_text, life_class as life_class_of, line_at, across as across_of, down as down_of, mark_text, note_text};
+ghost use Rattle.fab_svg.specs.Svg.{arrow_text, beyond, end_text, event_text, ground_text, head_text, life_class as life_class_of, line_at, across as across_of, down as down_of, mark_text, note_text, text_at};
 
 use crate::elements::{put, put_line, put_path, put_text, put_title};
 use crate::places::{above, across, before, behind, down};
@@ -22,7 +22,7 @@ fn put_head(
     label: &[u8],
     name: &[u8],
 ) -> Result<(), NoMemory>
-    ensures { OnOk result (out.new ≡ out.old ++ head_text column role label.now name.now) }
+    ensures { OnOk result (out.new ≡ out.old ++ line (head_text column role label.now name.now)) }
 {
     let left = 135 + 230 * u64::from(column);
     put(out, "<g>")?;
@@ -31,7 +31,8 @@ fn put_head(
     let word = role_word(role).as_bytes();
     put_text(alloc, out, "middle", across(column), 49, word)?;
     put_text(alloc, out, "middle name", across(column), 64, label)?;
-    put(out, "</g>")
+    put(out, "</g>")?;
+    put(out, "\n")
 }
 
 /// A part of a node's line.
@@ -43,10 +44,11 @@ fn put_life(
     to: u32,
     up: bool,
 ) -> Result<(), NoMemory>
-    ensures { OnOk result (out.new ≡ out.old ++ line_at (life_class_of up) (across_of column) (down_of from) (across_of column) (down_of to)) }
+    ensures { OnOk result (out.new ≡ out.old ++ line (line_at (life_class_of up) (across_of column) (down_of from) (across_of column) (down_of to))) }
 {
     let x = across(column);
-    put_line(alloc, out, life_class(up), (x, down(from)), (x, down(to)))
+    put_line(alloc, out, life_class(up), (x, down(from)), (x, down(to)))?;
+    put(out, "\n")
 }
 
 /// The sign of what happens at a node.
@@ -58,14 +60,15 @@ fn put_mark(
     label: &[u8],
     title: &[u8],
 ) -> Result<(), NoMemory>
-    ensures { OnOk result (out.new ≡ out.old ++ mark_text at sign label.now title.now) }
+    ensures { OnOk result (out.new ≡ out.old ++ line (mark_text at sign label.now title.now)) }
 {
     let (x, y) = (across(at.column), down(at.row));
     put(out, "<g>")?;
     put_title(out, title)?;
     put_path(alloc, out, sign_class(sign), x, y, sign_path(sign))?;
     put_text(alloc, out, "start", behind(at.column), above(at.row), label)?;
-    put(out, "</g>")
+    put(out, "</g>")?;
+    put(out, "\n")
 }
 
 /// The cross where a message is lost.
@@ -113,7 +116,7 @@ fn put_arrow(
     label: &[u8],
     title: &[u8],
 ) -> Result<(), NoMemory>
-    ensures { OnOk result (out.new ≡ out.old ++ arrow_text way.from way.to way.lost way.stands_out label.now title.now) }
+    ensures { OnOk result (out.new ≡ out.old ++ line (arrow_text way.from way.to way.lost way.stands_out label.now title.now)) }
 {
     let Way {
         from,
@@ -128,7 +131,8 @@ fn put_arrow(
     put_line(alloc, out, arrow_class(lost), start, end)?;
     put_end(alloc, out, lost, to)?;
     put_beyond(alloc, out, from.column < to.column, to, label)?;
-    put(out, "</g>")
+    put(out, "</g>")?;
+    put(out, "\n")
 }
 
 /// A line at the foot of a node's line.
@@ -139,7 +143,7 @@ fn put_note(
     label: &[u8],
     title: &[u8],
 ) -> Result<(), NoMemory>
-    ensures { OnOk result (out.new ≡ out.old ++ note_text at label.now title.now) }
+    ensures { OnOk result (out.new ≡ out.old ++ line (note_text at label.now title.now)) }
 {
     put(out, "<g>")?;
     put_title(out, title)?;
@@ -151,7 +155,16 @@ fn put_note(
         above(at.row),
         label,
     )?;
-    put(out, "</g>")
+    put(out, "</g>")?;
+    put(out, "\n")
+}
+
+/// A line of text above all.
+fn put_caption(alloc: Global, out: &mut Seq<u8>, text: &[u8]) -> Result<(), NoMemory>
+    ensures { OnOk result (out.new ≡ out.old ++ line (text_at (codes "start") 20 20 text.now)) }
+{
+    put_text(alloc, out, "start", 20, 20, text)?;
+    put(out, "\n")
 }
 
 /// Nodes and what stands at their feet; nothing for an event.
@@ -159,7 +172,7 @@ pub(crate) fn put_ground(alloc: Global, out: &mut Seq<u8>, shape: &Shape) -> Res
     ensures { OnOk result (out.new ≡ out.old ++ ground_text shape.now) }
 {
     match shape {
-        Shape::Caption { text } => put_text(alloc, out, "start", 20, 20, text.as_slice())?,
+        Shape::Caption { text } => put_caption(alloc, out, text.as_slice()),
         Shape::Head {
             column,
             role,
@@ -173,20 +186,19 @@ pub(crate) fn put_ground(alloc: Global, out: &mut Seq<u8>, shape: &Shape) -> Res
                 *role,
                 label.as_slice(),
                 title.as_slice(),
-            )?;
+            )
         }
         Shape::Life {
             column,
             from,
             to,
             up,
-        } => put_life(alloc, out, *column, *from, *to, *up)?,
+        } => put_life(alloc, out, *column, *from, *to, *up),
         Shape::Note { at, label, title } => {
-            put_note(alloc, out, *at, label.as_slice(), title.as_slice())?;
+            put_note(alloc, out, *at, label.as_slice(), title.as_slice())
         }
-        Shape::Mark { .. } | Shape::Arrow { .. } => return Ok(()),
+        Shape::Mark { .. } | Shape::Arrow { .. } => Ok(()),
     }
-    put(out, "\n")
 }
 
 /// The mark of an event; nothing for any other shape.
@@ -199,9 +211,7 @@ pub(crate) fn put_event(alloc: Global, out: &mut Seq<u8>, shape: &Shape) -> Resu
             sign,
             label,
             title,
-        } => {
-            put_mark(alloc, out, *at, *sign, label.as_slice(), title.as_slice())?;
-        }
+        } => { put_mark(alloc, out, *at, *sign, label.as_slice(), title.as_slice()) }
         Shape::Arrow {
             from,
             to,
@@ -216,11 +226,10 @@ pub(crate) fn put_event(alloc: Global, out: &mut Seq<u8>, shape: &Shape) -> Resu
                 lost: *lost,
                 stands_out: *stands_out,
             };
-            put_arrow(alloc, out, way, label.as_slice(), title.as_slice())?;
+            put_arrow(alloc, out, way, label.as_slice(), title.as_slice())
         }
         Shape::Caption { .. } | Shape::Head { .. } | Shape::Life { .. } | Shape::Note { .. } => {
-            return Ok(());
+            Ok(())
         }
     }
-    put(out, "\n")
 }

@@ -1,0 +1,8 @@
+use Rattle.fab_svg.proofs.Chains.{last, then}
+use Rattle.fab_svg.proofs.picture.put_opening.Goals as goal
+
+pub returns : goal.returns
+returns c =
+    last c.put-3.result
+    (then (then (then (then c.in_ok-put.ensures c.in_ok-put_number_attribute.ensures) c.in_ok-put_number_attribute-2.ensures) c.in_ok-put-2.ensures))
+    c.put-3.ensures
