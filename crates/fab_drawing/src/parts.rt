@@ -1,5 +1,5 @@
 //! A text as a bundle with a report behind it.
-ghost use Rattle.std.specs.Prelude.{◌≡◌, ◌≤◌, length, true};
+ghost use Rattle.std.specs.Prelude.{◌≡◌, ◌+◌, ◌≤◌, length, true};
 ghost use Rattle.fab_drawing.specs.Parts.{begins_report as begins_report_at, bundle_length as bundle_length_of, bundle_part, report_part};
 ghost use Rattle.fab_picture.specs.Fitting.{place_behind as place_behind_lines};
 
@@ -33,6 +33,7 @@ fn bundle_length(text: &[u8]) -> usize
 pub(crate) fn parted(text: &[u8]) -> (&[u8], &[u8])
     ensures bundle { result.0.now ≡ bundle_part text.now }
     ensures report { result.1.now ≡ report_part text.now }
+    ensures whole { length result.0.now + length result.1.now ≡ length text.now }
 {
     text.split_at(bundle_length(text))
 }

@@ -119,5 +119,6 @@ pub(crate) fn put_path(
     put_attribute(out, "class", class)?;
     put_start(alloc, out, x, y)?;
     put(out, path)?;
-    put(out, "'/>")
+    put(out, "'/>")?;
+    Ok(())
 }

@@ -82,7 +82,8 @@ fn put_opening(alloc: Global, out: &mut Seq<u8>, width: u64, height: u64) -> Res
     put_number_attribute(alloc, out, "width", width)?;
     put_number_attribute(alloc, out, "height", height)?;
     put(out, ">")?;
-    put(out, "\n")
+    put(out, "\n")?;
+    Ok(())
 }
 
 /// How shapes are drawn.

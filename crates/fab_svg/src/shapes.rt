@@ -1,7 +1,7 @@
 //! Shapes, each as a group of elements on a line of its own.
-ghost use Rattle.std.specs.Prelude.{◌≡◌, ◌++◌, OnOk, codes};
+ghost use Rattle.std.specs.Prelude.{◌≡◌, ◌+◌, ◌*◌, ◌++◌, OnOk, codes, nat_lt};
 ghost use Rattle.fab_language.specs.Words.{line};
-ghost use Rattle.fab_svg.specs.Svg.{arrow_text, beyond, end_text, event_text, ground_text, head_text, life_class as life_class_of, line_at, across as across_of, down as down_of, mark_text, note_text, text_at};
+ghost use Rattle.fab_svg.specs.Svg.{above as above_of, across as across_of, arrow_class as arrow_class_of, arrow_text, beyond, box_class as box_class_of, down as down_of, end_text, event_text, ground_text, group_text, head_text, life_class as life_class_of, line_at, mark_text, note_text, path_at, role_text, sign_class as sign_class_of, sign_path as sign_path_of, text_at};
 
 use crate::elements::{put, put_line, put_path, put_text, put_title};
 use crate::places::{above, across, before, behind, down};
@@ -12,6 +12,29 @@ use fab_base::{NoMemory, Seq};
 use fab_marks::{Shape, Sign, Spot};
 use fab_tree::Role;
 use std::alloc::Global;
+
+/// The box of a node.
+fn put_box(alloc: Global, out: &mut Seq<u8>, column: u32, role: Role) -> Result<(), NoMemory>
+    ensures { OnOk result (out.new ≡ out.old ++ path_at (box_class_of role) (135 + 230 * column) 35 (codes "h210v36h-210z")) }
+{
+    let left = 135 + 230 * u64::from(column);
+    put_path(alloc, out, box_class(role), left, 35, "h210v36h-210z")
+}
+
+/// The kind of a node, in its box.
+fn put_kind(alloc: Global, out: &mut Seq<u8>, column: u32, role: Role) -> Result<(), NoMemory>
+    ensures { OnOk result (out.new ≡ out.old ++ text_at (codes "middle") (across_of column) 49 (role_text role)) }
+{
+    let word = role_word(role).as_bytes();
+    put_text(alloc, out, "middle", across(column), 49, word)
+}
+
+/// The name of a node, in its box.
+fn put_name(alloc: Global, out: &mut Seq<u8>, column: u32, label: &[u8]) -> Result<(), NoMemory>
+    ensures { OnOk result (out.new ≡ out.old ++ text_at (codes "middle name") (across_of column) 64 label.now) }
+{
+    put_text(alloc, out, "middle name", across(column), 64, label)
+}
 
 /// The box of a node, with its kind and name.
 fn put_head(
@@ -24,15 +47,14 @@ fn put_head(
 ) -> Result<(), NoMemory>
     ensures { OnOk result (out.new ≡ out.old ++ line (head_text column role label.now name.now)) }
 {
-    let left = 135 + 230 * u64::from(column);
     put(out, "<g>")?;
     put_title(out, name)?;
-    put_path(alloc, out, box_class(role), left, 35, "h210v36h-210z")?;
-    let word = role_word(role).as_bytes();
-    put_text(alloc, out, "middle", across(column), 49, word)?;
-    put_text(alloc, out, "middle name", across(column), 64, label)?;
+    put_box(alloc, out, column, role)?;
+    put_kind(alloc, out, column, role)?;
+    put_name(alloc, out, column, label)?;
     put(out, "</g>")?;
-    put(out, "\n")
+    put(out, "\n")?;
+    Ok(())
 }
 
 /// A part of a node's line.
@@ -51,24 +73,12 @@ fn put_life(
     put(out, "\n")
 }
 
-/// The sign of what happens at a node.
-fn put_mark(
-    alloc: Global,
-    out: &mut Seq<u8>,
-    at: Spot,
-    sign: Sign,
-    label: &[u8],
-    title: &[u8],
-) -> Result<(), NoMemory>
-    ensures { OnOk result (out.new ≡ out.old ++ line (mark_text at sign label.now title.now)) }
+/// A sign at its place.
+fn put_sign(alloc: Global, out: &mut Seq<u8>, at: Spot, sign: Sign) -> Result<(), NoMemory>
+    ensures { OnOk result (out.new ≡ out.old ++ path_at (sign_class_of sign) (across_of at.column) (down_of at.row) (sign_path_of sign)) }
 {
     let (x, y) = (across(at.column), down(at.row));
-    put(out, "<g>")?;
-    put_title(out, title)?;
-    put_path(alloc, out, sign_class(sign), x, y, sign_path(sign))?;
-    put_text(alloc, out, "start", behind(at.column), above(at.row), label)?;
-    put(out, "</g>")?;
-    put(out, "\n")
+    put_path(alloc, out, sign_class(sign), x, y, sign_path(sign))
 }
 
 /// The cross where a message is lost.
@@ -99,6 +109,26 @@ fn put_beyond(
     }
 }
 
+/// The sign of what happens at a node.
+fn put_mark(
+    alloc: Global,
+    out: &mut Seq<u8>,
+    at: Spot,
+    sign: Sign,
+    label: &[u8],
+    title: &[u8],
+) -> Result<(), NoMemory>
+    ensures { OnOk result (out.new ≡ out.old ++ line (mark_text at sign label.now title.now)) }
+{
+    put(out, "<g>")?;
+    put_title(out, title)?;
+    put_sign(alloc, out, at, sign)?;
+    put_beyond(alloc, out, true, at, label)?;
+    put(out, "</g>")?;
+    put(out, "\n")?;
+    Ok(())
+}
+
 /// How a message went.
 #[derive(Clone, Copy)]
 struct Way {
@@ -106,6 +136,31 @@ struct Way {
     to: Spot,
     lost: bool,
     stands_out: bool,
+}
+
+/// The line of a message.
+fn put_way(alloc: Global, out: &mut Seq<u8>, way: Way) -> Result<(), NoMemory>
+    ensures { OnOk result (out.new ≡ out.old ++ line_at (arrow_class_of way.lost) (across_of way.from.column) (down_of way.from.row) (across_of way.to.column) (down_of way.to.row)) }
+{
+    let Way { from, to, lost, .. } = way;
+    let start = (across(from.column), down(from.row));
+    let end = (across(to.column), down(to.row));
+    put_line(alloc, out, arrow_class(lost), start, end)
+}
+
+/// What opens the group of a message.
+fn put_group(out: &mut Seq<u8>, stands_out: bool) -> Result<(), NoMemory>
+    ensures { OnOk result (out.new ≡ out.old ++ group_text stands_out) }
+{
+    put(out, group_opening(stands_out))
+}
+
+/// The label of a message.
+fn put_label(alloc: Global, out: &mut Seq<u8>, way: Way, label: &[u8]) -> Result<(), NoMemory>
+    ensures { OnOk result (out.new ≡ out.old ++ beyond (nat_lt way.from.column way.to.column) way.to label.now) }
+{
+    let Way { from, to, .. } = way;
+    put_beyond(alloc, out, from.column < to.column, to, label)
 }
 
 /// The arrow of a message.
@@ -118,21 +173,28 @@ fn put_arrow(
 ) -> Result<(), NoMemory>
     ensures { OnOk result (out.new ≡ out.old ++ line (arrow_text way.from way.to way.lost way.stands_out label.now title.now)) }
 {
-    let Way {
-        from,
-        to,
-        lost,
-        stands_out,
-    } = way;
-    let start = (across(from.column), down(from.row));
-    let end = (across(to.column), down(to.row));
-    put(out, group_opening(stands_out))?;
+    put_group(out, way.stands_out)?;
     put_title(out, title)?;
-    put_line(alloc, out, arrow_class(lost), start, end)?;
-    put_end(alloc, out, lost, to)?;
-    put_beyond(alloc, out, from.column < to.column, to, label)?;
+    put_way(alloc, out, way)?;
+    put_end(alloc, out, way.lost, way.to)?;
+    put_label(alloc, out, way, label)?;
     put(out, "</g>")?;
-    put(out, "\n")
+    put(out, "\n")?;
+    Ok(())
+}
+
+/// The label at the foot of a node's line.
+fn put_foot(alloc: Global, out: &mut Seq<u8>, at: Spot, label: &[u8]) -> Result<(), NoMemory>
+    ensures { OnOk result (out.new ≡ out.old ++ text_at (codes "middle") (across_of at.column) (above_of at.row) label.now) }
+{
+    put_text(
+        alloc,
+        out,
+        "middle",
+        across(at.column),
+        above(at.row),
+        label,
+    )
 }
 
 /// A line at the foot of a node's line.
@@ -147,16 +209,10 @@ fn put_note(
 {
     put(out, "<g>")?;
     put_title(out, title)?;
-    put_text(
-        alloc,
-        out,
-        "middle",
-        across(at.column),
-        above(at.row),
-        label,
-    )?;
+    put_foot(alloc, out, at, label)?;
     put(out, "</g>")?;
-    put(out, "\n")
+    put(out, "\n")?;
+    Ok(())
 }
 
 /// A line of text above all.
