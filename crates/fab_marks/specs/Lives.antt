@@ -10,11 +10,7 @@ use Rattle.fab_marks.specs.declared.moves.Move.{Move}
 abbrev pub up_at : Sign → Bool → Bool
 up_at s.Crash up = false
 up_at s.Recover up = true
-up_at s.Begin up = up
-up_at s.Resume up = up
-up_at s.Deliver up = up
-up_at s.Post up = up
-up_at s.Idle up = up
+up_at _ up = up
 
 -- an event that is cut is a crash
 abbrev pub up_behind : ℕ → Bool → Move → Bool

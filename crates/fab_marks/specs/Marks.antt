@@ -32,11 +32,7 @@ post_mark r set false row x =
 abbrev pub mark_by : Resolved → List (List ℕ) → List Move → List Move → ℕ → Move → Sign → Shape
 mark_by r set past front row x s.Deliver = delivery_mark r set front row x
 mark_by r set past front row x s.Post = post_mark r set (is_up x.other (is_up x.other true past) front) row x
-mark_by r set past front row x s.Begin = sign_mark r row x
-mark_by r set past front row x s.Resume = sign_mark r row x
-mark_by r set past front row x s.Idle = sign_mark r row x
-mark_by r set past front row x s.Crash = sign_mark r row x
-mark_by r set past front row x s.Recover = sign_mark r row x
+mark_by r set past front row x _ = sign_mark r row x
 
 abbrev pub mark_of : Resolved → List (List ℕ) → List Move → List Move → ℕ → Move → Shape
 mark_of r set past front row x = mark_by r set past front row x x.sign

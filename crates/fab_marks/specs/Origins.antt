@@ -34,48 +34,23 @@ ends t _ = false
 -- inquiry, at silence and when it recovers it says again how it decided.
 abbrev pub asks_at : Sign → Bool
 asks_at s.Resume = true
-asks_at s.Begin = false
-asks_at s.Deliver = false
-asks_at s.Post = false
-asks_at s.Idle = false
-asks_at s.Crash = false
-asks_at s.Recover = false
+asks_at _ = false
 
 abbrev pub recovers_at : Sign → Bool
 recovers_at s.Recover = true
-recovers_at s.Begin = false
-recovers_at s.Resume = false
-recovers_at s.Deliver = false
-recovers_at s.Post = false
-recovers_at s.Idle = false
-recovers_at s.Crash = false
+recovers_at _ = false
 
 abbrev pub delivers_at : Sign → Bool
 delivers_at s.Deliver = true
-delivers_at s.Begin = false
-delivers_at s.Resume = false
-delivers_at s.Post = false
-delivers_at s.Idle = false
-delivers_at s.Crash = false
-delivers_at s.Recover = false
+delivers_at _ = false
 
 abbrev pub is_silence : Sign → Bool
 is_silence s.Idle = true
-is_silence s.Begin = false
-is_silence s.Resume = false
-is_silence s.Deliver = false
-is_silence s.Post = false
-is_silence s.Crash = false
-is_silence s.Recover = false
+is_silence _ = false
 
 abbrev pub is_post : Sign → Bool
 is_post s.Post = true
-is_post s.Begin = false
-is_post s.Resume = false
-is_post s.Deliver = false
-is_post s.Idle = false
-is_post s.Crash = false
-is_post s.Recover = false
+is_post _ = false
 
 -- at the delivery of an answer or an inquiry, at silence, or in coming back
 abbrev pub decides : Tid → Move → Bool

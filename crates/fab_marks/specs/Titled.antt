@@ -1,8 +1,14 @@
--- The title of a shape, and the row in which it stands.
-use Rattle.std.specs.Prelude.{ℕ, suc, List, [], ◌∷◌}
+-- Which shapes are the marks of events, the title of a shape, and the row in which it stands.
+use Rattle.std.specs.Prelude.{ℕ, suc, Bool, true, false, List, [], ◌∷◌}
 use Rattle.fab_marks.specs.declared.shape.Shape.{Shape}
 use Rattle.fab_marks.specs.declared.shape.Shape.TheVariants as s
 use Rattle.fab_marks.specs.declared.moves.Move.{Move}
+
+-- whether it is the mark of an event
+abbrev pub is_event : Shape → Bool
+is_event (s.Mark at sign label title) = true
+is_event (s.Arrow from to lost stands_out label title) = true
+is_event _ = false
 
 abbrev pub title_in : Shape → List ℕ
 title_in (s.Caption text) = text

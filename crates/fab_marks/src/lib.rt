@@ -2,6 +2,7 @@
 #![tactic(auto)]
 
 mod labels;
+mod laws;
 mod lives;
 mod marks;
 mod moves;
@@ -10,6 +11,7 @@ mod origins;
 mod shape;
 mod texts;
 
+pub use laws::each_event_has_its_mark;
 pub use lives::{is_up, put_lives};
 pub use marks::put_marks;
 pub use moves::Move;

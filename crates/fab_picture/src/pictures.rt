@@ -1,7 +1,7 @@
 //! The shapes of a picture, in order.
-ghost use Rattle.std.specs.Prelude.{◌≡◌, ◌++◌, ◌<◌, ◌≤◌, ◌^◌, OnOk, IfOk, length};
+ghost use Rattle.std.specs.Prelude.{◌≡◌, ◌++◌, ◌<◌, ◌≤◌, ◌^◌, ◌∷◌, [], Some, OnOk, IfOk, length};
 ghost use Rattle.fab_picture.specs.Moves.{before, within};
-ghost use Rattle.fab_picture.specs.Picture.{all_lives, caption, heads, picture};
+ghost use Rattle.fab_picture.specs.Picture.{all_lives, caption, head_of, heads, picture};
 
 use crate::events::moves;
 use crate::foot::Foot;
@@ -58,7 +58,9 @@ fn caption(
 }
 
 /// The head of a worker's or store's line.
-fn head_of(alloc: Global, principal: &Principal, node: u16) -> Result<Shape, NoMemory> {
+fn head_of(alloc: Global, principal: &Principal, node: u16) -> Result<Shape, NoMemory>
+    ensures { IfOk result (λ shape. head_of principal.now (Some node) ≡ shape ∷ []) }
+{
     let name = principal.name.text.as_str().as_bytes();
     let mut label = Seq::new(alloc);
     put_short(&mut label, 24, name)?;
