@@ -30,5 +30,6 @@ returns-else-are_nodes c =
     let p = rw c.in-Ok.is at c.in_ok-named.ensures in
     let s = c.args.start.now in
     let are = subst (λ (r : Resolved). are_nodes r c.args.asked.now.nodes ≡ false) p.1 (sym (c.are_nodes.ensures) ∙ c.if-are_nodes.false) in
-    if_ended (Draws s c.args.asked.now c.args.bundle.now c.args.report.now) (Plain (Name Unknown (length c.args.bundle.now))) (name_line Unknown (length c.args.bundle.now))
+    let at = length c.args.bundle.now in
+    if_ended (Draws s c.args.asked.now c.args.bundle.now c.args.report.now) (Plain (Name Unknown at)) (name_line Unknown at)
     c.unnamed.result c.unnamed.ensures (unknown p.0 are)

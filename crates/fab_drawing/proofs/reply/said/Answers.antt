@@ -16,7 +16,8 @@ use Rattle.fab_drawing.proofs.reply.said.Goals as goal
 
 pub returns-then-text-gt-BYTES : goal.returns-then-text-gt-BYTES
 returns-then-text-gt-BYTES c =
-    if_ended (Says c.args.asked.now c.args.text.now) (Plain (Limit Bytes)) (line (codes "limit " ++ what_word Bytes)) c.limited.result c.limited.ensures (too_long (search rules))
+    if_ended (Says c.args.asked.now c.args.text.now) (Plain (Limit Bytes)) (line (codes "limit " ++ what_word Bytes)) c.limited.result c.limited.ensures
+    (too_long (search rules))
 
 pub drawing-requires-clause-passed : goal.drawing-requires-clause-passed
 drawing-requires-clause-passed c = let p = rw c.in-Bundle.is at c.in_ok-front.ensures in within p.is
@@ -32,10 +33,12 @@ pub returns-in-Limit : goal.returns-in-Limit
 returns-in-Limit c =
     let what = c.in-Limit.what in
     let p = subst (λ l. IsFront l (outcome.Limit what)) c.parted.ensures.bundle (rw c.in-Limit.is at c.in_ok-front.ensures) in
-    if_ended (Says c.args.asked.now c.args.text.now) (Plain (Limit what)) (line (codes "limit " ++ what_word what)) c.limited.result c.limited.ensures (limit (search rules) p)
+    if_ended (Says c.args.asked.now c.args.text.now) (Plain (Limit what)) (line (codes "limit " ++ what_word what)) c.limited.result c.limited.ensures
+    (limit (search rules) p)
 
 pub returns-in-Syntax : goal.returns-in-Syntax
 returns-in-Syntax c =
     let at = c.in-Syntax.at in
     let p = subst (λ l. IsFront l (outcome.Syntax at)) c.parted.ensures.bundle (rw c.in-Syntax.is at c.in_ok-front.ensures) in
-    if_ended (Says c.args.asked.now c.args.text.now) (Plain (Syntax at)) (line (codes "syntax at " ++ decimal at)) c.unspelled.result c.unspelled.ensures (syntax (search rules) p)
+    if_ended (Says c.args.asked.now c.args.text.now) (Plain (Syntax at)) (line (codes "syntax at " ++ decimal at)) c.unspelled.result c.unspelled.ensures
+    (syntax (search rules) p)
