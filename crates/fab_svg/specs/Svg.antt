@@ -193,7 +193,7 @@ opening width height =
 abbrev pub style : List (List ℕ)
 style =
     codes "<style>"
-    ∷ codes "text { font: 11px monospace; paint-order: stroke; stroke: white; stroke-width: 6px; stroke-linejoin: round; }"
+    ∷ codes "text { font: 11px monospace; paint-order: stroke; stroke: white; stroke-width: 8px; stroke-linejoin: round; }"
     ∷ codes ".start { text-anchor: start; } .middle { text-anchor: middle; } .end { text-anchor: end; } .name { font-weight: bold; font-size: 12px; }"
     ∷ codes "line, path { stroke: black; fill: none; } .box { fill: white; } .hostile { stroke-width: 3px; stroke-dasharray: 8 3; }"
     ∷ codes ".full { fill: black; } .empty { fill: white; } .cross { stroke-width: 2px; } .down { stroke-dasharray: 1 5; stroke-width: 2px; }"

@@ -12,7 +12,7 @@ use std::alloc::Global;
 /// Black on white: lines of nodes that are down are dotted, arrows that are lost dashed, what stands out is
 /// thick, and text has a white edge.
 const STYLE: &str = "<style>
-text { font: 11px monospace; paint-order: stroke; stroke: white; stroke-width: 6px; stroke-linejoin: round; }
+text { font: 11px monospace; paint-order: stroke; stroke: white; stroke-width: 8px; stroke-linejoin: round; }
 .start { text-anchor: start; } .middle { text-anchor: middle; } .end { text-anchor: end; } .name { font-weight: bold; font-size: 12px; }
 line, path { stroke: black; fill: none; } .box { fill: white; } .hostile { stroke-width: 3px; stroke-dasharray: 8 3; }
 .full { fill: black; } .empty { fill: white; } .cross { stroke-width: 2px; } .down { stroke-dasharray: 1 5; stroke-width: 2px; }
