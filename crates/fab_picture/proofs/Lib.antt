@@ -1,1 +1,2 @@
+pub mod Feet
 pub mod Shown

@@ -1,0 +1,6 @@
+use Rattle.std.proofs.lemmas.List.{take_min}
+use Rattle.fab_picture.specs.Picture.{most_feet}
+use Rattle.fab_picture.proofs.pictures.most.Goals as goal
+
+pub returns-clause-feet : goal.returns-clause-feet
+returns-clause-feet c = ?
