@@ -4,7 +4,6 @@ use Rattle.std.specs.List.{filter}
 use Rattle.fab_tree.specs.declared.resolved.Resolved.{Resolved}
 use Rattle.fab_marks.specs.declared.shape.Sign.{Sign}
 use Rattle.fab_marks.specs.declared.shape.Sign.TheVariants as s
-use Rattle.fab_marks.specs.declared.shape.Shape.{Shape}
 use Rattle.fab_marks.specs.declared.moves.Move.{Move}
 use Rattle.fab_marks.specs.Labels.{title_of}
 use Rattle.fab_marks.specs.Marks.{mark_by, mark_of, marks, post_mark}

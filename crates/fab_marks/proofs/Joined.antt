@@ -1,5 +1,5 @@
 -- Texts put together.
-use Rattle.std.proofs.Common.{◌≡◌, ℕ, List, ◌++◌, Some, find, sym, ap, ◌∙◌, append_assoc}
+use Rattle.std.proofs.Common.{◌≡◌, ℕ, List, ◌++◌, Some, find, ap, ◌∙◌, append_assoc}
 use Rattle.fab_base.specs.declared.object.Oid.{Oid}
 use Rattle.fab_base.specs.FlatMap.{is_same}
 use Rattle.fab_tree.specs.declared.resolved.Root.{Root}

@@ -1,5 +1,5 @@
 -- When nodes are up and when they are down.
-use Rattle.std.specs.Prelude.{ℕ, suc, ◌==◌, not, Bool, true, false, List, [], ◌∷◌, Option, Some, None, is_some, if◌then◌else◌}
+use Rattle.std.specs.Prelude.{ℕ, suc, ◌==◌, not, Bool, true, false, List, [], ◌∷◌, is_some, if◌then◌else◌}
 use Rattle.fab_marks.specs.declared.shape.Sign.{Sign}
 use Rattle.fab_marks.specs.declared.shape.Sign.TheVariants as s
 use Rattle.fab_marks.specs.declared.shape.Shape.{Shape}

@@ -1,5 +1,5 @@
 -- One shape for each event.
-use Rattle.std.specs.Prelude.{ℕ, suc, Bool, true, false, List, [], ◌∷◌, ◌++◌, is_some, if◌then◌else◌}
+use Rattle.std.specs.Prelude.{ℕ, suc, Bool, true, false, List, [], ◌∷◌, ◌++◌, is_some}
 use Rattle.fab_tree.specs.declared.resolved.Resolved.{Resolved}
 use Rattle.fab_marks.specs.declared.shape.Sign.{Sign}
 use Rattle.fab_marks.specs.declared.shape.Sign.TheVariants as s

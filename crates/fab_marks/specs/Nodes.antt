@@ -1,5 +1,5 @@
 -- Nodes of a bundle by their names, and the sets of them that words name.
-use Rattle.std.specs.Prelude.{ℕ, ◌&&◌, ◌||◌, not, Bool, true, false, List, [], ◌∷◌, Option, is_some, option_and_then, unwrap_or, find}
+use Rattle.std.specs.Prelude.{ℕ, ◌&&◌, ◌||◌, not, Bool, false, List, [], ◌∷◌, Option, is_some, option_and_then, unwrap_or, find}
 use Rattle.std.specs.List.{list_all, list_any}
 use Rattle.std.specs.Str.{bytes_eq}
 use Rattle.fab_tree.specs.declared.resolved.Principal.{Principal}

@@ -1,5 +1,5 @@
 -- Which shapes of a picture are those of events.
-use Rattle.std.proofs.Common.{◌≡◌, ℕ, suc, ◌+◌, Bool, true, false, cond, not, List, [], ◌∷◌, ◌++◌, length, take, map, flat_map, Option, Some, None, refl, sym, ap, ◌∙◌}
+use Rattle.std.proofs.Common.{◌≡◌, ℕ, suc, ◌+◌, Bool, true, false, cond, not, List, [], ◌∷◌, ◌++◌, length, take, map, Option, Some, None, refl, ap, ◌∙◌}
 use Rattle.std.specs.List.{filter}
 use Rattle.std.proofs.lemmas.List.{append-nil}
 use Rattle.std.proofs.lemmas.List.Elements.{filter-append}
@@ -24,7 +24,7 @@ events_of = filter is_event
 
 -- lists without an event, one after the other
 none_in : (xs ys : List Shape) → events_of xs ≡ [] → events_of ys ≡ [] → events_of (xs ++ ys) ≡ []
-none_in xs ys no nor = filter-append is_event xs ys ∙ ap (λ l. l ++ events_of ys) no ∙ nor
+none_in xs ys ahead after = filter-append is_event xs ys ∙ ap (λ l. l ++ events_of ys) ahead ∙ after
 
 no_head : (x : Principal) (n : Option ℕ) → events_of (head_of x n) ≡ []
 no_head x (Some n) = refl
@@ -36,8 +36,8 @@ no_heads (x ∷ xs) = none_in (head_of x x.node) (heads xs) (no_head x x.node) (
 
 no_part : (b : Bool) (n start row : ℕ) (up : Bool) (one other : List Shape) → events_of one ≡ [] → events_of other ≡ []
     → events_of (cond b one (Life n start row up ∷ other)) ≡ []
-no_part true n start row up one other no nor = no
-no_part false n start row up one other no nor = nor
+no_part true n start row up one other ahead after = ahead
+no_part false n start row up one other ahead after = after
 
 no_life : (n : ℕ) (up : Bool) (start row : ℕ) (xs : List Move) → events_of (lives n up start row xs) ≡ []
 no_life n up start row [] = refl
@@ -60,12 +60,12 @@ no_notes first front (x ∷ xs) = no_notes first (front ++ x ∷ []) xs
 -- what stands in front of the marks and behind them is none
 between : (front marked behind : List Shape) → events_of front ≡ [] → events_of marked ≡ marked → events_of behind ≡ []
     → events_of (front ++ marked ++ behind) ≡ marked
-between front marked behind no all nor =
+between front marked behind ahead all after =
     filter-append is_event (front ++ marked) behind
     ∙ ap (λ l. l ++ events_of behind) (filter-append is_event front marked)
-    ∙ ap (λ l. l ++ events_of marked ++ events_of behind) no
+    ∙ ap (λ l. l ++ events_of marked ++ events_of behind) ahead
     ∙ ap (λ l. l ++ events_of behind) all
-    ∙ ap (λ l. marked ++ l) nor
+    ∙ ap (λ l. marked ++ l) after
     ∙ append-nil marked
 
 in_shapes : (r : Resolved) (set : List (List ℕ)) (from : ℕ) (all past drawn : List Move) (ends : List Foot)

@@ -1,7 +1,6 @@
 -- What stands at the foot of a node's line: commits and outcomes of a worker, objects of a store.
 use Rattle.std.specs.Prelude.{ℕ, ◌+◌, ◌==◌, List, [], ◌∷◌, ◌++◌, codes, count_by, flat_map}
 use Rattle.std.specs.Fmt.{decimal, signed_decimal}
-use Rattle.fab_net.specs.declared.outcome.Denial.{Denial}
 use Rattle.fab_tree.specs.declared.resolved.Resolved.{Resolved}
 use Rattle.fab_language.specs.Words.{stop_text}
 use Rattle.fab_trace.specs.Report.{denial_text}

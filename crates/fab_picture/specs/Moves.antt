@@ -1,5 +1,5 @@
 -- The events of a report with the numbers of their nodes.
-use Rattle.std.specs.Prelude.{ℕ, ◌-◌, suc, nat_lt, List, [], ◌∷◌, Option, Some, None, flat_map, take, drop, if◌then◌else◌}
+use Rattle.std.specs.Prelude.{ℕ, ◌-◌, List, [], ◌∷◌, Option, Some, None, flat_map, take, drop}
 use Rattle.fab_tree.specs.declared.resolved.Resolved.{Resolved}
 use Rattle.fab_reports.specs.declared.line.ShownInner.{ShownInner}
 use Rattle.fab_reports.specs.declared.line.ShownInner.TheVariants as i

@@ -1,5 +1,5 @@
 -- The picture of a report: its shapes, in order.
-use Rattle.std.specs.Prelude.{ℕ, ◌+◌, suc, true, List, [], ◌∷◌, ◌++◌, codes, flat_map, length, take, Option, Some, None}
+use Rattle.std.specs.Prelude.{ℕ, ◌+◌, true, List, [], ◌∷◌, ◌++◌, codes, flat_map, length, take, Option, Some, None}
 use Rattle.std.specs.Fmt.{decimal}
 use Rattle.fab_tree.specs.declared.resolved.Principal.{Principal}
 use Rattle.fab_tree.specs.declared.resolved.Resolved.{Resolved}

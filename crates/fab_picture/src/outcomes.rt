@@ -2,7 +2,7 @@
 ghost use Rattle.std.specs.Prelude.{◌≡◌, ◌++◌, OnOk, IfOk, option_to_list};
 ghost use Rattle.std.specs.Fmt.{decimal};
 ghost use Rattle.fab_trace.specs.Report.{denial_text};
-ghost use Rattle.fab_picture.specs.Ends.{attempt, commit_text, ending_text, feet, held_text, outcome_text, shown_name, shown_value, values_text};
+ghost use Rattle.fab_picture.specs.Ends.{attempt, commit_text, ending_text, feet, feet_in, held_text, outcome_text, shown_name, shown_value, values_text};
 
 use crate::events::number;
 use crate::foot::Foot;
@@ -87,39 +87,38 @@ fn denial_word(denial: Denial) -> &'static str
 }
 
 /// How a request ended.
-fn put_ending(
-    alloc: Global,
-    out: &mut Seq<u8>,
-    start: &Resolved,
-    ending: &ShownEnding,
-) -> Result<(), NoMemory>
-    ensures { OnOk result (out.new ≡ out.old ++ ending_text start.now ending.now) }
+fn ending_of(alloc: Global, start: &Resolved, ending: &ShownEnding) -> Result<Seq<u8>, NoMemory>
+    ensures { IfOk result (λ text. text ≡ ending_text start.now ending.now) }
 {
     match ending {
         ShownEnding::Committed { attempt, result } => {
-            out.extend(b"committed ")?;
-            put_attempt(alloc, out, *attempt)?;
-            out.extend(b" ")?;
-            put_value(alloc, out, start, result)
+            let mut text = Seq::from_slice(alloc, b"committed ")?;
+            put_attempt(alloc, &mut text, *attempt)?;
+            text.extend(b" ")?;
+            put_value(alloc, &mut text, start, result)?;
+            Ok(text)
         }
-        ShownEnding::Failed => out.extend(b"failed"),
-        ShownEnding::Conflict => out.extend(b"conflict"),
+        ShownEnding::Failed => Seq::from_slice(alloc, b"failed"),
+        ShownEnding::Conflict => Seq::from_slice(alloc, b"conflict"),
         ShownEnding::Silent { node } => {
-            out.extend(b"silent ")?;
-            put_text(out, node)
+            let mut text = Seq::from_slice(alloc, b"silent ")?;
+            put_text(&mut text, node)?;
+            Ok(text)
         }
         ShownEnding::Denied { node, denial } => {
-            out.extend(b"denied ")?;
-            put_text(out, node)?;
-            out.extend(b" ")?;
-            out.extend(denial_word(*denial).as_bytes())
+            let mut text = Seq::from_slice(alloc, b"denied ")?;
+            put_text(&mut text, node)?;
+            text.extend(b" ")?;
+            text.extend(denial_word(*denial).as_bytes())?;
+            Ok(text)
         }
         ShownEnding::Stopped { stop } => {
-            out.extend(b"stopped ")?;
-            out.extend(stop_word(*stop).as_bytes())
+            let mut text = Seq::from_slice(alloc, b"stopped ")?;
+            text.extend(stop_word(*stop).as_bytes())?;
+            Ok(text)
         }
-        ShownEnding::NodeDown => out.extend(b"down"),
-        ShownEnding::Unfinished => out.extend(b"open"),
+        ShownEnding::NodeDown => Seq::from_slice(alloc, b"down"),
+        ShownEnding::Unfinished => Seq::from_slice(alloc, b"open"),
     }
 }
 
@@ -127,8 +126,7 @@ fn put_ending(
 fn commit_of(alloc: Global, at: u32, commit: &ShownCommit) -> Result<Seq<u8>, NoMemory>
     ensures { IfOk result (λ text. text ≡ commit_text at commit.now) }
 {
-    let mut text = Seq::new(alloc);
-    text.extend(b"commit ")?;
+    let mut text = Seq::from_slice(alloc, b"commit ")?;
     put_number(alloc, &mut text, at)?;
     text.extend(b": request ")?;
     put_number(alloc, &mut text, commit.request)?;
@@ -141,11 +139,11 @@ fn commit_of(alloc: Global, at: u32, commit: &ShownCommit) -> Result<Seq<u8>, No
 fn outcome_of(alloc: Global, start: &Resolved, outcome: &ShownOutcome) -> Result<Seq<u8>, NoMemory>
     ensures { IfOk result (λ text. text ≡ outcome_text start.now outcome.now) }
 {
-    let mut text = Seq::new(alloc);
-    text.extend(b"request ")?;
+    let ending = ending_of(alloc, start, &outcome.ending)?;
+    let mut text = Seq::from_slice(alloc, b"request ")?;
     put_number(alloc, &mut text, outcome.request)?;
     text.extend(b": ")?;
-    put_ending(alloc, &mut text, start, &outcome.ending)?;
+    text.extend(ending.as_slice())?;
     Ok(text)
 }
 

@@ -1,7 +1,8 @@
 //! The shapes of a picture, in order.
-ghost use Rattle.std.specs.Prelude.{◌≡◌, ◌++◌, ◌<◌, ◌≤◌, ◌^◌, ◌∷◌, [], Some, OnOk, IfOk, length};
+ghost use Rattle.std.specs.Prelude.{◌≡◌, ◌++◌, ◌<◌, ◌≤◌, ◌^◌, ◌∷◌, [], Some, OnOk, IfOk, length, take};
+ghost use Rattle.std.specs.Fmt.{decimal};
 ghost use Rattle.fab_picture.specs.Moves.{before, within};
-ghost use Rattle.fab_picture.specs.Picture.{all_lives, caption, head_of, heads, picture};
+ghost use Rattle.fab_picture.specs.Picture.{all_lives, caption, head_of, heads, most_feet, picture};
 
 use crate::events::moves;
 use crate::foot::Foot;
@@ -33,7 +34,23 @@ fn within(from: u32, to: u32, events: &[Move]) -> &[Move]
     let front = &events[..(to as usize).min(events.len())];
     let skipped = from.saturating_sub(1) as usize;
     let rest = &front[skipped.min(front.len())..];
-    &rest[..rest.len().min(MOST_EVENTS)]
+    &rest[..MOST_EVENTS.min(rest.len())]
+}
+
+/// The lines of what came of a run that are drawn, at most 200.
+fn most(feet: &[Foot]) -> &[Foot]
+    ensures feet { result.now ≡ take most_feet feet.now }
+    ensures few { length result.now ≤ 200 }
+{
+    &feet[..MOST_FEET.min(feet.len())]
+}
+
+/// How many there are.
+fn put_count(alloc: Global, out: &mut Seq<u8>, count: usize) -> Result<(), NoMemory>
+    ensures { OnOk result (out.new ≡ out.old ++ decimal count) }
+{
+    let text = format!(in alloc; "{count}")?;
+    out.extend(text.as_str().as_bytes())
 }
 
 /// What is drawn, and what was left out: numbers of events and of lines of what came of them.
@@ -47,14 +64,18 @@ fn caption(
 ) -> Result<Seq<u8>, NoMemory>
     ensures { IfOk result (λ text. text ≡ caption from drawn.now all.now feet_drawn.now all_feet.now) }
 {
-    let some = drawn.len();
-    let many = all.len();
-    let feet = feet_drawn.len();
-    let lines = all_feet.len();
-    let text = format!(in alloc;
-        "{some} of {many} events, from number {from} on, and {feet} of {lines} lines of what came of them"
-    )?;
-    Seq::from_slice(alloc, text.as_str().as_bytes())
+    let mut text = Seq::new(alloc);
+    put_count(alloc, &mut text, drawn.len())?;
+    text.extend(b" of ")?;
+    put_count(alloc, &mut text, all.len())?;
+    text.extend(b" events, from number ")?;
+    put_count(alloc, &mut text, from as usize)?;
+    text.extend(b" on, and ")?;
+    put_count(alloc, &mut text, feet_drawn.len())?;
+    text.extend(b" of ")?;
+    put_count(alloc, &mut text, all_feet.len())?;
+    text.extend(b" lines of what came of them")?;
+    Ok(text)
 }
 
 /// The head of a worker's or store's line.
@@ -123,7 +144,7 @@ pub fn picture(
     let drawn = within(from, to, all);
     let ends = feet(alloc, start, lines)?;
     let all_feet = ends.as_slice();
-    let feet_drawn = &all_feet[..all_feet.len().min(MOST_FEET)];
+    let feet_drawn = most(all_feet);
     let text = caption(alloc, from, drawn, all, feet_drawn, all_feet)?;
     let mut shapes = Seq::new(alloc);
     shapes.push(Shape::Caption { text })?;
