@@ -3,8 +3,8 @@ use Rattle.fab_drawing.specs.Drawing.{Says}
 use Rattle.fab_drawing.specs.Endings.{reply, usage}
 use Rattle.fab_drawing.proofs.drawing.reply.Goals as goal
 
-pub returns-in_ok-usage-in-None-clause-given : goal.returns-in_ok-usage-in-None-clause-given
-returns-in_ok-usage-in-None-clause-given g c = let e = c.in_ok-usage-in-None.ensures in rw (c.in-None.is, e.0, e.1) usage
+pub returns-in_ok-status-in-None-clause-given : goal.returns-in_ok-status-in-None-clause-given
+returns-in_ok-status-in-None-clause-given g c = let e = c.in_ok-status-in-None.ensures in rw (c.in-None.is, e.0, e.1) usage
 
 pub returns-in_ok-said-in-Some-clause-given : goal.returns-in_ok-said-in-Some-clause-given
 returns-in_ok-said-in-Some-clause-given g c =

@@ -12,22 +12,22 @@ use Rattle.fab_drawing.proofs.reply.drawing.Goals as goal
 
 pub returns-in-Err : goal.returns-in-Err
 returns-in-Err c =
-    let p = rw c.in-Err.is at c.in_ok-named.ensures in
+    let p = rw c.in-Err.is at c.in_ok-fault.ensures in
     let x = c.in-Err.fault in
     if_ended (Draws c.args.start.now c.args.asked.now c.args.bundle.now c.args.report.now) (Plain (Name x.rule x.at)) (name_line x.rule x.at) c.misnamed.result
     c.misnamed.ensures (misnamed p)
 
 pub returns-then-are_nodes : goal.returns-then-are_nodes
 returns-then-are_nodes c =
-    let p = rw c.in-Ok.is at c.in_ok-named.ensures in
+    let p = rw c.in-Ok.is at c.in_ok-fault.ensures in
     let s = c.args.start.now in
     let are = subst (λ (r : Resolved). are_nodes r c.args.asked.now.nodes ≡ true) p.1 (sym (c.are_nodes.ensures) ∙ c.if-are_nodes.true) in
     if_so (Traces (resolved s) c.args.asked.now c.args.bundle.now c.args.report.now) (Draws s c.args.asked.now c.args.bundle.now c.args.report.now) c.traced.result
     (λ e l h. traced p.0 are h) (rw p.1 at c.traced.ensures)
 
-pub returns-else-are_nodes : goal.returns-else-are_nodes
-returns-else-are_nodes c =
-    let p = rw c.in-Ok.is at c.in_ok-named.ensures in
+pub returns : goal.returns
+returns c =
+    let p = rw c.in-Ok.is at c.in_ok-fault.ensures in
     let s = c.args.start.now in
     let are = subst (λ (r : Resolved). are_nodes r c.args.asked.now.nodes ≡ false) p.1 (sym (c.are_nodes.ensures) ∙ c.if-are_nodes.false) in
     let at = length c.args.bundle.now in
