@@ -21,7 +21,7 @@ pub returns-then-are_nodes : goal.returns-then-are_nodes
 returns-then-are_nodes c =
     let p = rw c.in-Ok.is at c.in_ok-fault.ensures in
     let s = c.args.start.now in
-    let are = subst (λ (r : Resolved). are_nodes r c.args.asked.now.nodes ≡ true) p.1 (sym (c.are_nodes.ensures) ∙ c.if-are_nodes.true) in
+    let are = subst (λ (r : Resolved). are_nodes r c.args.asked.now.nodes ≡ true) p.1 (sym (rw c.as_slice.ensures at c.are_nodes.ensures) ∙ c.if-are_nodes.true) in
     if_so (Traces (resolved s) c.args.asked.now c.args.bundle.now c.args.report.now) (Draws s c.args.asked.now c.args.bundle.now c.args.report.now) c.traced.result
     (λ e l h. traced p.0 are h) (rw p.1 at c.traced.ensures)
 
@@ -29,7 +29,7 @@ pub returns : goal.returns
 returns c =
     let p = rw c.in-Ok.is at c.in_ok-fault.ensures in
     let s = c.args.start.now in
-    let are = subst (λ (r : Resolved). are_nodes r c.args.asked.now.nodes ≡ false) p.1 (sym (c.are_nodes.ensures) ∙ c.if-are_nodes.false) in
+    let are = subst (λ (r : Resolved). are_nodes r c.args.asked.now.nodes ≡ false) p.1 (sym (rw c.as_slice.ensures at c.are_nodes.ensures) ∙ c.if-are_nodes.false) in
     let at = length c.args.bundle.now in
     if_ended (Draws s c.args.asked.now c.args.bundle.now c.args.report.now) (Plain (Name Unknown at)) (name_line Unknown at)
     c.unnamed.result c.unnamed.ensures (unknown p.0 are)

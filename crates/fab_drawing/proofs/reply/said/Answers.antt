@@ -33,7 +33,7 @@ pub returns-in-Limit : goal.returns-in-Limit
 returns-in-Limit c =
     let what = c.in-Limit.what in
     let p = subst (λ l. IsFront l (outcome.Limit what)) c.parted.ensures.bundle (rw c.in-Limit.is at c.in_ok-start.ensures) in
-    if_ended (Says c.args.asked.now c.args.text.now) (Plain (Limit what)) (line (codes "limit " ++ what_word what)) c.limited.result c.limited.ensures
+    if_ended (Says c.args.asked.now c.args.text.now) (Plain (Limit what)) (line (codes "limit " ++ what_word what)) c.limited-in-Limit.result c.limited-in-Limit.ensures
     (limit (search rules) p)
 
 pub returns-in-Syntax : goal.returns-in-Syntax
