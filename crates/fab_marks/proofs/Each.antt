@@ -67,6 +67,6 @@ module _ (r : Resolved) (set : List (List ℕ)) (past : List Move) where
   pub all_events : (front : List Move) (row : ℕ) (xs : List Move) → filter is_event (marks r set past front row xs) ≡ marks r set past front row xs
   all_events front row [] = refl
   all_events front row (x ∷ xs) =
-      ap (λ b. cond b (mark_of r set past front row x ∷ filter is_event (marks r set past (front ++ x ∷ []) (suc row) xs)) (filter is_event (marks r set past (front ++ x ∷ []) (suc row) xs)))
-      (mark_is front row x x.sign)
+      let others = filter is_event (marks r set past (front ++ x ∷ []) (suc row) xs) in
+      ap (λ b. cond b (mark_of r set past front row x ∷ others) others) (mark_is front row x x.sign)
       ∙ ap (λ ms. mark_of r set past front row x ∷ ms) (all_events (front ++ x ∷ []) (suc row) xs)

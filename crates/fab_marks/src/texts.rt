@@ -78,6 +78,14 @@ fn put_attempt(alloc: Global, out: &mut Seq<u8>, tid: Tid) -> Result<(), NoMemor
     out.extend(text.as_str().as_bytes())
 }
 
+/// A word, and an attempt.
+fn put_word_of(alloc: Global, out: &mut Seq<u8>, word: &str, tid: Tid) -> Result<(), NoMemory>
+    ensures { OnOk result (out.new ≡ out.old ++ (word.now ++ attempt_text tid)) }
+{
+    out.extend(word.as_bytes())?;
+    put_attempt(alloc, out, tid)
+}
+
 fn put_answer(
     alloc: Global,
     out: &mut Seq<u8>,
@@ -146,30 +154,18 @@ fn put_message(
             out.extend(b"Deny ")?;
             put_object(alloc, out, start, *oid)
         }
-        Message::Prepare { tid, items: _ } => {
-            out.extend(b"Prepare ")?;
-            put_attempt(alloc, out, *tid)
-        }
+        Message::Prepare { tid, items: _ } => put_word_of(alloc, out, "Prepare ", *tid),
         Message::Vote { tid: _, answer } => {
             out.extend(b"Vote ")?;
             put_answer(alloc, out, start, *answer)
         }
-        Message::Commit { tid } => {
-            out.extend(b"Commit ")?;
-            put_attempt(alloc, out, *tid)
-        }
-        Message::Abort { tid } => {
-            out.extend(b"Abort ")?;
-            put_attempt(alloc, out, *tid)
-        }
+        Message::Commit { tid } => put_word_of(alloc, out, "Commit ", *tid),
+        Message::Abort { tid } => put_word_of(alloc, out, "Abort ", *tid),
         Message::Boot { boot } => {
             out.extend(b"Boot ")?;
             put_number(alloc, out, u64::from(*boot))
         }
-        Message::Inquire { tid } => {
-            out.extend(b"Inquire ")?;
-            put_attempt(alloc, out, *tid)
-        }
+        Message::Inquire { tid } => put_word_of(alloc, out, "Inquire ", *tid),
     }
 }
 

@@ -8,5 +8,6 @@ pub returns-in_ok-extend-in-IllFormed : goal.returns-in_ok-extend-in-IllFormed
 returns-in_ok-extend-in-IllFormed c =
     let text = object_text c.args.start.now c.in-IllFormed.oid in
     rw c.in-IllFormed.is
-    (on_ok_weaker c.put_object-in-IllFormed.result (two c.args.out.now c.extend-in-IllFormed.new.self c.put_object-in-IllFormed.new.out (codes "ill-formed ") text c.in_ok-extend-in-IllFormed.ensures.ok)
+    (on_ok_weaker c.put_object-in-IllFormed.result (two c.args.out.now c.extend-in-IllFormed.new.self c.put_object-in-IllFormed.new.out
+    (codes "ill-formed ") text c.in_ok-extend-in-IllFormed.ensures.ok)
     c.put_object-in-IllFormed.ensures)
