@@ -1,0 +1,4 @@
+pub mod Asked
+pub mod Drawing
+pub mod Endings
+pub mod Parts

@@ -1,0 +1,3 @@
+pub mod Feet
+pub mod Shown
+pub mod Windows
