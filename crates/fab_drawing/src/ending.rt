@@ -1,5 +1,7 @@
 //! How a run of the program ended.
 ghost use Rattle.std.specs.Prelude.{◌≡◌, ℕ};
+ghost use Rattle.fab_base.specs.declared.limit.What.{What as WhatHasALimit};
+ghost use Rattle.fab_language.specs.declared.rule.NameRule.{NameRule as Rule};
 ghost use Rattle.fab_front.specs.declared.status.Status.TheVariants as status;
 ghost use Rattle.fab_drawing.specs.declared.ending.Ending.TheVariants as ending;
 
@@ -20,6 +22,12 @@ impl Ending {
     pub fn number(self) -> u8
         ensures ok { self ≡ ending.Plain status.Ok → result ≡ 0 }
         ensures usage { self ≡ ending.Plain status.Usage → result ≡ 1 }
+        ensures read_fault { self ≡ ending.Plain status.ReadFault → result ≡ 2 }
+        ensures write_fault { self ≡ ending.Plain status.WriteFault → result ≡ 3 }
+        ensures memory { self ≡ ending.Plain status.Memory → result ≡ 4 }
+        ensures syntax { (at : ℕ) → self ≡ ending.Plain (status.Syntax at) → result ≡ 5 }
+        ensures name { (rule : Rule) (at : ℕ) → self ≡ ending.Plain (status.Name rule at) → result ≡ 6 }
+        ensures limit { (what : WhatHasALimit) → self ≡ ending.Plain (status.Limit what) → result ≡ 8 }
         ensures trace { (at : ℕ) → self ≡ ending.Trace at → result ≡ 11 }
     {
         match self {
