@@ -1,4 +1,4 @@
--- The text of a picture, in SVG 1.1.
+-- The text of a picture, in SVG.
 use Rattle.std.specs.Prelude.{ℕ, ◌+◌, ◌*◌, max, nat_lt, Bool, true, false, List, [], ◌∷◌, ◌++◌, codes, flat_map, if◌then◌else◌}
 use Rattle.std.specs.Fmt.{decimal}
 use Rattle.fab_tree.specs.declared.declaration.Role.{Role}

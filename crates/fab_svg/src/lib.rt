@@ -1,4 +1,4 @@
-//! The text of a picture, in SVG 1.1: its shapes with their places in pixels, and every text of a name or of
+//! The text of a picture, in SVG: its shapes with their places in pixels, and every text of a name or of
 //! bytes escaped.
 #![tactic(auto)]
 
