@@ -35,8 +35,9 @@ root_text r o None = made_text r o
 abbrev pub object_text : Resolved → Oid → List ℕ
 object_text r o = root_text r o (find (λ x. is_same x.oid o) r.roots)
 
-abbrev pub attempt_text : Tid → List ℕ
-attempt_text t = decimal t.boot ++ codes "." ++ decimal t.number
+-- an attempt: its worker, with the worker's boot and the number that it has in it
+abbrev pub attempt_text : Resolved → Tid → List ℕ
+attempt_text r t = short 8 (node_text r t.worker) ++ codes " " ++ decimal t.boot ++ codes "." ++ decimal t.number
 
 abbrev pub answer_text : Resolved → Answer → List ℕ
 answer_text r a.Yes = codes "yes"
@@ -52,12 +53,12 @@ abbrev pub message_text : Resolved → Message → List ℕ
 message_text r (m.Fetch t o) = codes "Fetch " ++ object_text r o
 message_text r (m.Object t o version x) = codes "Object " ++ object_text r o ++ codes " v" ++ decimal version
 message_text r (m.Deny t o reason) = codes "Deny " ++ object_text r o
-message_text r (m.Prepare t items) = codes "Prepare " ++ attempt_text t
+message_text r (m.Prepare t items) = codes "Prepare " ++ attempt_text r t
 message_text r (m.Vote t answer) = codes "Vote " ++ answer_text r answer
-message_text r (m.Commit t) = codes "Commit " ++ attempt_text t
-message_text r (m.Abort t) = codes "Abort " ++ attempt_text t
+message_text r (m.Commit t) = codes "Commit " ++ attempt_text r t
+message_text r (m.Abort t) = codes "Abort " ++ attempt_text r t
 message_text r (m.Boot boot) = codes "Boot " ++ decimal boot
-message_text r (m.Inquire t) = codes "Inquire " ++ attempt_text t
+message_text r (m.Inquire t) = codes "Inquire " ++ attempt_text r t
 
 -- bytes that are no message are told as so many
 abbrev pub read_text : Resolved → ℕ → Option Message → List ℕ
@@ -78,12 +79,12 @@ sign_text r x s.Recover = codes "recover"
 
 -- of an event that a crash cut, how many bytes of its record stay
 abbrev pub cut_text : Option ℕ → List ℕ
-cut_text (Some keep) = codes ", cut at " ++ decimal keep
+cut_text (Some keep) = codes " cut at " ++ decimal keep ++ codes ":"
 cut_text None = []
 
--- its number, what it is, and whether it was cut
+-- its number, whether it was cut, and what it is
 abbrev pub label_of : Resolved → Move → List ℕ
-label_of r x = short label_length (decimal x.number ++ codes " " ++ sign_text r x x.sign ++ cut_text x.cut)
+label_of r x = short label_length (decimal x.number ++ cut_text x.cut ++ codes " " ++ sign_text r x x.sign)
 
 -- ---- the line of the report
 

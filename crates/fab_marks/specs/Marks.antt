@@ -1,5 +1,5 @@
 -- One shape for each event.
-use Rattle.std.specs.Prelude.{ℕ, suc, Bool, true, false, List, [], ◌∷◌, ◌++◌, is_some}
+use Rattle.std.specs.Prelude.{ℕ, suc, Bool, true, false, List, [], ◌∷◌, ◌++◌, is_some, if◌then◌else◌}
 use Rattle.fab_tree.specs.declared.resolved.Resolved.{Resolved}
 use Rattle.fab_marks.specs.declared.shape.Sign.{Sign}
 use Rattle.fab_marks.specs.declared.shape.Sign.TheVariants as s
@@ -11,9 +11,13 @@ use Rattle.fab_marks.specs.Labels.{label_of, title_of}
 use Rattle.fab_marks.specs.Origins.{origin}
 use Rattle.fab_marks.specs.Lives.{is_up}
 
+-- what is cut is a crash
+abbrev pub shown_sign : Move → Sign
+shown_sign x = if is_some x.cut then s.Crash else x.sign
+
 -- a sign on its node's line
 abbrev pub sign_mark : Resolved → ℕ → Move → Shape
-sign_mark r row x = Mark (record { column = x.node; row = row }) x.sign (label_of r x) (title_of r x)
+sign_mark r row x = Mark (record { column = x.node; row = row }) (shown_sign x) (label_of r x) (title_of r x)
 
 -- an arrow from its sender, where the message was sent, to its receiver; where the event is cut the message is lost
 abbrev pub delivery_mark : Resolved → List (List ℕ) → List Move → ℕ → Move → Shape

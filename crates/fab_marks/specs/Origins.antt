@@ -4,6 +4,8 @@ use Rattle.std.specs.Prelude.{ℕ, suc, ◌&&◌, ◌||◌, ◌==◌, not, is_so
 use Rattle.std.specs.Str.{bytes_eq}
 use Rattle.fab_base.specs.declared.object.Oid.{Oid}
 use Rattle.fab_base.specs.declared.object.Tid.{Tid}
+use Rattle.fab_base.specs.declared.message.Answer.{Answer}
+use Rattle.fab_base.specs.declared.message.Answer.TheVariants as a
 use Rattle.fab_base.specs.declared.message.Message.{Message}
 use Rattle.fab_base.specs.declared.message.Message.TheVariants as m
 use Rattle.fab_base.specs.FlatMap.{is_same}
@@ -15,7 +17,7 @@ use Rattle.fab_marks.specs.declared.moves.Move.{Move}
 abbrev pub is_tid : Tid → Tid → Bool
 is_tid t u = t.worker == u.worker && t.boot == u.boot && t.number == u.number
 
--- a Fetch of this object in this attempt; a Prepare of this attempt; a Vote or an Inquire on it
+-- a Fetch of this object in this attempt; a Prepare of this attempt; a Vote on it, a yes or a no; an Inquire on it
 abbrev pub fetches : Tid → Oid → Option Message → Bool
 fetches t o (Some (m.Fetch u p)) = is_tid t u && is_same o p
 fetches t o _ = false
@@ -24,14 +26,20 @@ abbrev pub prepares : Tid → Option Message → Bool
 prepares t (Some (m.Prepare u items)) = is_tid t u
 prepares t _ = false
 
-abbrev pub ends : Tid → Option Message → Bool
-ends t (Some (m.Vote u answer)) = is_tid t u
-ends t (Some (m.Inquire u)) = is_tid t u
-ends t _ = false
+abbrev pub is_yes : Answer → Bool
+is_yes a.Yes = true
+is_yes _ = false
 
--- An event by its sign, whose bytes are read as this, sends such a message to whom it is with, `back` where it is from him that
--- they were delivered: a worker asks when it resumes; a store answers what it is asked; a worker decides at a vote, and at an
--- inquiry, at silence and when it recovers it says again how it decided.
+abbrev pub votes : Bool → Tid → Option Message → Bool
+votes agreed t (Some (m.Vote u answer)) = is_tid t u && (if agreed then is_yes answer else not (is_yes answer))
+votes agreed t _ = false
+
+abbrev pub inquires : Tid → Option Message → Bool
+inquires t (Some (m.Inquire u)) = is_tid t u
+inquires t _ = false
+
+-- What is sent in an event, by its sign: a worker asks when it resumes; a store answers whom it hears; a worker decides at a vote, or
+-- gives up at silence, and says how it decided again when it is asked and when it recovers.
 abbrev pub asks_at : Sign → Bool
 asks_at s.Resume = true
 asks_at _ = false
@@ -52,9 +60,12 @@ abbrev pub is_post : Sign → Bool
 is_post s.Post = true
 is_post _ = false
 
--- at the delivery of an answer or an inquiry, at silence, or in coming back
-abbrev pub decides : Tid → Move → Bool
-decides t x = is_silence x.sign || recovers_at x.sign || (delivers_at x.sign && ends t (read_message x.bytes))
+-- Node n is told how an attempt was decided when a vote decides it, when n inquires, and when its worker comes back; that it is given up
+-- also at silence.
+abbrev pub decides : ℕ → Bool → Tid → Move → Bool
+decides n agreed t x =
+    recovers_at x.sign || (is_silence x.sign && not agreed)
+    || (delivers_at x.sign && (votes agreed t (read_message x.bytes) || (x.other == n && inquires t (read_message x.bytes))))
 
 -- an event of the sender in which it may send this message to node n
 abbrev pub may_send : ℕ → Move → Option Message → Bool
@@ -63,8 +74,8 @@ may_send n x (Some (m.Prepare t items)) = asks_at x.sign
 may_send n x (Some (m.Object t o version object)) = delivers_at x.sign && x.other == n && fetches t o (read_message x.bytes)
 may_send n x (Some (m.Deny t o reason)) = delivers_at x.sign && x.other == n && fetches t o (read_message x.bytes)
 may_send n x (Some (m.Vote t answer)) = delivers_at x.sign && x.other == n && prepares t (read_message x.bytes)
-may_send n x (Some (m.Commit t)) = decides t x
-may_send n x (Some (m.Abort t)) = decides t x
+may_send n x (Some (m.Commit t)) = decides n true t x
+may_send n x (Some (m.Abort t)) = decides n false t x
 may_send n x (Some (m.Boot boot)) = recovers_at x.sign
 may_send n x (Some (m.Inquire t)) = recovers_at x.sign
 may_send n x None = false

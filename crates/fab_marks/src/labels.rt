@@ -48,8 +48,9 @@ fn put_cut(alloc: Global, out: &mut Seq<u8>, cut: Option<u32>) -> Result<(), NoM
 {
     match cut {
         Some(keep) => {
-            out.extend(b", cut at ")?;
-            put_number(alloc, out, u64::from(keep))
+            out.extend(b" cut at ")?;
+            put_number(alloc, out, u64::from(keep))?;
+            out.extend(b":")
         }
         None => Ok(()),
     }
@@ -67,9 +68,9 @@ pub(crate) fn label_of(
 {
     let mut whole = Seq::new(alloc);
     put_number(alloc, &mut whole, u64::from(event.number))?;
+    put_cut(alloc, &mut whole, event.cut)?;
     whole.extend(b" ")?;
     put_sign(alloc, &mut whole, start, event, message)?;
-    put_cut(alloc, &mut whole, event.cut)?;
     let mut label = Seq::new(alloc);
     put_short(&mut label, LABEL_LENGTH, whole.as_slice())?;
     Ok(label)

@@ -1,7 +1,7 @@
 //! One shape for each event.
 ghost use Rattle.std.specs.Prelude.{◌≡◌, ◌++◌, ◌<◌, ◌+◌, ◌^◌, OnOk, IfOk, [], length, map};
 ghost use Rattle.fab_wire.specs.Reading.{read_message};
-ghost use Rattle.fab_marks.specs.Marks.{delivery_mark, mark_of, marks, post_mark, sign_mark};
+ghost use Rattle.fab_marks.specs.Marks.{delivery_mark, mark_of, marks, post_mark, shown_sign, sign_mark};
 
 use crate::labels::{label_of, title_of};
 use crate::lives::is_up;
@@ -36,6 +36,16 @@ fn messages_of(alloc: Global, events: &[Move]) -> Result<Seq<Option<Message>>, N
     Ok(heard)
 }
 
+/// The sign of an event that is no message: where it was cut that of a crash.
+fn shown_sign(event: &Move) -> Sign
+    ensures { result ≡ shown_sign event.now }
+{
+    match event.cut {
+        Some(_) => Sign::Crash,
+        None => event.sign,
+    }
+}
+
 /// A sign on its node's line.
 fn sign_mark(
     alloc: Global,
@@ -53,7 +63,7 @@ fn sign_mark(
     };
     Ok(Shape::Mark {
         at,
-        sign: event.sign,
+        sign: shown_sign(event),
         label: label_of(alloc, start, event, message)?,
         title: title_of(alloc, start, event)?,
     })

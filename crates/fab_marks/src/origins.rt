@@ -1,12 +1,12 @@
 //! Where a message was sent: the latest event before in which its sender can have sent it.
 ghost use Rattle.std.specs.Prelude.{◌≡◌, ◌<◌, ◌+◌, ◌^◌, length, map};
 ghost use Rattle.fab_wire.specs.Reading.{read_message};
-ghost use Rattle.fab_marks.specs.Origins.{asks_at, decides, delivers_at, ends, fetches, is_post, is_silence, is_tid, may_be_origin, may_send, origin, prepares, recovers_at};
+ghost use Rattle.fab_marks.specs.Origins.{asks_at, decides, delivers_at, fetches, inquires, is_post, is_silence, is_tid, is_yes, may_be_origin, may_send, origin, prepares, recovers_at, votes};
 
 use crate::moves::Move;
 use crate::shape::Sign;
 use crate::texts::is_one_name;
-use fab_base::{Message, Oid, Tid};
+use fab_base::{Answer, Message, Oid, Tid};
 
 /// Whether two attempts are one.
 fn is_tid(one: Tid, other: Tid) -> bool
@@ -40,12 +40,35 @@ fn prepares(tid: Tid, message: &Option<Message>) -> bool
     }
 }
 
-/// Whether it votes or inquires on this attempt.
-fn ends(tid: Tid, message: &Option<Message>) -> bool
-    ensures { result ≡ ends tid message.now }
+/// Whether a vote is a yes.
+fn is_yes(answer: Answer) -> bool
+    ensures { result ≡ is_yes answer }
+{
+    matches!(answer, Answer::Yes)
+}
+
+/// Whether it is a yes, or a no, on this attempt.
+fn votes(agreed: bool, tid: Tid, message: &Option<Message>) -> bool
+    ensures { result ≡ votes agreed tid message.now }
 {
     match message {
-        Some(Message::Vote { tid: other, .. }) => is_tid(tid, *other),
+        Some(Message::Vote { tid: other, answer }) => {
+            is_tid(tid, *other)
+                && if agreed {
+                    is_yes(*answer)
+                } else {
+                    !is_yes(*answer)
+                }
+        }
+        _ => false,
+    }
+}
+
+/// Whether it asks how this attempt ended.
+fn inquires(tid: Tid, message: &Option<Message>) -> bool
+    ensures { result ≡ inquires tid message.now }
+{
+    match message {
         Some(Message::Inquire { tid: other }) => is_tid(tid, *other),
         _ => false,
     }
@@ -86,14 +109,16 @@ fn is_post(sign: Sign) -> bool
     matches!(sign, Sign::Post)
 }
 
-/// Whether a worker may say in an event, of which the bytes are read as this, how an attempt was decided.
-fn decides(tid: Tid, event: &Move, heard: &Option<Message>) -> bool
+/// Whether a worker may tell a node in an event, of which the bytes are read as this, that an attempt was
+/// decided so.
+fn decides(to: u16, agreed: bool, tid: Tid, event: &Move, heard: &Option<Message>) -> bool
     requires { heard.now ≡ read_message event.now.bytes }
-    ensures { result ≡ decides tid event.now }
+    ensures { result ≡ decides to agreed tid event.now }
 {
-    is_silence(event.sign)
-        || recovers_at(event.sign)
-        || (delivers_at(event.sign) && ends(tid, heard))
+    recovers_at(event.sign)
+        || (is_silence(event.sign) && !agreed)
+        || (delivers_at(event.sign)
+            && (votes(agreed, tid, heard) || (event.other == to && inquires(tid, heard))))
 }
 
 /// Whether its node may send another node this message in it.
@@ -108,8 +133,8 @@ fn may_send(to: u16, event: &Move, heard: &Option<Message>, message: &Option<Mes
         Some(Message::Object { tid, oid, .. }) => answers && fetches(*tid, *oid, heard),
         Some(Message::Deny { tid, oid, .. }) => answers && fetches(*tid, *oid, heard),
         Some(Message::Vote { tid, .. }) => answers && prepares(*tid, heard),
-        Some(Message::Commit { tid }) => decides(*tid, event, heard),
-        Some(Message::Abort { tid }) => decides(*tid, event, heard),
+        Some(Message::Commit { tid }) => decides(to, true, *tid, event, heard),
+        Some(Message::Abort { tid }) => decides(to, false, *tid, event, heard),
         Some(Message::Boot { .. }) => recovers_at(event.sign),
         Some(Message::Inquire { .. }) => recovers_at(event.sign),
         None => false,

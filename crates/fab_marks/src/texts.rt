@@ -6,7 +6,7 @@ ghost use Rattle.fab_base.specs.FlatMap.{is_same};
 ghost use Rattle.fab_marks.specs.Labels.{answer_text, attempt_text, made_text, message_text, object_text, read_text, short};
 
 use fab_base::{Answer, Message, NoMemory, Oid, Seq, Tid};
-use fab_lines::class_name;
+use fab_lines::{class_name, node_name};
 use fab_tree::resolved::{Resolved, Root};
 use std::alloc::Global;
 
@@ -69,21 +69,29 @@ fn put_object(alloc: Global, out: &mut Seq<u8>, start: &Resolved, oid: Oid) -> R
     }
 }
 
-fn put_attempt(alloc: Global, out: &mut Seq<u8>, tid: Tid) -> Result<(), NoMemory>
-    ensures { OnOk result (out.new ≡ out.old ++ attempt_text tid) }
+/// An attempt, with its worker.
+fn put_attempt(alloc: Global, out: &mut Seq<u8>, start: &Resolved, tid: Tid) -> Result<(), NoMemory>
+    ensures { OnOk result (out.new ≡ out.old ++ attempt_text start.now tid) }
 {
+    put_short(out, 8, node_name(start, tid.worker).as_bytes())?;
     let boot = tid.boot;
     let number = tid.number;
-    let text = format!(in alloc; "{boot}.{number}")?;
+    let text = format!(in alloc; " {boot}.{number}")?;
     out.extend(text.as_str().as_bytes())
 }
 
 /// A word, and an attempt.
-fn put_word_of(alloc: Global, out: &mut Seq<u8>, word: &str, tid: Tid) -> Result<(), NoMemory>
-    ensures { OnOk result (out.new ≡ out.old ++ (word.now ++ attempt_text tid)) }
+fn put_word_of(
+    alloc: Global,
+    out: &mut Seq<u8>,
+    start: &Resolved,
+    word: &str,
+    tid: Tid,
+) -> Result<(), NoMemory>
+    ensures { OnOk result (out.new ≡ out.old ++ (word.now ++ attempt_text start.now tid)) }
 {
     out.extend(word.as_bytes())?;
-    put_attempt(alloc, out, tid)
+    put_attempt(alloc, out, start, tid)
 }
 
 fn put_answer(
@@ -154,18 +162,18 @@ fn put_message(
             out.extend(b"Deny ")?;
             put_object(alloc, out, start, *oid)
         }
-        Message::Prepare { tid, items: _ } => put_word_of(alloc, out, "Prepare ", *tid),
+        Message::Prepare { tid, items: _ } => put_word_of(alloc, out, start, "Prepare ", *tid),
         Message::Vote { tid: _, answer } => {
             out.extend(b"Vote ")?;
             put_answer(alloc, out, start, *answer)
         }
-        Message::Commit { tid } => put_word_of(alloc, out, "Commit ", *tid),
-        Message::Abort { tid } => put_word_of(alloc, out, "Abort ", *tid),
+        Message::Commit { tid } => put_word_of(alloc, out, start, "Commit ", *tid),
+        Message::Abort { tid } => put_word_of(alloc, out, start, "Abort ", *tid),
         Message::Boot { boot } => {
             out.extend(b"Boot ")?;
             put_number(alloc, out, u64::from(*boot))
         }
-        Message::Inquire { tid } => put_word_of(alloc, out, "Inquire ", *tid),
+        Message::Inquire { tid } => put_word_of(alloc, out, start, "Inquire ", *tid),
     }
 }
 

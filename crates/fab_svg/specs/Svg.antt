@@ -1,5 +1,5 @@
 -- The text of a picture, in SVG.
-use Rattle.std.specs.Prelude.{ℕ, ◌+◌, ◌*◌, max, nat_lt, Bool, true, false, List, [], ◌∷◌, ◌++◌, codes, flat_map, if◌then◌else◌}
+use Rattle.std.specs.Prelude.{◌≡◌, ℕ, ◌+◌, ◌*◌, max, nat_lt, Bool, true, false, List, [], ◌∷◌, ◌++◌, codes, flat_map}
 use Rattle.std.specs.Fmt.{decimal}
 use Rattle.fab_tree.specs.declared.declaration.Role.{Role}
 use Rattle.fab_tree.specs.declared.declaration.Role.TheVariants as role
@@ -157,6 +157,10 @@ event_text (Note at label whole) = []
 abbrev pub events_text : List Shape → List ℕ
 events_text [] = []
 events_text (x ∷ xs) = events_text xs ++ event_text x
+
+-- this is a text with a line end behind it
+abbrev pub IsLine : List ℕ → Type 0
+IsLine bytes = (text : List ℕ) × (bytes ≡ line text)
 
 -- ---- the whole
 

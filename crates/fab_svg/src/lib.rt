@@ -10,5 +10,5 @@ mod places;
 mod shapes;
 mod words;
 
-pub use laws::escaped_text_is_plain;
+pub use laws::{each_mark_is_a_line, escaped_text_is_plain};
 pub use picture::svg;
