@@ -1,54 +1,47 @@
 -- What acts bring about: no more than was to be expected of the attempt, and of the message that is heard.
-use Rattle.std.proofs.Common.{◌≡◌, ◌⊎◌, ℕ, suc, ◌+◌, ◌*◌, ◌≤◌, List, [], ◌∷◌, ◌++◌, length, map, Bool, true, false, cond, ◌==◌, ◌&&◌, ◌||◌, nat_lt, not, Option, Some, None, refl, sym, ap, ◌∙◌, subst, inl, inr, arith, true≢false, length-append}
-use Rattle.std.specs.List.{filter, flat_map, range_with_len}
+use Rattle.std.proofs.Common.{◌≡◌, ◌⊎◌, ℕ, suc, ◌+◌, ◌*◌, ◌≤◌, List, [], ◌∷◌, ◌++◌, length, map, Bool, true, false, cond, ◌==◌, Option, Some, None, refl, sym, ap, ◌∙◌, subst, inl, inr, arith, true≢false, length-append}
+use Rattle.std.specs.List.{flat_map, range_with_len}
 use Rattle.std.proofs.Math.Nat.{mul-le-mul_left, mul-le-mul_right}
 use Rattle.std.proofs.lemmas.List.{map-append}
-use Rattle.std.proofs.lemmas.Bool.{and_parts, eqb-true}
+use Rattle.std.proofs.lemmas.Bool.{eqb-true}
 use Rattle.fab_base.specs.declared.object.Oid.{Oid}
 use Rattle.fab_base.specs.declared.object.Object.{Object}
 use Rattle.fab_base.specs.declared.object.Tid.{Tid}
-use Rattle.fab_base.specs.declared.object.Value.{Value}
-use Rattle.fab_base.specs.declared.object.Stop.TheVariants as stop
 use Rattle.fab_base.specs.declared.entry.Entry.{Entry}
 use Rattle.fab_base.specs.declared.entry.Entry.TheVariants as e
 use Rattle.fab_base.specs.declared.message.Answer.{Answer}
-use Rattle.fab_base.specs.declared.message.Answer.TheVariants.{Yes, Stale, Locked, Rights as NoRights, OldTid, IllFormed, Exists}
+use Rattle.fab_base.specs.declared.message.Answer.TheVariants.{Yes, OldTid}
 use Rattle.fab_base.specs.declared.message.Items.{Items}
-use Rattle.fab_base.specs.declared.message.Why.{Why}
 use Rattle.fab_base.specs.declared.message.Why.TheVariants as why
 use Rattle.fab_base.specs.declared.message.Message.{Message}
 use Rattle.fab_base.specs.declared.message.Message.TheVariants as m
 use Rattle.fab_base.specs.MessageSpelling.{spelled}
-use Rattle.fab_base.specs.FlatMap.{FlatMap, is_same, map_of, put}
-use Rattle.fab_base.specs.Tids.{is_above}
+use Rattle.fab_base.specs.FlatMap.{FlatMap, map_of, put}
 use Rattle.fab_map.proofs.Rows.{put_more}
-use Rattle.fab_language.specs.declared.ending.Ending.{Ending}
 use Rattle.fab_language.specs.declared.ending.Ending.TheVariants as endings
 use Rattle.fab_language.specs.Heaps.{touched}
 use Rattle.fab_language.specs.Meaning.{Meant}
-use Rattle.fab_net.specs.declared.outcome.Denial.TheVariants as denial
 use Rattle.fab_net.specs.declared.outcome.ReqOutcome.{ReqOutcome}
 use Rattle.fab_net.specs.declared.outcome.ReqOutcome.TheVariants as ends
+use Rattle.fab_net.specs.declared.note.Note.{Note}
 use Rattle.fab_net.specs.declared.note.Note.TheVariants as note
-use Rattle.fab_rights.specs.Computed.{is_store, is_worker, knows, may_fetch, stores_in, suits}
+use Rattle.fab_rights.specs.Computed.{is_store, stores_in}
 use Rattle.fab_protocol.specs.declared.parts.Decision.{Decision}
 use Rattle.fab_protocol.specs.declared.parts.Parts.{Parts}
 use Rattle.fab_protocol.specs.declared.said.Said.{Said}
 use Rattle.fab_protocol.specs.Caches.{cached_row}
 use Rattle.fab_protocol.specs.Parts.{stores_of, items_at}
 use Rattle.fab_protocol.specs.Stores as stores
-use Rattle.fab_protocol.specs.Stores.{Prepared, Shelf, last_of, boot_of, is_prepared, is_own, silent, records, replies, votes, vote, voted, found, fetched, asked as asked_by, does, asks}
-use Rattle.fab_protocol.specs.Tables.{row_of}
+use Rattle.fab_protocol.specs.Stores.{Prepared, Shelf, last_of, records, replies, silent, vote, voted, votes}
 use Rattle.fab_protocol.specs.Versions.{Row, Rows, name_of, objects_of}
-use Rattle.fab_protocol.proofs.TableLaws.{one_name, row_of_name}
+use Rattle.fab_protocol.proofs.TableLaws.{row_of_name}
 use Rattle.fab_world.specs.Attempts.{parts_of}
 use Rattle.fab_world.specs.Machine.{Setting, of_store, lacks}
 use Rattle.fab_world.specs.Serial.{IsEvaluation}
 use Rattle.fab_world.specs.Workers as workers
-use Rattle.fab_world.specs.Workers.{Kept, Phase, Attempt, Act, closed, tid_of, request_of, stays, noting, sending, telling, dropped, next, not_voted, to_all, is_in}
-use Rattle.fab_world.specs.Workers.{decides, closes, gives, undecided, try_ends, begins, needs, asks_all, resumes_at, resumes, awaits_object}
-use Rattle.fab_world.specs.Workers.{is_made_before, got, denied}
-use Rattle.fab_world.specs.Workers.{waits_for, yes_from, awaits_vote, aborts, voted_by, has_decided, inquired, takes_any, takes, aborts_in, gives_up, wakes}
+use Rattle.fab_world.specs.Workers.{Kept, Phase, Attempt, Act, aborts, aborts_in, asks_all, begins, closed, closes, decides, gives, gives_up, needs, request_of, resumes, sending, stays, takes, telling, tid_of, to_all, wakes}
+use Rattle.fab_protocol.proofs.StoreActs.{answered}
+use Rattle.fab_world.proofs.WorkerActs.{again, closed_each, resumed, taken}
 use Rattle.fab_integrity.proofs.Lasting.{kept_behind}
 use Rattle.fab_lined.proofs.Begun.{one}
 use Rattle.fab_finite.specs.Finite.{TouchesWhatWasMissing, of_decision, of_prepare, of_start}
@@ -74,18 +67,7 @@ got_some starts s message y = by (s == y)
 
 -- no request that is closed is told to anybody
 closed_gains : (y request : ℕ) (outcome : ReqOutcome) → gain y (closed request outcome) ≡ 0
-closed_gains y request (ends.Committed t value) = refl
-closed_gains y request ends.Failed = refl
-closed_gains y request ends.Conflict = refl
-closed_gains y request (ends.Silent n) = refl
-closed_gains y request (ends.Denied n denial.Rights) = refl
-closed_gains y request (ends.Denied n denial.IllFormed) = refl
-closed_gains y request (ends.Stopped stop.Fuel) = refl
-closed_gains y request (ends.Stopped stop.Depth) = refl
-closed_gains y request (ends.Stopped stop.Reads) = refl
-closed_gains y request (ends.Stopped stop.Writes) = refl
-closed_gains y request ends.NodeDown = refl
-closed_gains y request ends.Unfinished = refl
+closed_gains y request outcome = closed_each (λ entry. gain y entry ≡ 0) request (λ code node. refl) outcome
 
 module _ (S : Setting) (T n : ℕ) (kept : Kept) where
   abbrev k : ℕ
@@ -141,10 +123,6 @@ module _ (S : Setting) (T n : ℕ) (kept : Kept) where
 
   -- ---- a worker's acts
 
-  on_if : (a : Attempt) (b : Bool) (x y : Act) (paid : ℕ) → (b ≡ true → On a x paid) → (b ≡ false → On a y paid) → On a (cond b x y) paid
-  on_if a true x y paid f g = f refl
-  on_if a false x y paid f g = g refl
-
   pub on_stays : (a : Attempt) → Counted a a.phase → On a (stays a) 0
   on_stays a counted = record { cost = λ y. omega arith; counted = inr (λ c. refl, counted) }
 
@@ -170,13 +148,8 @@ module _ (S : Setting) (T n : ℕ) (kept : Kept) where
   on_gives : (outcome : ReqOutcome) (a : Attempt) (paid : ℕ) → paid ≤ had a → On a (gives S.rights k n kept outcome a) paid
   on_gives outcome a paid h = let g = on_closes outcome a paid h in record { cost = g.cost; counted = inl refl }
 
-  on_tried : (a : Attempt) (b : Bool)
-      → On a (noting (undecided S.rights k n kept a) (cond b (closes S.rights k n kept ends.Conflict a) (stays (record (dropped a) { tries = suc a.tries })))) 0
-  on_tried a true = on_gives ends.Conflict a 0 (omega arith)
-  on_tried a false = record { cost = λ y. omega arith; counted = inl refl }
-
-  on_try_ends : (a : Attempt) → On a (try_ends S.rights k n kept a) 0
-  on_try_ends a = on_tried a (suc a.tries == 8)
+  on_again : (a : Attempt) → On a (again S.rights k n kept a) 0
+  on_again a = record { cost = λ y. omega arith; counted = inl refl }
 
   -- the objects of one answer more: if another one is missing, one more was touched
   few_more : TouchesWhatWasMissing S → (a : Attempt) (site : ℕ) (o : Oid) (row : Row) → (meant_at a).ending ≡ endings.Missing site o → Few a → row.0 ≡ o
@@ -238,10 +211,9 @@ module _ (S : Setting) (T n : ℕ) (kept : Kept) where
         by true h = omega (arith, h)
         by false h = omega (arith, h)
 
-    on_asks_all : (ss : List ℕ) (a : Attempt) (parts : Parts) → ((y : ℕ) → times y ss ≤ 1) → 1 + of_prepare T + of_prepared T ≤ had a
-        → On a (asks_all S.rights k n kept ss a parts) 1
-    on_asks_all [] a parts once h = on_decides a parts 1 (omega (arith, h))
-    on_asks_all (s ∷ ss) a parts once h = record {
+    on_asks : (s : ℕ) (ss : List ℕ) (a : Attempt) (parts : Parts) → ((y : ℕ) → times y (s ∷ ss) ≤ 1) → 1 + of_prepare T + of_prepared T ≤ had a
+        → On a (asks_all S.rights k n kept (s ∷ ss) a parts) 1
+    on_asks s ss a parts once h = record {
       cost = λ y.
           let sent = prepares y (s ∷ ss) a parts in
           let few = mul-le-mul_right (of_prepare T) (once y) in
@@ -250,63 +222,38 @@ module _ (S : Setting) (T n : ℕ) (kept : Kept) where
       counted = inr (λ c. refl, tt);
     }
 
-    on_ends : (value : Option Value) (a : Attempt) (meant : Meant) (parts : Parts) → 1 + of_prepare T + of_prepared T ≤ had a
-        → On a (workers.ends S.rights k n kept value a meant parts) 1
-    on_ends value a meant parts h =
-        let g = on_asks_all (stores_of parts) (telling a meant) parts (λ y. times_once y 0 (stores_of parts) (rising_stores parts)) h in
-        record { cost = g.cost; counted = g.counted }
-
     pub on_resumes : (a : Attempt) → a.phase ≡ workers.Evaluating → Counted a a.phase → On a (resumes S.rights k n kept a (meant_at a)) 1
-    on_resumes a is counted = by (meant_at a).ending refl
-      where
-        before : had a ≡ of_answers T (length a.answers)
-        before = ap (λ p. work T p (length a.answers)) is
-
-        by : (ending : Ending) → (meant_at a).ending ≡ ending → On a (resumes_at S.rights k n kept ending a (meant_at a)) 1
-        by (endings.Missing site o) e = on_needs site o (cached_row a.caches o) a refl is e (subst (Counted a) is counted site o e)
-        by (endings.Ended value) e = on_ends value a (meant_at a) (parts_of a.answers (meant_at a)) (omega (arith, before))
-        by endings.Failed e = let g = on_closes ends.Failed a 1 (omega (arith, before)) in record { cost = g.cost; counted = inl refl }
-        by (endings.Stopped limit) e = let g = on_closes (ends.Stopped limit) a 1 (omega (arith, before)) in record { cost = g.cost; counted = inl refl }
+    on_resumes a is counted =
+        let parts : Parts = parts_of a.answers (meant_at a) in
+        let before : had a ≡ of_answers T (length a.answers) = ap (λ p. work T p (length a.answers)) is in
+        let once = λ (y : ℕ). times_once y 0 (stores_of parts) (rising_stores parts) in
+        resumed S.rights k n kept a (meant_at a) (λ act. On a act 1) (record {
+          finds = λ site o row e found. on_needs site o (Some row) a found is e (subst (Counted a) is counted site o e);
+          fetches = λ site o e none. on_needs site o None a none is e (subst (Counted a) is counted site o e);
+          decides = λ value e none. let g = on_decides (telling a (meant_at a)) parts 1 (omega (arith, before)) in record { cost = g.cost; counted = g.counted };
+          asks = λ value s ss e at.
+              let g = on_asks s ss (telling a (meant_at a)) parts (λ y. subst (λ zs. times y zs ≤ 1) at (once y)) (omega (arith, before)) in
+              record { cost = g.cost; counted = g.counted };
+          fails = λ e. let g = on_closes ends.Failed a 1 (omega (arith, before)) in record { cost = g.cost; counted = inl refl };
+          stops = λ limit e. let g = on_closes (ends.Stopped limit) a 1 (omega (arith, before)) in record { cost = g.cost; counted = inl refl };
+        })
 
     -- ---- a message from store s
 
-    on_got : (s : ℕ) (o p : Oid) (version : ℕ) (x : Object) (a : Attempt) → a.phase ≡ workers.Fetching p → o ≡ p → Counted a (workers.Fetching p)
-        → On a (got S.rights k n kept s o version x a) 0
-    on_got s o p version x a is same counted =
-        on_if a (suits S.rights o x && nat_lt 0 version && is_made_before S.rights k n kept o a)
-        (stays (record a { phase = workers.Evaluating; answers = a.answers ++ (o, version, x) ∷ [] })) (gives S.rights k n kept (ends.Denied s denial.IllFormed) a) 0
-        (λ _. record {
-          cost = λ y.
-              let count = length-append a.answers ((o, version, x) ∷ []) in
-              let before = ap (λ q. work T q (length a.answers)) is in
-              omega (arith, count, before);
-          counted = inr (
-            λ c. refl,
-            λ other q lacks.
-                few_more grows a counted.0 p (o, version, x) counted.1 counted.2 same (map_of (objects_of (a.answers ++ (o, version, x) ∷ [])))
-                (objects_last a.answers (o, version, x)) other q lacks,
-          );
-        })
-        (λ _. on_gives (ends.Denied s denial.IllFormed) a 0 (omega arith))
-
-    on_object : (s : ℕ) (t : Tid) (o : Oid) (version : ℕ) (x : Object) (a : Attempt) (phase : Phase) → a.phase ≡ phase → Counted a phase
-        → awaits_object S.rights k n kept s t o a phase ≡ true → On a (got S.rights k n kept s o version x a) 0
-    on_object s t o version x a workers.Idle is counted h = absurd (true≢false (sym h))
-    on_object s t o version x a workers.Evaluating is counted h = absurd (true≢false (sym h))
-    on_object s t o version x a (workers.Fetching p) is counted h =
-        on_got s o p version x a is (one_name o p (and_parts _ (is_same o p) (and_parts _ _ h).0).1) counted
-    on_object s t o version x a (workers.Preparing ls) is counted h = absurd (true≢false (sym h))
-
-    on_denied : (s : ℕ) (reason : Why) (a : Attempt) → On a (denied S.rights k n kept s reason a) 0
-    on_denied s why.Missing a = on_try_ends a
-    on_denied s why.Rights a = on_gives (ends.Denied s denial.Rights) a 0 (omega arith)
-
-    on_waits_for : (ls : List ℕ) (a : Attempt) (parts : Parts) → of_prepared T ≤ had a → On a (waits_for S.rights k n kept ls a parts) 0
-    on_waits_for [] a parts h = on_decides a parts 0 (omega (arith, h))
-    on_waits_for (l ∷ ls) a parts h = record { cost = λ y. omega (arith, h); counted = inr (λ c. refl, tt) }
-
-    on_yes : (s : ℕ) (a : Attempt) (parts : Parts) → of_prepared T ≤ had a → On a (yes_from S.rights k n kept s a parts) 0
-    on_yes s a parts h = on_waits_for (filter (λ l. not (l == s)) (not_voted a.phase)) a parts h
+    on_learns : (o : Oid) (version : ℕ) (x : Object) (a : Attempt) → a.phase ≡ workers.Fetching o → Counted a (workers.Fetching o)
+        → On a (stays (record a { phase = workers.Evaluating; answers = a.answers ++ (o, version, x) ∷ [] })) 0
+    on_learns o version x a is counted = record {
+      cost = λ y.
+          let count = length-append a.answers ((o, version, x) ∷ []) in
+          let before = ap (λ q. work T q (length a.answers)) is in
+          omega (arith, count, before);
+      counted = inr (
+        λ c. refl,
+        λ other q lacks.
+            few_more grows a counted.0 o (o, version, x) counted.1 counted.2 refl (map_of (objects_of (a.answers ++ (o, version, x) ∷ [])))
+            (objects_last a.answers (o, version, x)) other q lacks,
+      );
+    }
 
     aborted : (y : ℕ) (ss : List ℕ) (t : Tid) → out T y (to_all ss (m.Abort t)) ≡ times y ss
     aborted y ss t = let h = out_all T y ss (m.Abort t) in omega (arith, h)
@@ -327,40 +274,6 @@ module _ (S : Setting) (T n : ℕ) (kept : Kept) where
       counted = inl idle;
     }
 
-    on_no : (a : Attempt) (parts : Parts) → of_prepared T ≤ had a → On a (sending (aborts S.rights k n kept a parts) (try_ends S.rights k n kept a)) 0
-    on_no a parts h = by (suc a.tries == 8)
-      where
-        by : (b : Bool)
-            → On a (sending (aborts S.rights k n kept a parts)
-            (noting (undecided S.rights k n kept a) (cond b (closes S.rights k n kept ends.Conflict a) (stays (record (dropped a) { tries = suc a.tries }))))) 0
-        by true =
-            on_aborts a (noting (undecided S.rights k n kept a) (closes S.rights k n kept ends.Conflict a)) parts 0 refl refl (λ y. refl) (omega (arith, h))
-        by false =
-            on_aborts a (noting (undecided S.rights k n kept a) (stays (record (dropped a) { tries = suc a.tries }))) parts 0 refl refl (λ y. refl)
-            (omega (arith, h))
-
-    on_voted : (s : ℕ) (answer : Answer) (a : Attempt) (parts : Parts) → of_prepared T ≤ had a → On a (voted_by S.rights k n kept s answer a parts) 0
-    on_voted s Yes a parts h = on_yes s a parts h
-    on_voted s (Stale o version) a parts h = on_no a parts h
-    on_voted s (Locked t) a parts h = on_no a parts h
-    on_voted s (NoRights o) a parts h = on_no a parts h
-    on_voted s (OldTid t) a parts h = on_no a parts h
-    on_voted s (IllFormed o) a parts h = on_no a parts h
-    on_voted s (Exists o) a parts h = on_no a parts h
-
-    -- who awaits a vote prepares
-    vote_had : (s : ℕ) (t : Tid) (a : Attempt) (parts : Parts) (phase : Phase) → awaits_vote S.rights k n kept s t a parts phase ≡ true
-        → of_prepared T ≤ work T phase (length a.answers)
-    vote_had s t a parts workers.Idle h = absurd (true≢false (sym h))
-    vote_had s t a parts workers.Evaluating h = absurd (true≢false (sym h))
-    vote_had s t a parts (workers.Fetching p) h = absurd (true≢false (sym h))
-    vote_had s t a parts (workers.Preparing ls) h = omega arith
-
-    hears_if : (a : Attempt) (b : Bool) (x y : Act) (s : ℕ) (message : Message) → (b ≡ true → Hears a x s message) → (b ≡ false → Hears a y s message)
-        → Hears a (cond b x y) s message
-    hears_if a true x y s message f g = f refl
-    hears_if a false x y s message f g = g refl
-
     -- one answer of weight 1 to an Inquire
     hears_answer : (s : ℕ) (t : Tid) (answer : Message) (a : Attempt) → Counted a a.phase → weight T (spelled answer) ≡ 1
         → Hears a (sending ((s, answer) ∷ []) (stays a)) s (m.Inquire t)
@@ -373,45 +286,32 @@ module _ (S : Setting) (T n : ℕ) (kept : Kept) where
         by true = omega (arith, one_more)
         by false = omega arith
 
-    hears_inquired : (s : ℕ) (t : Tid) (a : Attempt) (parts : Parts) → Counted a a.phase
-        → Hears a (inquired S.rights k n kept s t a parts) s (m.Inquire t)
-    hears_inquired s t a parts counted =
-        hears_if a (has_decided S.rights k n kept t s) (sending ((s, m.Commit t) ∷ []) (stays a))
-        (cond (awaits_vote S.rights k n kept s t a parts a.phase) (yes_from S.rights k n kept s a parts) (sending ((s, m.Abort t) ∷ []) (stays a)))
-        s (m.Inquire t) (λ _. hears_answer s t (m.Commit t) a counted refl)
-        (λ _. hears_if a (awaits_vote S.rights k n kept s t a parts a.phase) (yes_from S.rights k n kept s a parts) (sending ((s, m.Abort t) ∷ []) (stays a))
-        s (m.Inquire t) (λ h. on_hears a (yes_from S.rights k n kept s a parts) s (m.Inquire t) (on_yes s a parts (vote_had s t a parts a.phase h)))
-        (λ _. hears_answer s t (m.Abort t) a counted refl))
-
     module _ (s : ℕ) (a : Attempt) (parts : Parts) (counted : Counted a a.phase) where
-      hears_stays : (message : Message) → Hears a (stays a) s message
-      hears_stays message = on_hears a (stays a) s message (on_stays a counted)
-
-      hears_any : (message : Message) → Hears a (takes_any S.rights k n kept s message a parts) s message
-      hears_any (m.Object t o version x) =
-          hears_if a (awaits_object S.rights k n kept s t o a a.phase) (got S.rights k n kept s o version x a) (stays a) s (m.Object t o version x)
-          (λ h. on_hears a (got S.rights k n kept s o version x a) s (m.Object t o version x) (on_object s t o version x a a.phase refl counted h))
-          (λ _. hears_stays (m.Object t o version x))
-      hears_any (m.Deny t o reason) =
-          hears_if a (awaits_object S.rights k n kept s t o a a.phase) (denied S.rights k n kept s reason a) (stays a) s (m.Deny t o reason)
-          (λ _. on_hears a (denied S.rights k n kept s reason a) s (m.Deny t o reason) (on_denied s reason a)) (λ _. hears_stays (m.Deny t o reason))
-      hears_any (m.Vote t answer) =
-          hears_if a (awaits_vote S.rights k n kept s t a parts a.phase) (voted_by S.rights k n kept s answer a parts) (stays a) s (m.Vote t answer)
-          (λ h. on_hears a (voted_by S.rights k n kept s answer a parts) s (m.Vote t answer) (on_voted s answer a parts (vote_had s t a parts a.phase h)))
-          (λ _. hears_stays (m.Vote t answer))
-      hears_any (m.Inquire t) =
-          hears_if a (t.worker == n) (inquired S.rights k n kept s t a parts) (stays a) s (m.Inquire t) (λ _. hears_inquired s t a parts counted)
-          (λ _. hears_stays (m.Inquire t))
-      hears_any (m.Fetch t o) = hears_stays (m.Fetch t o)
-      hears_any (m.Prepare t items) = hears_stays (m.Prepare t items)
-      hears_any (m.Commit t) = hears_stays (m.Commit t)
-      hears_any (m.Abort t) = hears_stays (m.Abort t)
-      hears_any (m.Boot b) = hears_stays (m.Boot b)
+      prepared : (ls : List ℕ) → a.phase ≡ workers.Preparing ls → of_prepared T ≤ had a
+      prepared ls is = let same = ap (λ p. work T p (length a.answers)) is in omega (arith, same)
 
       pub hears_takes : (message : Message) → Hears a (takes S.rights k n kept s message a parts) s message
-      hears_takes message =
-          hears_if a (is_store S.rights s) (takes_any S.rights k n kept s message a parts) (stays a) s message (λ _. hears_any message)
-          (λ _. hears_stays message)
+      hears_takes message = taken S.rights k n kept s a parts message (λ act. Hears a act s message) (record {
+        rests = λ e. on_hears a _ s message (on_stays a counted);
+        learns = λ x e.
+            on_hears a _ s message (on_learns x.name x.version x.object a x.awaited.phase_is (subst (Counted a) x.awaited.phase_is counted));
+        denied = λ reason x. on_hears a _ s message (on_gives (ends.Denied s reason) a 0 (omega arith));
+        tires = λ x e. on_hears a _ s message (on_gives ends.Conflict a 0 (omega arith));
+        tries = λ x e. on_hears a _ s message (on_again a);
+        gives_up = λ x e.
+            let h = prepared x.awaited.waiting x.awaited.phase_is in
+            on_hears a _ s message (on_aborts a (gives S.rights k n kept ends.Conflict a) parts 0 refl refl (λ y. refl) (omega (arith, h)));
+        aborts = λ x e.
+            let h = prepared x.awaited.waiting x.awaited.phase_is in
+            on_hears a _ s message (on_aborts a (again S.rights k n kept a) parts 0 refl refl (λ y. refl) (omega (arith, h)));
+        decides = λ x e.
+            let h = prepared x.awaited.waiting x.awaited.phase_is in on_hears a _ s message (on_decides a parts 0 (omega (arith, h)));
+        waits = λ x l ls e.
+            let h = prepared x.awaited.waiting x.awaited.phase_is in
+            on_hears a _ s message (record { cost = λ y. omega (arith, h); counted = inr (λ c. refl, tt) });
+        commits = λ x e. subst (Hears a _ s) (sym x.is) (hears_answer s x.tid (m.Commit x.tid) a counted refl);
+        forgets = λ x e g. subst (Hears a _ s) (sym x.is) (hears_answer s x.tid (m.Abort x.tid) a counted refl);
+      })
 
     -- ---- the other events of a worker
 
@@ -467,22 +367,6 @@ module _ (S : Setting) (T s n : ℕ) where
       by true = omega (arith, one_more)
       by false = omega arith
 
-  says_if : (b : Bool) (x y : Said) (message : Message) → (b ≡ true → Answers T s message x) → (b ≡ false → Answers T s message y) → Answers T s message (cond b x y)
-  says_if true x y message f g = f refl
-  says_if false x y message f g = g refl
-
-  says_found : (t : Tid) (o : Oid) (row : Option Row) → Answers T s (m.Fetch t o) (found s t o row)
-  says_found t o None = says_reply t o (m.Deny t o why.Missing) refl
-  says_found t o (Some row) = says_reply t o (m.Object t o row.1 row.2) refl
-
-  says_fetched : (t : Tid) (o : Oid) (shelf : Shelf) → Answers T s (m.Fetch t o) (fetched S.rights n s t o shelf)
-  says_fetched t o shelf =
-      says_if (not (o.store == n) || not (knows S.rights o.class)) (replies s (m.Deny t o why.Missing))
-      (cond (not (may_fetch S.rights s o.class)) (replies s (m.Deny t o why.Rights)) (found s t o (row_of name_of shelf.rows o))) (m.Fetch t o)
-      (λ _. says_reply t o (m.Deny t o why.Missing) refl)
-      (λ _. says_if (not (may_fetch S.rights s o.class)) (replies s (m.Deny t o why.Rights)) (found s t o (row_of name_of shelf.rows o)) (m.Fetch t o)
-      (λ _. says_reply t o (m.Deny t o why.Rights) refl) (λ _. says_found t o (row_of name_of shelf.rows o)))
-
   -- a vote, and a record by which at most one transaction of its sender is prepared
   says_vote : (t : Tid) (items : Items) (answer : Answer) (entry : Option Entry) → ((y : ℕ) → gains y entry ≤ 2 * one (s == y))
       → ((c : Kept) → kept_behind entry c ≡ c) → Answers T s (m.Prepare t items) (votes s t answer entry)
@@ -500,57 +384,38 @@ module _ (S : Setting) (T s n : ℕ) where
     where
       few : (a : Answer) (y : ℕ) → gains y (Some (voted t items a)) ≤ 2 * one (s == y)
       few Yes y = let e = ap (λ z. one (z == y)) (eqb-true t.worker s own) in omega (arith, e)
-      few (Stale o version) y = omega arith
-      few (Locked u) y = omega arith
-      few (NoRights o) y = omega arith
-      few (OldTid u) y = omega arith
-      few (IllFormed o) y = omega arith
-      few (Exists o) y = omega arith
+      few _ y = omega arith
 
       same : (a : Answer) (c : Kept) → kept_behind (Some (voted t items a)) c ≡ c
       same Yes c = refl
-      same (Stale o version) c = refl
-      same (Locked u) c = refl
-      same (NoRights o) c = refl
-      same (OldTid u) c = refl
-      same (IllFormed o) c = refl
-      same (Exists o) c = refl
+      same _ c = refl
 
-  says_asked : (t : Tid) (items : Items) (shelf : Shelf) → (t.worker == s) ≡ true → Answers T s (m.Prepare t items) (asked_by S.rights n s t items shelf)
-  says_asked t items shelf own =
-      says_if (not (is_above t (last_of shelf s))) (votes s t (OldTid (last_of shelf s)) None)
-      (votes s t (vote S.rights n s t items shelf) (Some (voted t items (vote S.rights n s t items shelf)))) (m.Prepare t items)
-      (λ _. says_vote t items (OldTid (last_of shelf s)) None (λ y. omega arith) (λ c. refl))
-      (λ _. says_voted t items (vote S.rights n s t items shelf) own)
-
-  says_record : (b : Bool) (said : Said) (message : Message) → said.sends ≡ [] → ((y : ℕ) → gains y said.entry ≡ 0) → ((c : Kept) → kept_behind said.entry c ≡ c)
-      → Answers T s message (cond b said silent)
-  says_record true said message mute none same = record {
+  -- a record by which nothing is prepared
+  says_record : (entry : Entry) (notes : List Note) (message : Message) → ((y : ℕ) → gain y entry ≡ 0) → ((c : Kept) → kept_behind (Some entry) c ≡ c)
+      → Answers T s message (records entry notes)
+  says_record entry notes message none same = record {
     cost = λ y.
         let h = got_some T s message y in
-        let sent = ap (out T y) mute in
         let later = ap (λ g. T * g) (none y) in
-        omega (arith, h, sent, later);
+        omega (arith, h, later);
     same = same;
   }
-  says_record false said message mute none same = says_nothing message
-
-  says_does : (message : Message) (shelf : Shelf) → is_own s message ≡ true → Answers T s message (does S.rights n s message shelf)
-  says_does (m.Fetch t o) shelf own = says_fetched t o shelf
-  says_does (m.Prepare t items) shelf own = says_asked t items shelf own
-  says_does (m.Commit t) shelf own =
-      says_record (is_prepared t shelf) (records (e.Applied t) (note.Applied t ∷ [])) (m.Commit t) refl (λ y. refl) (λ c. refl)
-  says_does (m.Abort t) shelf own = says_record (is_prepared t shelf) (records (e.Released t) []) (m.Abort t) refl (λ y. refl) (λ c. refl)
-  says_does (m.Boot b) shelf own = says_record (nat_lt (boot_of shelf s) b) (records (e.BootSeen s b) []) (m.Boot b) refl (λ y. refl) (λ c. refl)
-  says_does (m.Object t o version x) shelf own = says_nothing (m.Object t o version x)
-  says_does (m.Deny t o reason) shelf own = says_nothing (m.Deny t o reason)
-  says_does (m.Vote t answer) shelf own = says_nothing (m.Vote t answer)
-  says_does (m.Inquire t) shelf own = says_nothing (m.Inquire t)
 
   says_any : (message : Message) (shelf : Shelf) → Answers T s message (stores.says S.rights n s message shelf)
-  says_any message shelf =
-      says_if (is_worker S.rights s && is_own s message) (does S.rights n s message shelf) silent message
-      (λ h. says_does message shelf (and_parts (is_worker S.rights s) (is_own s message) h).1) (λ _. says_nothing message)
+  says_any message shelf = answered S.rights n s shelf (Answers T s message) message (record {
+    rests = λ h. says_nothing message;
+    lacks = λ t o h. for_it h.is (says_reply t o (m.Deny t o why.Missing) refl);
+    bars = λ t o h. for_it h.is (says_reply t o (m.Deny t o why.Rights) refl);
+    shows = λ t o row h there. for_it h.is (says_reply t o (m.Object t o row.1 row.2) refl);
+    too_late = λ t items h. for_it h.is (says_vote t items (OldTid (last_of shelf s)) None (λ y. omega arith) (λ c. refl));
+    votes_on = λ t items h above. for_it h.is (says_voted t items (vote S.rights n s t items shelf) h.sender);
+    applies = λ t h there. says_record (e.Applied t) (note.Applied t ∷ []) message (λ y. refl) (λ c. refl);
+    releases = λ t h there. says_record (e.Released t) [] message (λ y. refl) (λ c. refl);
+    boots = λ b h later. says_record (e.BootSeen s b) [] message (λ y. refl) (λ c. refl);
+  })
+    where
+      for_it : {own : Message} {said : Said} → message ≡ own → Answers T s own said → Answers T s message said
+      for_it {own} {said} is h = subst (λ x. Answers T s x said) (sym is) h
 
   pub hears_says : (kept : Kept) (message : Message) (shelf : Shelf) (a : Attempt) → Counted S T n kept a a.phase
       → Hears S T n kept a (of_store S a (stores.says S.rights n s message shelf)) s message

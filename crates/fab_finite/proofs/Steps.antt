@@ -2,7 +2,7 @@
 use Rattle.std.proofs.Common.{◌≡◌, ℕ, ◌+◌, ◌*◌, ◌≤◌, List, [], ◌∷◌, ◌++◌, length, map, take, Bool, true, false, cond, true≢false, ◌==◌, ◌&&◌, not, Option, Some, None, refl, sym, ap, ◌∙◌, subst, inl, inr, arith}
 use Rattle.std.specs.List.{filter}
 use Rattle.std.proofs.Math.Nat.{mul-le-mul_left, mul-le-mul_right}
-use Rattle.std.proofs.lemmas.Bool.{cases_eq, and_parts, eq-eqb, ne_eqb}
+use Rattle.std.proofs.lemmas.Bool.{cases_eq, and_parts, cond_both, eq-eqb, ne_eqb}
 use Rattle.fab_base.specs.declared.entry.Entry.{Entry}
 use Rattle.fab_base.specs.declared.message.Message.{Message}
 use Rattle.fab_base.specs.MessageSpelling.{spelled}
@@ -15,7 +15,8 @@ use Rattle.fab_world.specs.Machine.{ready, acted, cut, down, posted, at_node, by
 use Rattle.fab_world.specs.Machine.{steps, may, enabled}
 use Rattle.fab_world.specs.Serial.{IsSetting, IsEvaluation, attempts_in, attempts_at}
 use Rattle.fab_world.specs.Workers as workers
-use Rattle.fab_world.specs.Workers.{Attempt, Act, Phase, Kept, fresh, kept_of, takes, wakes}
+use Rattle.fab_world.specs.Workers.{Attempt, Act, Phase, Kept, fresh, kept_of, takes}
+use Rattle.fab_world.proofs.WorkerActs.{woken}
 use Rattle.fab_integrity.proofs.Changes.{Changes, does_changes, down_changes, fails_changes, cuts_changes, posted_node, if_whole}
 use Rattle.fab_integrity.proofs.Invariant.{In}
 use Rattle.fab_integrity.proofs.Lasting.{kept_behind, keeps_behind}
@@ -157,10 +158,6 @@ module _ (S : Setting) (T : ℕ) where
     evaluating (workers.Fetching o) h = absurd (true≢false (sym h))
     evaluating (workers.Preparing ls) h = absurd (true≢false (sym h))
 
-    comes_if : (e : Inner) (b : Bool) (x y : Act) → (b ≡ true → Comes w e x) → (b ≡ false → Comes w e y) → Comes w e (cond b x y)
-    comes_if e true x y f g = f refl
-    comes_if e false x y f g = g refl
-
     -- the bytes that are heard are a message, or none
     comes_heard : (a b : ℕ) (heard : Option Message) → S.read (front_of (w.queue a b)) ≡ heard → Comes w (i.Deliver a b) (hears S w a b heard)
     comes_heard a b None is =
@@ -172,8 +169,8 @@ module _ (S : Setting) (T : ℕ) where
         some y false = omega arith
     comes_heard a b (Some message) is =
         let read = spelled_so S real (front_of (w.queue a b)) message is in
-        comes_if (i.Deliver a b) (is_worker S.rights b) (takes S.rights S.cache b (kept S w b) a message (w.node b).attempt (parts S w b))
-        (of_store S (w.node b).attempt (stores.says S.rights b a message (shelf S w b)))
+        cond_both (is_worker S.rights b) (takes S.rights S.cache b (kept S w b) a message (w.node b).attempt (parts S w b))
+        (of_store S (w.node b).attempt (stores.says S.rights b a message (shelf S w b))) (Comes w (i.Deliver a b))
         (λ _. heard_so read.bytes_are (hears_takes S T b (kept S w b) law grows a (w.node b).attempt (parts S w b) (all b) message))
         (λ _. heard_so read.bytes_are (hears_says S T a b (kept S w b) message (shelf S w b) (w.node b).attempt (all b)))
       where
@@ -193,7 +190,7 @@ module _ (S : Setting) (T : ℕ) where
     comes_act (i.Idle n s) can =
         on_gives_up S T n (kept S w n) law grows s (w.node n).attempt (parts S w n) (and_parts _ _ (and_parts _ _ can).0).1
     comes_act (i.Recover n) can =
-        comes_if (i.Recover n) (is_worker S.rights n) (wakes S.rights S.cache n (kept S w n)) (of_store S (w.node n).attempt (stores.asks (shelf S w n)))
+        woken S w (Comes w (i.Recover n)) n
         (λ _. record { cost = λ y. let h = wakes_sent S T n (kept S w n) y in omega (arith, h); counted = inl refl })
         (λ _. record { cost = λ y. let h = asks_sent T y (shelf S w n).prepared in omega (arith, h); counted = inr (λ c. refl, all n) })
 

@@ -1,42 +1,29 @@
 -- Who prepares waits for one node at least, and for stores alone, in each act.
-use Rattle.std.proofs.Common.{◌≡◌, ◌⊎◌, ℕ, suc, ◌++◌, List, [], ◌∷◌, map, Bool, true, false, not, cond, if◌then◌else◌, ◌&&◌, ◌==◌, nat_lt, IsTrue}
-use Rattle.std.proofs.Common.{Option, Some, None, refl, sym, subst, inl, inr}
-use Rattle.std.specs.List.{filter, fold}
+use Rattle.std.proofs.Common.{◌≡◌, ◌⊎◌, ℕ, ◌++◌, List, [], ◌∷◌, map, Bool, true, false, not, if◌then◌else◌, ◌==◌, nat_lt, IsTrue}
+use Rattle.std.proofs.Common.{refl, sym, subst, inl, inr}
+use Rattle.std.specs.List.{fold}
 use Rattle.fab_base.specs.declared.object.Oid.{Oid}
 use Rattle.fab_base.specs.declared.object.Object.{Object}
 use Rattle.fab_base.specs.declared.object.Tid.{Tid}
-use Rattle.fab_base.specs.declared.message.Answer.{Answer}
-use Rattle.fab_base.specs.declared.message.Answer.TheVariants.{Yes, Stale, Locked, Rights as NoRights, OldTid, IllFormed, Exists}
-use Rattle.fab_base.specs.declared.message.Why.{Why}
-use Rattle.fab_base.specs.declared.message.Why.TheVariants as why
 use Rattle.fab_base.specs.declared.message.Message.{Message}
-use Rattle.fab_base.specs.declared.message.Message.TheVariants as m
 use Rattle.fab_base.specs.FieldSpelling.{IsTid}
 use Rattle.fab_base.specs.FlatMap.{FlatMap, map_of, is_among}
-use Rattle.fab_language.specs.declared.ending.Ending.{Ending}
-use Rattle.fab_language.specs.declared.ending.Ending.TheVariants as endings
 use Rattle.fab_language.specs.Heaps.{touched}
 use Rattle.fab_language.specs.Meaning.{Meant}
 use Rattle.fab_net.specs.declared.event.Inner.{Inner}
 use Rattle.fab_net.specs.declared.event.Inner.TheVariants as i
 use Rattle.fab_net.specs.declared.note.Commit.{Commit}
-use Rattle.fab_net.specs.declared.outcome.Denial.TheVariants as denial
-use Rattle.fab_net.specs.declared.outcome.ReqOutcome.TheVariants as ends
 use Rattle.fab_rights.specs.declared.rights.Rights.{Rights}
-use Rattle.fab_rights.specs.Computed.{is_store, is_worker, suits}
+use Rattle.fab_rights.specs.Computed.{is_store}
 use Rattle.fab_protocol.specs.declared.parts.Parts.{Parts}
-use Rattle.fab_protocol.specs.Caches.{cached_row}
 use Rattle.fab_protocol.specs.Parts.{stores_of, touched_names, with_number}
-use Rattle.fab_protocol.specs.Stores as stores
-use Rattle.fab_protocol.specs.Stores.{asks}
-use Rattle.fab_protocol.specs.Versions.{Row, objects_of, version_of}
+use Rattle.fab_protocol.specs.Versions.{objects_of, version_of}
 use Rattle.fab_world.specs.Attempts.{parts_of}
-use Rattle.fab_world.specs.Machine.{Setting, World, kept, shelf, node_of, act, is_empty, front_of, hears, of_store, meant, parts}
+use Rattle.fab_world.specs.Machine.{Setting, World, kept, node_of, act, is_empty, front_of, meant, parts}
 use Rattle.fab_world.specs.Serial.{IsSetting, IsEvaluation, IsFit, IsFitName, AreFit}
 use Rattle.fab_world.specs.Workers as workers
-use Rattle.fab_world.specs.Workers.{Kept, Phase, Attempt, Act, stays, noting, sending, telling, dropped, not_voted, request_of, tid_of}
-use Rattle.fab_world.specs.Workers.{closes, undecided, try_ends, gives, needs, asks_all, resumes_at, awaits_object, is_made_before, got, denied}
-use Rattle.fab_world.specs.Workers.{waits_for, yes_from, awaits_vote, voted_by, has_decided, inquired, takes_any, takes, wakes}
+use Rattle.fab_world.specs.Workers.{Kept, Phase, Attempt, Act, not_voted, request_of, resumes, takes, tid_of}
+use Rattle.fab_world.proofs.WorkerActs.{heard, resumed, taken, woken}
 use Rattle.fab_integrity.proofs.Invariant.{In, State, WorkerOk, IsWorker, standing}
 use Rattle.fab_integrity.proofs.Lists.{in_append, in_filter, in_map, all_of, each_of}
 use Rattle.fab_integrity.proofs.Maps.{all_put, ascends_put_all}
@@ -69,107 +56,50 @@ not_voted_stores rights (workers.Fetching o) h l i = absurd i
 
 -- ---- a worker's acts
 
+abbrev On : Rights → Act → Type 0
+On rights act = Waits rights act.attempt.phase
+
 module _ (rights : Rights) (k n : ℕ) (kept : Kept) where
-  abbrev On : Act → Type 0
-  On act = Waits rights act.attempt.phase
+  on_resumes : (a : Attempt) (meant : Meant) → Waits rights a.phase → AllStores rights (stores_of (parts_of a.answers meant)) → On rights (resumes rights k n kept a meant)
+  on_resumes a meant h part = resumed rights k n kept a meant (On rights) (record {
+    finds = λ site o row is there. h;
+    fetches = λ site o is none. tt;
+    decides = λ value is none. tt;
+    asks = λ value s ss is at. record { some = refl; each = subst (AllStores rights) at part };
+    fails = λ is. tt;
+    stops = λ limit is. tt;
+  })
 
-  on_if : (b : Bool) (x y : Act) → On x → On y → On (cond b x y)
-  on_if true x y f g = f
-  on_if false x y f g = g
-
-  on_tried : (a : Attempt) (b : Bool)
-      → On (noting (undecided rights k n kept a) (cond b (closes rights k n kept ends.Conflict a) (stays (record (dropped a) { tries = suc a.tries }))))
-  on_tried a true = tt
-  on_tried a false = tt
-
-  on_try_ends : (a : Attempt) → On (try_ends rights k n kept a)
-  on_try_ends a = on_tried a (suc a.tries == 8)
-
-  on_needs : (site : ℕ) (o : Oid) (row : Option Row) (a : Attempt) (meant : Meant) → Waits rights a.phase → On (needs rights k n kept site o row a meant)
-  on_needs site o (Some row) a meant h = h
-  on_needs site o None a meant h = tt
-
-  on_asks_all : (ss : List ℕ) (a : Attempt) (parts : Parts) → AllStores rights ss → On (asks_all rights k n kept ss a parts)
-  on_asks_all [] a parts h = tt
-  on_asks_all (s ∷ ss) a parts h = record { some = refl; each = h }
-
-  on_resumes_at : (ending : Ending) (a : Attempt) (meant : Meant) → Waits rights a.phase → AllStores rights (stores_of (parts_of a.answers meant))
-      → On (resumes_at rights k n kept ending a meant)
-  on_resumes_at (endings.Missing site o) a meant h g = on_needs site o (cached_row a.caches o) a meant h
-  on_resumes_at (endings.Ended value) a meant h g = on_asks_all (stores_of (parts_of a.answers meant)) (telling a meant) (parts_of a.answers meant) g
-  on_resumes_at endings.Failed a meant h g = tt
-  on_resumes_at (endings.Stopped limit) a meant h g = tt
-
-  on_got : (s : ℕ) (o : Oid) (version : ℕ) (x : Object) (a : Attempt) → On (got rights k n kept s o version x a)
-  on_got s o version x a =
-      on_if (suits rights o x && nat_lt 0 version && is_made_before rights k n kept o a)
-      (stays (record a { phase = workers.Evaluating; answers = a.answers ++ (o, version, x) ∷ [] })) (gives rights k n kept (ends.Denied s denial.IllFormed) a) tt tt
-
-  on_denied : (s : ℕ) (reason : Why) (a : Attempt) → On (denied rights k n kept s reason a)
-  on_denied s why.Missing a = on_try_ends a
-  on_denied s why.Rights a = tt
-
-  on_waits_for : (ls : List ℕ) (a : Attempt) (parts : Parts) → AllStores rights ls → On (waits_for rights k n kept ls a parts)
-  on_waits_for [] a parts h = tt
-  on_waits_for (l ∷ ls) a parts h = record { some = refl; each = h }
-
-  on_yes : (s : ℕ) (a : Attempt) (parts : Parts) → Waits rights a.phase → On (yes_from rights k n kept s a parts)
-  on_yes s a parts h =
-      on_waits_for (filter (λ l. not (l == s)) (not_voted a.phase)) a parts
-      (λ l i. not_voted_stores rights a.phase h l (in_filter (λ l. not (l == s)) l (not_voted a.phase) i).0)
-
-  on_voted : (s : ℕ) (answer : Answer) (a : Attempt) (parts : Parts) → Waits rights a.phase → On (voted_by rights k n kept s answer a parts)
-  on_voted s Yes a parts h = on_yes s a parts h
-  on_voted s (Stale o version) a parts h = on_try_ends a
-  on_voted s (Locked t) a parts h = on_try_ends a
-  on_voted s (NoRights o) a parts h = on_try_ends a
-  on_voted s (OldTid t) a parts h = on_try_ends a
-  on_voted s (IllFormed o) a parts h = on_try_ends a
-  on_voted s (Exists o) a parts h = on_try_ends a
-
-  on_inquired : (s : ℕ) (t : Tid) (a : Attempt) (parts : Parts) → Waits rights a.phase → On (inquired rights k n kept s t a parts)
-  on_inquired s t a parts h =
-      on_if (has_decided rights k n kept t s) (sending ((s, m.Commit t) ∷ []) (stays a))
-      (cond (awaits_vote rights k n kept s t a parts a.phase) (yes_from rights k n kept s a parts) (sending ((s, m.Abort t) ∷ []) (stays a))) h
-      (on_if (awaits_vote rights k n kept s t a parts a.phase) (yes_from rights k n kept s a parts) (sending ((s, m.Abort t) ∷ []) (stays a))
-      (on_yes s a parts h) h)
-
-  on_takes_any : (s : ℕ) (message : Message) (a : Attempt) (parts : Parts) → Waits rights a.phase → On (takes_any rights k n kept s message a parts)
-  on_takes_any s (m.Object t o version x) a parts h =
-      on_if (awaits_object rights k n kept s t o a a.phase) (got rights k n kept s o version x a) (stays a) (on_got s o version x a) h
-  on_takes_any s (m.Deny t o reason) a parts h =
-      on_if (awaits_object rights k n kept s t o a a.phase) (denied rights k n kept s reason a) (stays a) (on_denied s reason a) h
-  on_takes_any s (m.Vote t answer) a parts h =
-      on_if (awaits_vote rights k n kept s t a parts a.phase) (voted_by rights k n kept s answer a parts) (stays a) (on_voted s answer a parts h) h
-  on_takes_any s (m.Inquire t) a parts h = on_if (t.worker == n) (inquired rights k n kept s t a parts) (stays a) (on_inquired s t a parts h) h
-  on_takes_any s (m.Fetch t o) a parts h = h
-  on_takes_any s (m.Prepare t items) a parts h = h
-  on_takes_any s (m.Commit t) a parts h = h
-  on_takes_any s (m.Abort t) a parts h = h
-  on_takes_any s (m.Boot b) a parts h = h
-
-  on_takes : (s : ℕ) (message : Message) (a : Attempt) (parts : Parts) → Waits rights a.phase → On (takes rights k n kept s message a parts)
-  on_takes s message a parts h = on_if (is_store rights s) (takes_any rights k n kept s message a parts) (stays a) (on_takes_any s message a parts h) h
+  on_takes : (s : ℕ) (message : Message) (a : Attempt) (parts : Parts) → Waits rights a.phase → On rights (takes rights k n kept s message a parts)
+  on_takes s message a parts h = taken rights k n kept s a parts message (On rights) (record {
+    rests = λ e. h;
+    learns = λ x e. tt;
+    denied = λ reason x. tt;
+    tires = λ x e. tt;
+    tries = λ x e. tt;
+    gives_up = λ x e. tt;
+    aborts = λ x e. tt;
+    decides = λ x e. tt;
+    waits = λ x l ls e. record {
+      some = refl;
+      each = subst (AllStores rights) e (λ z i. not_voted_stores rights a.phase h z (in_filter (λ l. not (l == s)) z (not_voted a.phase) i).0);
+    };
+    commits = λ x e. h;
+    forgets = λ x e g. h;
+  })
 
 -- ---- an event's act
 
-module _ (S : Setting) where
-  waits_hears : (w : World) (a b : ℕ) (heard : Option Message) → Waits S.rights (w.node b).attempt.phase → Waits S.rights (hears S w a b heard).attempt.phase
-  waits_hears w a b None h = h
-  waits_hears w a b (Some message) h =
-      on_if S.rights S.cache b (kept S w b) (is_worker S.rights b) (takes S.rights S.cache b (kept S w b) a message (w.node b).attempt (parts S w b))
-      (of_store S (w.node b).attempt (stores.says S.rights b a message (shelf S w b)))
-      (on_takes S.rights S.cache b (kept S w b) a message (w.node b).attempt (parts S w b) h) h
-
-  -- behind an event that may come its node waits for stores, where those that take part are stores
-  pub waits_act : (w : World) (e : Inner) → AllStores S.rights (stores_of (parts S w (node_of e))) → Waits S.rights (w.node (node_of e)).attempt.phase
-      → Waits S.rights (act S w e).attempt.phase
-  waits_act w (i.Begin n) part h = tt
-  waits_act w (i.Resume n) part h = on_resumes_at S.rights S.cache n (kept S w n) (meant S w n).ending (w.node n).attempt (meant S w n) h part
-  waits_act w (i.Deliver a b) part h = waits_hears w a b (S.read (front_of (w.queue a b))) h
-  waits_act w (i.Idle n s) part h = tt
-  waits_act w (i.Recover n) part h =
-      on_if S.rights S.cache n (kept S w n) (is_worker S.rights n) (wakes S.rights S.cache n (kept S w n)) (of_store S (w.node n).attempt (asks (shelf S w n))) tt h
+-- behind an event that may come its node waits for stores, where those that take part are stores
+pub waits_act : (S : Setting) (w : World) (e : Inner) → AllStores S.rights (stores_of (parts S w (node_of e))) → Waits S.rights (w.node (node_of e)).attempt.phase
+    → Waits S.rights (act S w e).attempt.phase
+waits_act S w (i.Begin n) part h = tt
+waits_act S w (i.Resume n) part h = on_resumes S.rights S.cache n (kept S w n) (w.node n).attempt (meant S w n) h part
+waits_act S w (i.Deliver a b) part h =
+    heard S w (On S.rights) a b h (λ message worker. on_takes S.rights S.cache b (kept S w b) a message (w.node b).attempt (parts S w b) h) (λ message store. h)
+    (S.read (front_of (w.queue a b)))
+waits_act S w (i.Idle n s) part h = tt
+waits_act S w (i.Recover n) part h = woken S w (On S.rights) n (λ worker. tt) (λ store. h)
 
 -- ---- those that take part
 

@@ -3,39 +3,35 @@
 -- A message changes what a store has prepared and its last tids as `Behind` says; what it leaves of the queue is the order.
 -- The Boot that recovery sends stands behind the Commits that it tells again, which is what keeps a decision from being dropped.
 use Rattle.std.proofs.Common.{◌≡◌, ◌⊎◌, ℕ, zero, suc, ◌+◌, ◌<◌, ◌≤◌, List, [], ◌∷◌, ◌++◌, map, length}
-use Rattle.std.proofs.Common.{Bool, true, false, not, cond, ◌&&◌, ◌||◌, ◌==◌, nat_lt, Option, Some, None}
+use Rattle.std.proofs.Common.{Bool, true, false, not, cond, ◌&&◌, ◌==◌, Option, Some, None}
 use Rattle.std.proofs.Common.{refl, sym, ap, ◌∙◌, subst, inl, inr, arith, append-nil}
 use Rattle.std.specs.List.{filter, flat_map, range_with_len}
-use Rattle.std.proofs.lemmas.Bool.{cases_eq, cases_lt, both_ways, eqb-true, eq-eqb, ne_eqb, not-true}
+use Rattle.std.proofs.lemmas.Bool.{and_from, cases_eq, cases_lt, both_ways, eqb-true, eq-eqb, ne_eqb, not-true}
 use Rattle.std.proofs.lemmas.List.{set_past, map-append}
 use Rattle.std.proofs.lemmas.List.Elements.{filter-append}
 use Rattle.fab_base.specs.declared.object.Tid.{Tid}
-use Rattle.fab_base.specs.declared.object.Oid.{Oid}
 use Rattle.fab_base.specs.declared.message.Answer.{Answer}
-use Rattle.fab_base.specs.declared.message.Answer.TheVariants.{Yes, Stale, Locked, Rights as NoRights, OldTid, IllFormed, Exists}
+use Rattle.fab_base.specs.declared.message.Answer.TheVariants.{Yes}
 use Rattle.fab_base.specs.declared.message.Items.{Items}
 use Rattle.fab_base.specs.declared.message.Message.{Message}
 use Rattle.fab_base.specs.declared.message.Message.TheVariants as m
-use Rattle.fab_base.specs.declared.message.Why.TheVariants as why
-use Rattle.fab_base.specs.declared.entry.Entry.{Entry}
 use Rattle.fab_base.specs.declared.entry.Entry.TheVariants as e
 use Rattle.fab_base.specs.FieldSpelling.{IsTid}
 use Rattle.fab_base.specs.MessageSpelling.{spelled}
 use Rattle.fab_base.specs.Tids.{is_above}
 use Rattle.fab_net.specs.declared.note.Commit.{Commit}
-use Rattle.fab_net.specs.declared.note.Note.TheVariants as note
 use Rattle.fab_rights.specs.declared.rights.Rights.{Rights}
-use Rattle.fab_rights.specs.Computed.{is_store, is_worker, knows, may_fetch, stores_in}
+use Rattle.fab_rights.specs.Computed.{is_store, is_worker, stores_in}
 use Rattle.fab_protocol.specs.declared.parts.Decision.{Decision}
 use Rattle.fab_protocol.specs.declared.sender.Sender.{Sender}
 use Rattle.fab_protocol.specs.Parts.{stores_of}
 use Rattle.fab_protocol.specs.Stores as stores
-use Rattle.fab_protocol.specs.Stores.{Shelf, Prepared, last_of, boot_of, sender_in, with_last, with_boot, start_of, shelf_of, keeps, keeps_said, without}
-use Rattle.fab_protocol.specs.Stores.{is_prepared, is_own, silent, records, replies, votes, vote, voted, found, fetched, asked, does}
-use Rattle.fab_protocol.specs.Tables.{row_of}
-use Rattle.fab_protocol.specs.Versions.{Row, is_tid, name_of}
+use Rattle.fab_protocol.specs.Stores.{Shelf, Prepared, last_of, sender_in, with_last, with_boot, start_of, shelf_of, keeps, keeps_said, without}
+use Rattle.fab_protocol.specs.Stores.{is_prepared, is_own, silent, vote, voted, does}
+use Rattle.fab_protocol.specs.Versions.{is_tid}
 use Rattle.fab_protocol.proofs.Records.{worker_below, last_at, last_other}
 use Rattle.fab_protocol.proofs.Senders.{sender_at, sender_other}
+use Rattle.fab_protocol.proofs.StoreActs.{answered, is_due}
 use Rattle.fab_world.specs.Machine.{Setting, World, at_start, kept, shelf, down, option_list}
 use Rattle.fab_world.specs.Serial.{IsSetting}
 use Rattle.fab_world.specs.Workers.{to_all, wakes}
@@ -110,31 +106,19 @@ module _ (a : ℕ) where
     last = inl refl;
   }
 
-  not_prepared : (t : Tid) (before : Shelf) → is_prepared t before ≡ false → (u : Tid) (p : Prepared) → Some (m.Commit t) ≡ Some (m.Commit u) → In p before.prepared
-      → p.0 ≡ u → ⊥
-  not_prepared t before out u p e h same =
-      both_ways (is_prepared t before) out
-      (in_any (λ (q : Prepared). is_tid q.0 t) p before.prepared h (subst (λ z. is_tid z t ≡ true) (one_commit t u e ∙ sym same) (tid_itself t)))
-
   gone : (t : Tid) (ps : List Prepared) (p : Prepared) → In p (without t ps) → In p ps × (p.0 ≡ t → ⊥)
   gone t ps p h =
       let r = in_filter (λ (q : Prepared). not (is_tid q.0 t)) p ps h in
       (r.0, λ same. both_ways (is_tid p.0 t) (not-true (is_tid p.0 t) r.1) (subst (λ z. is_tid z t ≡ true) (sym same) (tid_itself t)))
 
-  behind_commit : (t : Tid) (before : Shelf) (b : Bool) → is_prepared t before ≡ b
-      → Behind a (Some (m.Commit t)) before (keeps_said (cond b (records (e.Applied t) (note.Applied t ∷ [])) silent).entry before)
-  behind_commit t before true is = record {
+  behind_applied : (t : Tid) (before : Shelf) → Behind a (Some (m.Commit t)) before (keeps (e.Applied t) before)
+  behind_applied t before = record {
     prepared = λ p h.
         let r = gone t before.prepared p h in
         inl (record { listed = r.0; untold = λ u f same own. r.1 (same ∙ sym (one_commit t u f)) });
     others = λ n ne. refl;
     last = inl refl;
   }
-  behind_commit t before false is = nothing_changes (Some (m.Commit t)) before (λ u p f h same own. not_prepared t before is u p f h same)
-
-  behind_abort : (t : Tid) (before : Shelf) (b : Bool) → Behind a (Some (m.Abort t)) before (keeps_said (cond b (records (e.Released t) []) silent).entry before)
-  behind_abort t before true = fewer (Some (m.Abort t)) before (without t before.prepared) (λ u f. cc) (λ p h. (gone t before.prepared p h).0)
-  behind_abort t before false = nothing_changes (Some (m.Abort t)) before (λ u p f. absurd (cc))
 
   -- the last tid, once one of the sender is noted
   noted : (senders : List Sender) (t : Tid) → t.worker ≡ a
@@ -178,18 +162,7 @@ module _ (a : ℕ) where
   behind_voted : (t : Tid) (items : Items) (answer : Answer) (before : Shelf) → t.worker ≡ a → is_above t (last_of before a) ≡ true
       → Behind a (Some (m.Prepare t items)) before (keeps (voted t items answer) before)
   behind_voted t items Yes before own new = behind_prepared t items before own new
-  behind_voted t items (Stale o version) before own new = behind_refused t items before own
-  behind_voted t items (Locked u) before own new = behind_refused t items before own
-  behind_voted t items (NoRights o) before own new = behind_refused t items before own
-  behind_voted t items (OldTid u) before own new = behind_refused t items before own
-  behind_voted t items (IllFormed o) before own new = behind_refused t items before own
-  behind_voted t items (Exists o) before own new = behind_refused t items before own
-
-  behind_asked : (t : Tid) (items : Items) (answer : Answer) (before : Shelf) → t.worker ≡ a → (b : Bool) → is_above t (last_of before a) ≡ b
-      → Behind a (Some (m.Prepare t items)) before
-      (keeps_said (cond (not b) (votes a t (OldTid (last_of before a)) None) (votes a t answer (Some (voted t items answer)))).entry before)
-  behind_asked t items answer before own true new = behind_voted t items answer before own new
-  behind_asked t items answer before own false old = nothing_changes (Some (m.Prepare t items)) before (λ u p f. absurd (cc))
+  behind_voted t items _ before own new = behind_refused t items before own
 
   booted_last : (b : ℕ) (before : Shelf) (ps : List Prepared)
       → LastIs a (Some (m.Boot b)) before (record before { prepared = ps; senders = with_boot a b before.senders })
@@ -200,69 +173,43 @@ module _ (a : ℕ) where
     | inr high ↦ inl (ap (λ (xs : List Sender). (sender_in xs a).last) (set_past before.senders a (record { last = start_of a b; boot = b }) high))
   ]
 
-  behind_boot : (b : ℕ) (before : Shelf) (c : Bool) → Behind a (Some (m.Boot b)) before (keeps_said (cond c (records (e.BootSeen a b) []) silent).entry before)
-  behind_boot b before true = record {
+  behind_booted : (b : ℕ) (before : Shelf) → Behind a (Some (m.Boot b)) before (keeps (e.BootSeen a b) before)
+  behind_booted b before = record {
     prepared = λ p h. inl (record { listed = (in_filter (λ (q : Prepared). not (q.0.worker == a)) p before.prepared h).0; untold = λ u f same mine. absurd (cc) });
     others = λ n ne. ap (λ (x : Sender). x.last) (sender_other before.senders a n (record { last = start_of a b; boot = b }) ne);
     last = booted_last b before (filter (λ p. not (p.0.worker == a)) before.prepared);
   }
-  behind_boot b before false = nothing_changes (Some (m.Boot b)) before (λ u p f. absurd (cc))
-
-  no_record : (t : Tid) (o : Oid) (row : Option Row) → (found a t o row).entry ≡ None
-  no_record t o None = refl
-  no_record t o (Some row) = refl
 
   module _ (rights : Rights) (s : ℕ) where
-    may_be_denied : (t : Tid) (o : Oid) (before : Shelf) (b : Bool)
-        → (cond b (replies a (m.Deny t o why.Rights)) (found a t o (row_of name_of before.rows o))).entry ≡ None
-    may_be_denied t o before true = refl
-    may_be_denied t o before false = no_record t o (row_of name_of before.rows o)
-
-    fetched_none : (t : Tid) (o : Oid) (before : Shelf) → (fetched rights s a t o before).entry ≡ None
-    fetched_none t o before =
-        elim (not (o.store == s) || not (knows rights o.class)) as (λ b. (cond b (replies a (m.Deny t o why.Missing))
-        (cond (not (may_fetch rights a o.class)) (replies a (m.Deny t o why.Rights)) (found a t o (row_of name_of before.rows o)))).entry ≡ None) [
-          | true ↦ refl
-          | false ↦ may_be_denied t o before (not (may_fetch rights a o.class))
-        ]
-
-    behind_fetch : (t : Tid) (o : Oid) (before : Shelf) → Behind a (Some (m.Fetch t o)) before (keeps_said (fetched rights s a t o before).entry before)
-    behind_fetch t o before =
-        subst (λ (x : Option Entry). Behind a (Some (m.Fetch t o)) before (keeps_said x before)) (sym (fetched_none t o before))
-        (nothing_changes (Some (m.Fetch t o)) before (λ u p f. absurd (cc)))
-
-    behind_does : (message : Message) (before : Shelf) → is_own a message ≡ true
-        → Behind a (Some message) before (keeps_said (does rights s a message before).entry before)
-    behind_does (m.Fetch t o) before own = behind_fetch t o before
-    behind_does (m.Prepare t items) before own =
-        behind_asked t items (vote rights s a t items before) before (eqb-true t.worker a own) (is_above t (last_of before a)) refl
-    behind_does (m.Commit t) before own = behind_commit t before (is_prepared t before) refl
-    behind_does (m.Abort t) before own = behind_abort t before (is_prepared t before)
-    behind_does (m.Boot b) before own = behind_boot b before (nat_lt (boot_of before a) b)
-    behind_does (m.Object t o version x) before own = nothing_changes (Some (m.Object t o version x)) before (λ u p f. absurd (cc))
-    behind_does (m.Deny t o reason) before own = nothing_changes (Some (m.Deny t o reason)) before (λ u p f. absurd (cc))
-    behind_does (m.Vote t answer) before own = nothing_changes (Some (m.Vote t answer)) before (λ u p f. absurd (cc))
-    behind_does (m.Inquire t) before own = nothing_changes (Some (m.Inquire t)) before (λ u p f. absurd (cc))
-
-    -- a message that isn't the sender's is no Commit of its tids
-    not_own : (message : Message) → is_own a message ≡ false → (t : Tid) → Some message ≡ Some (m.Commit t) → t.worker ≡ a → ⊥
-    not_own message strange t e own =
-        let same : message ≡ m.Commit t = cc in
-        both_ways (t.worker == a) (subst (λ x. is_own a x ≡ false) same strange) (eq-eqb t.worker a own)
-
-    behind_says : (message : Message) (before : Shelf) → is_worker rights a ≡ true → (b : Bool) → is_own a message ≡ b
-        → Behind a (Some message) before (keeps_said (cond (true && b) (does rights s a message before) silent).entry before)
-    behind_says message before kind true own = behind_does message before own
-    behind_says message before kind false strange =
-        nothing_changes (Some message) before (λ t p f h same mine. not_own message strange t f (ap (λ (u : Tid). u.worker) (sym same) ∙ mine))
+    -- a Commit of the sender's, of what is prepared, is applied
+    is_applied : (message : Message) (before : Shelf) → is_worker rights a ≡ true → (t : Tid) (p : Prepared) → Some message ≡ Some (m.Commit t)
+        → In p before.prepared → p.0 ≡ t → p.0.worker ≡ a → (is_worker rights a && is_own a message && is_due rights s a before message) ≡ true
+    is_applied message before kind t p e listed same mine =
+        let commit : message ≡ m.Commit t = cc in
+        subst (λ x. (is_worker rights a && is_own a x && is_due rights s a before x) ≡ true) (sym commit)
+        (and_from (is_worker rights a && (t.worker == a)) (is_prepared t before)
+        (and_from (is_worker rights a) (t.worker == a) kind (eq-eqb t.worker a (ap (λ (u : Tid). u.worker) (sym same) ∙ mine)))
+        (in_any (λ (q : Prepared). is_tid q.0 t) p before.prepared listed (subst (λ z. is_tid z t ≡ true) (sym same) (tid_itself t))))
 
     -- whatever a worker says
     pub behind_hears : (heard : Option Message) (before : Shelf) → is_worker rights a ≡ true
         → Behind a heard before (keeps_said (stores.hears rights s a heard before).entry before)
     behind_hears None before kind = nothing_changes None before (λ t p f. absurd (cc))
     behind_hears (Some message) before kind =
-        subst (λ k. Behind a (Some message) before (keeps_said (cond (k && is_own a message) (does rights s a message before) silent).entry before)) (sym kind)
-        (behind_says message before kind (is_own a message) refl)
+        answered rights s a before (λ said. Behind a (Some message) before (keeps_said said.entry before)) message (record {
+          rests = λ h. nothing_changes (Some message) before (λ t p e listed same mine. both_ways _ h (is_applied message before kind t p e listed same mine));
+          lacks = λ t o h. for_it h.is (nothing_changes (Some (m.Fetch t o)) before (λ u p f. absurd (cc)));
+          bars = λ t o h. for_it h.is (nothing_changes (Some (m.Fetch t o)) before (λ u p f. absurd (cc)));
+          shows = λ t o row h there. for_it h.is (nothing_changes (Some (m.Fetch t o)) before (λ u p f. absurd (cc)));
+          too_late = λ t items h. for_it h.is (nothing_changes (Some (m.Prepare t items)) before (λ u p f. absurd (cc)));
+          votes_on = λ t items h above. for_it h.is (behind_voted t items (vote rights s a t items before) before (eqb-true t.worker a h.sender) above);
+          applies = λ t h there. for_it h.is (behind_applied t before);
+          releases = λ t h there. for_it h.is (fewer (Some (m.Abort t)) before (without t before.prepared) (λ u f. cc) (λ p i. (gone t before.prepared p i).0));
+          boots = λ b h later. for_it h.is (behind_booted b before);
+        })
+      where
+        for_it : {own : Message} {after : Shelf} → message ≡ own → Behind a (Some own) before after → Behind a (Some message) before after
+        for_it {own} {after} is h = subst (λ x. Behind a (Some x) before after) (sym is) h
 
     -- what a node that is no worker says changes nothing
     pub stranger_hears : (heard : Option Message) (before : Shelf) → is_worker rights a ≡ false

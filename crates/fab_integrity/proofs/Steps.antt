@@ -3,7 +3,7 @@ use Rattle.std.specs.Prelude.{◌≡◌, ◌⊎◌, ℕ, ◌+◌, ◌≤◌, Boo
 use Rattle.std.specs.Prelude.{List, [], ◌∷◌, ◌++◌, length, Option, Some, None, fold}
 use Rattle.std.specs.List.{filter, flat_map, AllByRecursion}
 use Rattle.std.proofs.Common.{refl, sym, ap, ◌∙◌, subst, inl, inr, arith}
-use Rattle.std.proofs.lemmas.Bool.{cases_eq, cases_Bool, and_parts, both_ways, cond_both, or_cases, not-true, false_from_ne_true, true≢false}
+use Rattle.std.proofs.lemmas.Bool.{cases_eq, cases_Bool, and_parts, both_ways, or_cases, not-true, false_from_ne_true, true≢false}
 use Rattle.std.proofs.lemmas.List.{append-nil}
 use Rattle.fab_base.specs.declared.object.Tid.{Tid}
 use Rattle.fab_base.specs.declared.message.Message.{Message}
@@ -24,6 +24,7 @@ use Rattle.fab_world.specs.Serial.{IsSetting, IsEvaluation, Excludes, within, re
 use Rattle.fab_integrity.specs.Redone.{AllRedone}
 use Rattle.fab_world.specs.Workers as workers
 use Rattle.fab_world.specs.Workers.{Act, Attempt, Phase, stays, takes, wakes, tid_of, fresh}
+use Rattle.fab_world.proofs.WorkerActs.{heard}
 use Rattle.fab_integrity.proofs.Invariant.{In, State, Inv, Ordered, IsWorker, IsStore, deals}
 use Rattle.fab_integrity.proofs.Lists.{in_append, each_of, filter_all, filter_none}
 use Rattle.fab_integrity.proofs.Worlds.{IsAsBefore, Follows, IsSent, Lands, at_same, at_other, down_here, down_other}
@@ -84,19 +85,13 @@ module _ (S : Setting) where
   abbrev IsMute : Act → Type 0
   IsMute act = AllByRecursion IsNoBoot act.sends
 
-  heard_mute : (w : World) (a b : ℕ) → IsTrue (is_worker S.rights b) → (heard : Option Message) → IsMute (machine.hears S w a b heard)
-  heard_mute w a b is None = tt
-  heard_mute w a b is (Some message) =
-      cond_both (is_worker S.rights b) (takes S.rights S.cache b (kept S w b) a message (w.node b).attempt (machine.parts S w b))
-      (of_store S (w.node b).attempt (says S.rights b a message (shelf S w b))) IsMute
-      (λ _. (plain_takes S.rights S.cache b (kept S w b) a message (w.node b).attempt (machine.parts S w b)).quiets)
-      (λ no_. absurd (both_ways (is_worker S.rights b) no_ is))
-
   -- a worker's act sends no Boot, or is its restart
   act_mute : (w : World) (e : Inner) → IsTrue (is_worker S.rights (node_of e)) → IsMute (act S w e) ⊎ ((x : ℕ) × (e ≡ i.Recover x))
   act_mute w (i.Begin n) is = inl (plain_begins S.rights S.cache n (kept S w n) (w.node n).attempt).quiets
   act_mute w (i.Resume n) is = inl (plain_resumes S.rights S.cache n (kept S w n) (w.node n).attempt (machine.meant S w n)).quiets
-  act_mute w (i.Deliver a b) is = inl (heard_mute w a b is (S.read (front_of (w.queue a b))))
+  act_mute w (i.Deliver a b) is = inl (heard S w IsMute a b tt
+      (λ message worker. (plain_takes S.rights S.cache b (kept S w b) a message (w.node b).attempt (machine.parts S w b)).quiets)
+      (λ message no_. absurd (both_ways (is_worker S.rights b) no_ is)) (S.read (front_of (w.queue a b))))
   act_mute w (i.Idle n s) is = inl (plain_gives_up S.rights S.cache n (kept S w n) s (w.node n).attempt (machine.parts S w n)).quiets
   act_mute w (i.Recover n) is = inr (n, refl)
 

@@ -3,29 +3,24 @@ use Rattle.std.proofs.Common.{◌≡◌, ℕ, suc, ◌+◌, ◌<◌, ◌≤◌, 
 use Rattle.std.proofs.Common.{List, [], ◌∷◌, ◌++◌, map, Option, Some, None, unwrap_or, refl, sym, ap, ◌∙◌, subst, ◌⊎◌, inl, inr, arith}
 use Rattle.std.specs.Prelude.{slice_get}
 use Rattle.std.specs.List.{filter, flat_map, range_with_len, AllByRecursion}
-use Rattle.std.proofs.lemmas.Bool.{cases_eq, ne_eqb, eqb-true, and_parts, and_from, both_ways, false_from_ne_true, cond_both, true≢false}
+use Rattle.std.proofs.lemmas.Bool.{cases_eq, ne_eqb, and_parts, and_from, both_ways, false_from_ne_true}
 use Rattle.std.proofs.lemmas.List.{append-nil, map-append}
 use Rattle.fab_base.specs.declared.entry.Entry.{Entry}
-use Rattle.fab_base.specs.declared.message.Answer.{Answer}
-use Rattle.fab_base.specs.declared.message.Answer.TheVariants.{Yes, Stale, Locked, Rights as NoRight, OldTid, IllFormed as Malformed, Exists}
 use Rattle.fab_base.specs.declared.message.Message.{Message}
 use Rattle.fab_base.specs.declared.message.Message.TheVariants as m
-use Rattle.fab_base.specs.declared.message.Why.{Why}
-use Rattle.fab_base.specs.declared.message.Why.TheVariants as why
 use Rattle.fab_base.specs.declared.object.Oid.{Oid}
 use Rattle.fab_base.specs.declared.object.Object.{Object}
 use Rattle.fab_base.specs.declared.object.Tid.{Tid}
 use Rattle.fab_base.specs.declared.object.Value.{Value}
 use Rattle.fab_base.specs.FieldSpelling.{IsTid, IsObject}
-use Rattle.fab_base.specs.FlatMap.{is_among, is_same}
+use Rattle.fab_base.specs.FlatMap.{is_among}
 use Rattle.fab_base.specs.MessageSpelling.{IsMessage}
 use Rattle.fab_language.specs.declared.ending.Ending.TheVariants as endings
 use Rattle.fab_net.specs.declared.note.Commit.{Commit}
 use Rattle.fab_net.specs.declared.note.Note.{Note}
 use Rattle.fab_net.specs.declared.note.Note.TheVariants as note
-use Rattle.fab_net.specs.declared.outcome.Denial.TheVariants.{Rights as NoRights, IllFormed}
 use Rattle.fab_net.specs.declared.outcome.ReqOutcome.{ReqOutcome}
-use Rattle.fab_net.specs.declared.outcome.ReqOutcome.TheVariants.{Conflict, Silent, Denied}
+use Rattle.fab_net.specs.declared.outcome.ReqOutcome.TheVariants.{Silent}
 use Rattle.fab_rights.specs.Computed.{is_store, suits, stores_in}
 use Rattle.fab_protocol.specs.Caches.{cached_row}
 use Rattle.fab_protocol.specs.declared.parts.Decision.{Decision}
@@ -35,14 +30,15 @@ use Rattle.fab_protocol.specs.Tables.{row_of, OnlyOnce}
 use Rattle.fab_protocol.specs.Versions.{Row, Rows, name_of, names_of, objects_of, is_tid}
 use Rattle.fab_protocol.proofs.Lists.{all_map}
 use Rattle.fab_protocol.proofs.NameLists.{once_append}
-use Rattle.fab_protocol.proofs.TableLaws.{one_name, row_of_name}
+use Rattle.fab_protocol.proofs.TableLaws.{row_of_name}
 use Rattle.fab_world.specs.Machine.{Setting, World, kept, shelf, meant, parts, lacks}
-use Rattle.fab_world.specs.Serial.{IsSetting, IsEvaluation, Excludes, IsFit, IsFitName, AreFit}
+use Rattle.fab_world.specs.Serial.{IsSetting, IsEvaluation, Excludes, IsFit, AreFit}
 use Rattle.fab_world.specs.Workers as workers
-use Rattle.fab_world.specs.Workers.{Act, Attempt, Kept, Phase, is_in, closed, dropped, fresh, stays, noting, sending, begins, needs, ends, asks_all, closes}
-use Rattle.fab_world.specs.Workers.{gives, try_ends, undecided}
-use Rattle.fab_world.specs.Workers.{telling, new_touches, new_downs, takes_any, awaits_object, awaits_vote, aborts, aborts_in, denied, got, is_made_before}
-use Rattle.fab_world.specs.Workers.{voted_by, waits_for, has_decided, gives_up, wakes, request_of, tid_of, to_all}
+use Rattle.fab_world.specs.Workers.{Act, Attempt, Kept, Phase, is_in, closed, dropped, stays, noting, sending, begins, needs, ends, asks_all, closes}
+use Rattle.fab_world.specs.Workers.{gives, undecided}
+use Rattle.fab_world.specs.Workers.{telling, new_touches, new_downs, awaits_vote, aborts, aborts_in, is_made_before}
+use Rattle.fab_world.specs.Workers.{waits_for, has_decided, gives_up, wakes, request_of, tid_of, to_all}
+use Rattle.fab_world.proofs.WorkerActs.{Fetches, again}
 use Rattle.fab_integrity.proofs.Invariant.{In, State, Standing, Inv, Pair, IsWorker, IsStore, WorkerOk, IsHad, IsAwaited, IsEnded, IsPreparing, Known, Says}
 use Rattle.fab_integrity.proofs.Invariant.{Has, Voted, TakesPart}
 use Rattle.fab_integrity.proofs.Invariant.{current, decision_of, parts_by, tid_at, standing, deals, limit_at, rank_of}
@@ -53,7 +49,6 @@ use Rattle.fab_integrity.proofs.WorkerSpelling.{missing_fits, missing_is_new, pr
 use Rattle.fab_integrity.proofs.Worlds.{Lands}
 use Rattle.fab_integrity.proofs.Tids.{tid_is, tid_same, limit_at_most, tid_spelled, early_spelled}
 use Rattle.fab_protocol.proofs.Records.{worker_below}
-use Rattle.fab_integrity.proofs.Readings.{spelled_so}
 use Rattle.fab_integrity.proofs.Lasting.{kept_behind}
 use Rattle.fab_integrity.proofs.Frames.{moves_refl, holder_is}
 use Rattle.fab_integrity.proofs.Maps.{row_listed}
@@ -318,7 +313,7 @@ module _ (S : Setting) (D ex : ℕ → Bool) (given : IsSetting S) (law : IsEval
   abbrev OnlyAborts : List (ℕ × Message) → Type 0
   OnlyAborts sends = (s : ℕ) (x : Message) → In {A = ℕ × Message} (s, x) sends → (x ≡ m.Abort (tid_of n k a)) × IsPreparing a.phase
 
-  nothing : OnlyAborts []
+  pub nothing : OnlyAborts []
   nothing s x h = absurd h
 
   and_nothing : (sends : List (ℕ × Message)) → OnlyAborts sends → OnlyAborts (sends ++ [])
@@ -353,94 +348,40 @@ module _ (S : Setting) (D ex : ℕ → Bool) (given : IsSetting S) (law : IsEval
       → Lands n (noting notes (closes S.rights S.cache n k outcome a)) w v → Inv S D ex v cs C
   keeps_fails ev notes outcome lands = closes_with outcome [] (notes ++ note.Closed (request_of k) outcome ∷ []) nothing lands
 
-  gives_with : (outcome : ReqOutcome) (sends : List (ℕ × Message)) → OnlyAborts sends
+  -- a request that ends, or a try, and maybe Aborts of it
+  pub keeps_gives : (outcome : ReqOutcome) (sends : List (ℕ × Message)) → OnlyAborts sends
       → Lands n (sending sends (gives S.rights S.cache n k outcome a)) w v → Inv S D ex v cs C
-  gives_with outcome sends only lands =
+  keeps_gives outcome sends only lands =
       closes_with outcome (sends ++ []) (undecided S.rights S.cache n k a ++ note.Closed (request_of k) outcome ∷ []) (and_nothing sends only) lands
 
-  try_ends_with : (sends : List (ℕ × Message)) → OnlyAborts sends → Lands n (sending sends (try_ends S.rights S.cache n k a)) w v → Inv S D ex v cs C
-  try_ends_with sends only =
-      cond_both (suc a.tries == 8) (closes S.rights S.cache n k Conflict a) (stays (record (dropped a) { tries = suc a.tries }))
-      (λ act. Lands n (sending sends (noting (undecided S.rights S.cache n k a) act)) w v → Inv S D ex v cs C)
-      (λ _ lands. closes_with Conflict (sends ++ []) (undecided S.rights S.cache n k a ++ note.Closed (request_of k) Conflict ∷ []) (and_nothing sends only) lands)
-      (λ _ lands. drops None (suc a.tries) (sends ++ []) (undecided S.rights S.cache n k a ++ []) refl refl (and_nothing sends only) lands)
+  pub keeps_again : (sends : List (ℕ × Message)) → OnlyAborts sends → Lands n (sending sends (again S.rights S.cache n k a)) w v → Inv S D ex v cs C
+  keeps_again sends only lands = drops None (suc a.tries) (sends ++ []) (undecided S.rights S.cache n k a ++ []) refl refl (and_nothing sends only) lands
 
   -- ---- an answer to a Fetch
 
-  -- it was asked for, from there
-  record IsFetched (s : ℕ) (o : Oid) (ph : Phase) : Type 0 where
-    wanted : Oid
-    phase : ph ≡ workers.Fetching wanted
-    name : o ≡ wanted
-    place : o.store ≡ s
-
-  is_asked : (s : ℕ) (t : Tid) (o : Oid) (ph : Phase) → awaits_object S.rights S.cache n k s t o a ph ≡ true → IsFetched s o ph
-  is_asked s t o workers.Idle h = absurd (true≢false (sym h))
-  is_asked s t o workers.Evaluating h = absurd (true≢false (sym h))
-  is_asked s t o (workers.Preparing ls) h = absurd (true≢false (sym h))
-  is_asked s t o (workers.Fetching q) h =
-      let both = and_parts (is_tid t (tid_of n k a) && is_same o q) (o.store == s) h in
-      let name = (and_parts (is_tid t (tid_of n k a)) (is_same o q) both.0).1 in
-      record { wanted = q; phase = refl; name = one_name o q name; place = eqb-true o.store s both.1 }
-
-  takes_object : (s : ℕ) (o : Oid) (version : ℕ) (x : Object) → IsTrue (is_store S.rights s) → IsFetched s o a.phase
+  pub keeps_learns : (s : ℕ) (t : Tid) (o : Oid) (version : ℕ) (x : Object) → Fetches S.rights S.cache n k s a p t o
       → (IsStore S D ex s → ex o.class ≡ true → o.store ≡ s → Known C (o, version, x)) → version < 4294967296 → IsObject 1 x
       → IsTrue (suits S.rights o x && nat_lt 0 version && is_made_before S.rights S.cache n k o a)
       → Lands n (stays (record a { phase = workers.Evaluating; answers = a.answers ++ (o, version, x) ∷ [] })) w v → Inv S D ex v cs C
-  takes_object s o version x kind asked heard low spelled test lands =
-      let at : limit_at a.phase a.number ≡ a.number = ap (λ y. limit_at y a.number) asked.phase in
+  keeps_learns s t o version x asked heard low spelled test lands =
+      let at : limit_at a.phase a.number ≡ a.number = ap (λ y. limit_at y a.number) asked.phase_is in
       let both = and_parts (suits S.rights o x && nat_lt 0 version) (is_made_before S.rights S.cache n k o a) test in
       let suited = (and_parts (suits S.rights o x) (nat_lt 0 version) both.0).0 in
-      let waits = ok.awaited asked.wanted asked.phase in
-      let name : IsFitName S o = subst (IsFitName S) (sym asked.name) waits.fit in
-      let new : IsFalse (is_among o (names_of a.answers)) = subst (λ q. IsFalse (is_among q (names_of a.answers))) (sym asked.name) waits.new in
+      let waits = ok.awaited o asked.phase_is in
       let had : IsHad S D ex n here C (o, version, x) = record {
-        fit = record { name = name; suited = suited; spelled = spelled };
+        fit = record { name = waits.fit; suited = suited; spelled = spelled };
         version = low;
         before = both.1;
-        known = λ c. heard (subst (IsStore S D ex) asked.place (holder_is S D ex given hyp o c name)) c asked.place;
+        known = λ c. heard (subst (IsStore S D ex) asked.place (holder_is S D ex given hyp o c waits.fit)) c asked.place;
       } in
       tries (stays (record a { phase = workers.Evaluating; answers = a.answers ++ (o, version, x) ∷ [] })) lands refl refl (omega arith) (omega (arith, at)) (λ y. y)
       (λ r h. elim (in_append r a.answers ((o, version, x) ∷ []) h) [
         | inl old ↦ inl old
         | inr one ↦ inr (subst (IsHad S D ex n here C) (sym (in_one r (o, version, x) one)) had)
       ])
-      (λ rows h. inl h) (once_more a.answers (o, version, x) ok.once new) (λ q g. absurd (cc)) ok.low (λ z hz y h. absurd h)
-
-  -- messages, from whoever
-  pub keeps_object : (s : ℕ) (t : Tid) (o : Oid) (version : ℕ) (x : Object) → IsTrue (is_store S.rights s) → (bytes : List ℕ) → In bytes (w.queue s n)
-      → S.read bytes ≡ Some (m.Object t o version x)
-      → Lands n (takes_any S.rights S.cache n k s (m.Object t o version x) a p) w v → Inv S D ex v cs C
-  keeps_object s t o version x kind bytes queued read =
-      let spelled = (spelled_so S given bytes (m.Object t o version x) read).body in
-      cond_both (awaits_object S.rights S.cache n k s t o a a.phase) (got S.rights S.cache n k s o version x a) (stays a) (λ act. Lands n act w v → Inv S D ex v cs C)
-      (λ yes. cond_both (suits S.rights o x && nat_lt 0 version && is_made_before S.rights S.cache n k o a)
-      (stays (record a { phase = workers.Evaluating; answers = a.answers ++ (o, version, x) ∷ [] })) (gives S.rights S.cache n k (Denied s IllFormed) a)
-      (λ act. Lands n act w v → Inv S D ex v cs C)
-      (λ test lands. takes_object s o version x kind (is_asked s t o a.phase yes) (λ hs c place. (pair s hs).hears bytes (m.Object t o version x) queued read c place)
-      spelled.2 spelled.3 test lands)
-      (λ _ lands. gives_with (Denied s IllFormed) [] nothing lands))
-      (λ _ lands. keeps_stays lands)
-
-  denied_by : (s : ℕ) (reason : Why) → Lands n (denied S.rights S.cache n k s reason a) w v → Inv S D ex v cs C
-  denied_by s why.Missing lands = try_ends_with [] nothing lands
-  denied_by s why.Rights lands = gives_with (Denied s NoRights) [] nothing lands
-
-  -- a store denies an object
-  pub keeps_denied : (s : ℕ) (t : Tid) (o : Oid) (reason : Why) → IsTrue (is_store S.rights s) → (bytes : List ℕ) → In bytes (w.queue s n)
-      → S.read bytes ≡ Some (m.Deny t o reason)
-      → Lands n (takes_any S.rights S.cache n k s (m.Deny t o reason) a p) w v → Inv S D ex v cs C
-  keeps_denied s t o reason kind bytes queued read =
-      cond_both (awaits_object S.rights S.cache n k s t o a a.phase) (denied S.rights S.cache n k s reason a) (stays a) (λ act. Lands n act w v → Inv S D ex v cs C)
-      (λ _ lands. denied_by s reason lands) (λ _ lands. keeps_stays lands)
+      (λ rows h. inl h) (once_more a.answers (o, version, x) ok.once waits.new) (λ q g. absurd (cc)) ok.low (λ z hz y h. absurd h)
 
   -- ---- votes
-
-  awaits_preparing : (s : ℕ) (t : Tid) (ph : Phase) → awaits_vote S.rights S.cache n k s t a p ph ≡ true → IsPreparing ph
-  awaits_preparing s t workers.Idle h = absurd (true≢false (sym h))
-  awaits_preparing s t workers.Evaluating h = absurd (true≢false (sym h))
-  awaits_preparing s t (workers.Fetching o) h = absurd (true≢false (sym h))
-  awaits_preparing s t (workers.Preparing ls) h = tt
 
   awaits_from : (s : ℕ) (t : Tid) (ph : Phase) → IsPreparing ph → IsTrue (is_tid t (tid_of n k a)) → IsTrue (is_in s (stores_of p))
       → awaits_vote S.rights S.cache n k s t a p ph ≡ true
@@ -452,26 +393,8 @@ module _ (S : Setting) (D ex : ℕ → Bool) (given : IsSetting S) (law : IsEval
   abbrev abort_to : ℕ → ℕ × Message
   abort_to z = (z, m.Abort (tid_of n k a))
 
-  only_aborts : IsPreparing a.phase → OnlyAborts (aborts S.rights S.cache n k a p)
+  pub only_aborts : IsPreparing a.phase → OnlyAborts (aborts S.rights S.cache n k a p)
   only_aborts waits s x h = let r = in_map abort_to (s, x) (stores_of p) h in (ap (λ (y : ℕ × Message). y.1) r.2, waits)
-
-  voted_no : (s : ℕ) (answer : Answer) → (answer ≡ Yes → ⊥) → IsPreparing a.phase
-      → Lands n (voted_by S.rights S.cache n k s answer a p) w v → Inv S D ex v cs C
-  voted_no s Yes other waits lands = absurd (other refl)
-  voted_no s (Stale o version) other waits lands = try_ends_with (aborts S.rights S.cache n k a p) (only_aborts waits) lands
-  voted_no s (Locked t) other waits lands = try_ends_with (aborts S.rights S.cache n k a p) (only_aborts waits) lands
-  voted_no s (NoRight o) other waits lands = try_ends_with (aborts S.rights S.cache n k a p) (only_aborts waits) lands
-  voted_no s (OldTid t) other waits lands = try_ends_with (aborts S.rights S.cache n k a p) (only_aborts waits) lands
-  voted_no s (Malformed o) other waits lands = try_ends_with (aborts S.rights S.cache n k a p) (only_aborts waits) lands
-  voted_no s (Exists o) other waits lands = try_ends_with (aborts S.rights S.cache n k a p) (only_aborts waits) lands
-
-  -- a vote that isn't yes
-  pub keeps_no : (s : ℕ) (t : Tid) (answer : Answer) → (answer ≡ Yes → ⊥) → IsTrue (is_store S.rights s) → (bytes : List ℕ) → In bytes (w.queue s n)
-      → S.read bytes ≡ Some (m.Vote t answer)
-      → Lands n (takes_any S.rights S.cache n k s (m.Vote t answer) a p) w v → Inv S D ex v cs C
-  keeps_no s t answer other kind bytes queued read =
-      cond_both (awaits_vote S.rights S.cache n k s t a p a.phase) (voted_by S.rights S.cache n k s answer a p) (stays a) (λ act. Lands n act w v → Inv S D ex v cs C)
-      (λ waits lands. voted_no s answer other (awaits_preparing s t a.phase waits) lands) (λ _ lands. keeps_stays lands)
 
   -- behind a yes of s, who isn't waited for any longer has prepared
   pub voted_then : (s : ℕ) (ls : List ℕ) → a.phase ≡ workers.Preparing ls → (IsStore S D ex s → Voted S n s st (shelf S w s) (tid_at n st))
@@ -566,7 +489,7 @@ module _ (S : Setting) (D ex : ℕ → Bool) (given : IsSetting S) (law : IsEval
 
   -- so the attempt ends
   pub keeps_gives_up : (s : ℕ) → IsTrue (lacks s a.phase) → Lands n (gives_up S.rights S.cache n k s a p) w v → Inv S D ex v cs C
-  keeps_gives_up s lacking lands = gives_with (Silent s) (aborts_in S.rights S.cache n k a.phase a p) (given_up a.phase refl) lands
+  keeps_gives_up s lacking lands = keeps_gives (Silent s) (aborts_in S.rights S.cache n k a.phase a p) (given_up a.phase refl) lands
 
 -- ---- it wakes: each Commit again, and the new boot
 
@@ -592,9 +515,9 @@ module _ (S : Setting) (D ex : ℕ → Bool) (given : IsSetting S) (w v : World)
       early_spelled n asleep c.tid (worker_below S.rights n given.workers me.kind) (inv.commits.own c there.0 ∙ there.1) (sound.past c listed) sound.low number
 
   -- a Commit of what is decided says so
-  again : ((c : Commit) → In c (deals cs n) → c.tid.number < 4294967296) → (s : ℕ) (d : Decision) → In d old.decided
+  told_again : ((c : Commit) → In c (deals cs n) → c.tid.number < 4294967296) → (s : ℕ) (d : Decision) → In d old.decided
       → IsMessage 1 (m.Commit d.tid) × Says S n s (after S D ex given w v cs C n inv me (wakes S.rights S.cache n old)) (m.Commit d.tid)
-  again numbered s d h =
+  told_again numbered s d h =
       let r = dealt S (deals cs n) old.decided sound.listed d h in
       let same : d.tid ≡ (r.commit).tid = ap (λ (x : Decision). x.tid) r.same in (
         record { known = refl; body = subst IsTid (sym same) (own_spelled r.commit r.listed (numbered r.commit r.listed)) },
@@ -630,7 +553,7 @@ module _ (S : Setting) (D ex : ℕ → Bool) (given : IsSetting S) (w v : World)
         | inl i ↦
             let r = in_flat (λ (d : Decision). to_all d.stores (m.Commit d.tid)) (s, x) old.decided i in
             let what = to_all_is (r.0).stores (m.Commit (r.0).tid) (s, x) r.2 in
-            subst (λ y. IsMessage 1 y × Says S n s u y) (sym what) (again numbered s r.0 r.1)
+            subst (λ y. IsMessage 1 y × Says S n s u y) (sym what) (told_again numbered s r.0 r.1)
         | inr j ↦
             let what = to_all_is (stores_in S.rights) (m.Boot (suc old.boot)) (s, x) j in
             subst (λ y. IsMessage 1 y × Says S n s u y) (sym what) (record { known = refl; body = omega (arith, room) }, omega arith)

@@ -6,19 +6,17 @@ use Rattle.std.proofs.lemmas.Bool.Decides.{nat_tests}
 use Rattle.fab_base.specs.declared.message.Message.{Message}
 use Rattle.fab_base.specs.declared.object.Oid.{Oid}
 use Rattle.fab_base.specs.declared.object.Tid.{Tid}
-use Rattle.fab_base.specs.declared.object.Stop.TheVariants as stop
 use Rattle.fab_base.specs.MessageSpelling.{IsMessage}
 use Rattle.fab_base.specs.Tids.{is_above}
 use Rattle.fab_net.specs.declared.note.Commit.{Commit}
-use Rattle.fab_net.specs.declared.outcome.Denial.TheVariants.{Rights as NoRights, IllFormed}
 use Rattle.fab_net.specs.declared.outcome.ReqOutcome.{ReqOutcome}
-use Rattle.fab_net.specs.declared.outcome.ReqOutcome.TheVariants.{Committed, Failed, Conflict, Silent, Denied, Stopped, NodeDown, Unfinished}
 use Rattle.fab_protocol.specs.Tables.{OnlyOnce}
 use Rattle.fab_protocol.specs.Versions.{Row, Rows, names_of, maker_of}
 use Rattle.fab_world.specs.Machine.{Setting, World, kept, shelf}
 use Rattle.fab_world.specs.Serial.{IsSetting}
 use Rattle.fab_world.specs.Workers as workers
-use Rattle.fab_world.specs.Workers.{Act, Attempt, Kept, Phase, is_in, kept_of, closed}
+use Rattle.fab_world.specs.Workers.{Act, Attempt, Kept, is_in, kept_of, closed}
+use Rattle.fab_world.proofs.WorkerActs.{closed_each}
 use Rattle.fab_integrity.proofs.Invariant.{In, State, Standing, Inv, IsWorker, IsStore, Moves, WorkerOk, IsHad, IsAwaited, IsEnded, IsPreparing, Says}
 use Rattle.fab_integrity.proofs.Invariant.{Has, TakesPart}
 use Rattle.fab_integrity.proofs.Invariant.{current, decision_of, meant_by, tid_at, standing, deals}
@@ -32,18 +30,8 @@ use Rattle.fab_integrity.proofs.Lasting.{kept_behind, keeps_behind}
 -- the record of a request that ends without a commit leaves the boot and the decisions
 pub closed_keeps : (request : ℕ) (outcome : ReqOutcome) (k : Kept)
     → ((workers.worker_keeps (closed request outcome) k).boot ≡ k.boot) × ((workers.worker_keeps (closed request outcome) k).decided ≡ k.decided)
-closed_keeps request (Committed t value) k = (refl, refl)
-closed_keeps request Failed k = (refl, refl)
-closed_keeps request Conflict k = (refl, refl)
-closed_keeps request (Silent n) k = (refl, refl)
-closed_keeps request (Denied n NoRights) k = (refl, refl)
-closed_keeps request (Denied n IllFormed) k = (refl, refl)
-closed_keeps request (Stopped stop.Fuel) k = (refl, refl)
-closed_keeps request (Stopped stop.Depth) k = (refl, refl)
-closed_keeps request (Stopped stop.Reads) k = (refl, refl)
-closed_keeps request (Stopped stop.Writes) k = (refl, refl)
-closed_keeps request NodeDown k = (refl, refl)
-closed_keeps request Unfinished k = (refl, refl)
+closed_keeps request outcome k =
+    closed_each (λ entry. ((workers.worker_keeps entry k).boot ≡ k.boot) × ((workers.worker_keeps entry k).decided ≡ k.decided)) request (λ code node. (refl, refl)) outcome
 
 -- ---- objects that aren't of a later attempt
 

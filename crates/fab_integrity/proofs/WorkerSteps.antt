@@ -1,50 +1,36 @@
 -- What a worker outside D does at each of its events keeps the invariant, with what it decides.
-use Rattle.std.specs.Prelude.{◌≡◌, ◌⊎◌, ℕ, suc, ◌+◌, ◌≤◌, Bool, true, false, not, ◌&&◌, ◌==◌, nat_lt, if◌then◌else◌, IsTrue, List, [], ◌∷◌, ◌++◌}
+use Rattle.std.specs.Prelude.{◌≡◌, ◌⊎◌, ℕ, suc, ◌+◌, ◌≤◌, Bool, true, false, not, ◌==◌, if◌then◌else◌, IsTrue, List, [], ◌∷◌, ◌++◌}
 use Rattle.std.specs.Prelude.{length, Option, Some, None, fold}
 use Rattle.std.specs.List.{filter, flat_map}
-use Rattle.std.proofs.Common.{refl, sym, ap, ◌∙◌, subst, inl, inr, cond, arith, true≢false}
-use Rattle.std.proofs.lemmas.Bool.{and_parts, cond_both, not-true}
+use Rattle.std.proofs.Common.{refl, sym, ap, ◌∙◌, subst, inl, inr, arith, true≢false}
+use Rattle.std.proofs.lemmas.Bool.{and_parts, not-true}
 use Rattle.std.proofs.lemmas.List.{append-nil}
-use Rattle.fab_base.specs.declared.object.Oid.{Oid}
-use Rattle.fab_base.specs.declared.object.Object.{Object}
-use Rattle.fab_base.specs.declared.object.Tid.{Tid}
-use Rattle.fab_base.specs.declared.object.Value.{Value}
-use Rattle.fab_base.specs.declared.message.Answer.{Answer}
-use Rattle.fab_base.specs.declared.message.Answer.TheVariants.{Yes, Stale, Locked, Rights as NoRights, OldTid, IllFormed, Exists}
-use Rattle.fab_base.specs.declared.message.Why.{Why}
-use Rattle.fab_base.specs.declared.message.Why.TheVariants as why
+use Rattle.fab_base.specs.declared.message.Answer.TheVariants.{Yes}
 use Rattle.fab_base.specs.declared.message.Message.{Message}
 use Rattle.fab_base.specs.declared.message.Message.TheVariants as m
 use Rattle.fab_base.specs.FlatMap.{put_all}
-use Rattle.fab_language.specs.declared.ending.Ending.{Ending}
-use Rattle.fab_language.specs.declared.ending.Ending.TheVariants as endings
 use Rattle.fab_net.specs.declared.event.Inner.{Inner}
 use Rattle.fab_net.specs.declared.event.Inner.TheVariants as i
 use Rattle.fab_net.specs.declared.note.Commit.{Commit}
 use Rattle.fab_net.specs.declared.note.Note.TheVariants as note
-use Rattle.fab_net.specs.declared.outcome.Denial.TheVariants.{IllFormed as Ill}
+use Rattle.fab_net.specs.declared.outcome.ReqOutcome.{ReqOutcome}
 use Rattle.fab_net.specs.declared.outcome.ReqOutcome.TheVariants.{Failed, Stopped, Conflict, Denied}
-use Rattle.fab_rights.specs.Computed.{is_store, suits}
-use Rattle.fab_protocol.specs.Caches.{cached_row}
 use Rattle.fab_protocol.specs.Parts.{stores_of}
 use Rattle.fab_protocol.specs.Stores.{says, asks}
-use Rattle.fab_protocol.specs.Versions.{Row}
 use Rattle.fab_world.specs.Machine.{Setting, World, option_list, kept, shelf, meant, parts, node_of, act, hears, front_of, may, lacks, is_evaluating, is_idle, of_store}
 use Rattle.fab_world.specs.Serial.{IsSetting, IsEvaluation, Excludes, replay_one, commit_in}
 use Rattle.fab_integrity.specs.Redone.{AllRedone}
 use Rattle.fab_world.specs.Workers as workers
-use Rattle.fab_world.specs.Workers.{Attempt, Kept, Phase, Act, stays, noting, sending, telling, is_in, not_voted, begins, resumes, resumes_at, needs}
-use Rattle.fab_world.specs.Workers.{ends, asks_all, decides, closes, gives, try_ends}
-use Rattle.fab_world.specs.Workers.{got, denied, waits_for, yes_from, voted_by, inquired, takes, takes_any, gives_up, wakes, awaits_object}
-use Rattle.fab_world.specs.Workers.{awaits_vote, has_decided, new_touches, new_downs, undecided, dropped, is_made_before}
+use Rattle.fab_world.specs.Workers.{Act, Attempt, Kept, Phase, aborts, begins, decides, gives, gives_up, is_in, needs, new_downs, new_touches, not_voted, resumes, takes, telling, wakes}
+use Rattle.fab_world.proofs.WorkerActs.{IsYes, ended, resumed, taken}
 use Rattle.fab_integrity.proofs.Invariant.{In, State, Standing, Open, IsPreparing, IsEnded, Inv, IsWorker, IsStore, Voted, Has, TakesPart, standing}
 use Rattle.fab_integrity.proofs.Invariant.{current, tid_at, limit, limit_in, limit_at, rank, rank_of, meant_by, parts_by}
 use Rattle.fab_integrity.proofs.Lists.{in_filter, none_in}
 use Rattle.fab_integrity.proofs.Worlds.{Lands}
 use Rattle.fab_integrity.proofs.Replays.{changes_in, behind_one}
 use Rattle.fab_integrity.proofs.Decides.{redone, righted, keeps_decides}
-use Rattle.fab_integrity.proofs.WorkerEvents.{keeps_stays, keeps_begins, keeps_needs, keeps_asks, keeps_fails, keeps_object, keeps_denied, keeps_no}
-use Rattle.fab_integrity.proofs.WorkerEvents.{keeps_yes, voted_then, keeps_told_commit, keeps_told_abort, keeps_gives_up, keeps_wakes}
+use Rattle.fab_integrity.proofs.WorkerEvents.{keeps_again, keeps_asks, keeps_begins, keeps_fails, keeps_gives, keeps_gives_up, keeps_learns, keeps_needs, keeps_stays}
+use Rattle.fab_integrity.proofs.WorkerEvents.{keeps_told_abort, keeps_told_commit, keeps_wakes, keeps_yes, nothing, only_aborts, voted_then}
 use Rattle.fab_integrity.proofs.Tids.{tid_is}
 use Rattle.fab_integrity.proofs.Readings.{spelled_so}
 use Rattle.fab_integrity.proofs.Transport.{front_in}
@@ -117,9 +103,6 @@ module _ (S : Setting) (D ex : ℕ → Bool) where
     abbrev After : Act → Type 0
     After act = Lands n act w v → Done v cs C n (flat_map commit_in act.notes)
 
-    quiet : (act : Act) → flat_map commit_in act.notes ≡ [] → (Lands n act w v → Inv S D ex v cs C) → After act
-    quiet act e h l = subst (Done v cs C n) (sym e) (calm_done v cs C n (h l))
-
     -- ---- the decision
 
     module _ (up : (w.node n).up ≡ true)
@@ -152,154 +135,91 @@ module _ (S : Setting) (D ex : ℕ → Bool) where
           let at : limit st ≡ rank_of (tid_at n st) = ap (λ b. limit_in b k.boot a) up ∙ ap (λ q. rank k.boot (limit_at q a.number)) p in
           inr (omega (arith, at), none)
 
-      -- it ends, and asks these
-      abbrev asking : Option Value → List ℕ → Act
-      asking value ss =
-          noting (note.Ended (tid_at n st) value (new_touches a (meant S w n)) (new_downs a (meant S w n)) (parts S w n).writes (parts S w n).creates ∷ [])
-          (asks_all S.rights S.cache n k ss (telling a (meant S w n)) (parts S w n))
-
-      ended_done : a.phase ≡ workers.Evaluating → (value : Option Value) → (meant S w n).ending ≡ endings.Ended value → (ss : List ℕ)
-          → stores_of (parts S w n) ≡ ss → After (asking value ss)
-      ended_done p value e [] at l =
-          decided_done up (evaluating_ready p at) (subst IsEnded (sym e) tt)
-          (λ s is t. absurd (true≢false (sym (subst (λ ss. IsTrue (is_in s ss)) at t))))
-          (telling a (meant S w n)) refl refl refl
-          (lands_noting n _ (decides S.rights S.cache n k (telling a (meant S w n)) (parts_by S c)) w v refl refl refl l)
-      ended_done p value e (s ∷ ss) at l =
-          calm_done v cs C n (keeps_asks S D ex given law hyp w v cs C n inv me up p (subst IsEnded (sym e) tt) s ss at value
-          (subst (λ ss. Lands n (asking value ss) w v) (sym at) l))
-
-      needed_done : a.phase ≡ workers.Evaluating → (site : ℕ) (o : Oid) → (meant S w n).ending ≡ endings.Missing site o → (row : Option Row)
-          → cached_row a.caches o ≡ row
-          → After (needs S.rights S.cache n k site o row a (meant S w n))
-      needed_done p site o e None at l =
-          calm_done v cs C n (keeps_needs S D ex given law hyp w v cs C n inv me up p site o e
-          (subst (λ row. Lands n (needs S.rights S.cache n k site o row a (meant S w n)) w v) (sym at) l))
-      needed_done p site o e (Some row) at l =
-          calm_done v cs C n (keeps_needs S D ex given law hyp w v cs C n inv me up p site o e
-          (subst (λ row. Lands n (needs S.rights S.cache n k site o row a (meant S w n)) w v) (sym at) l))
-
-      resumed_at : a.phase ≡ workers.Evaluating → (ending : Ending) → (meant S w n).ending ≡ ending → After (resumes_at S.rights S.cache n k ending a (meant S w n))
-      resumed_at p (endings.Missing site o) e l = needed_done p site o e (cached_row a.caches o) refl l
-      resumed_at p (endings.Ended value) e l = ended_done p value e (stores_of (parts S w n)) refl l
-      resumed_at p endings.Failed e l =
-          calm_done v cs C n (keeps_fails S D ex given law hyp w v cs C n inv me up p
-          (note.Failed (tid_at n st) (new_touches a (meant S w n)) (new_downs a (meant S w n)) ∷ []) Failed l)
-      resumed_at p (endings.Stopped limit) e l =
-          calm_done v cs C n (keeps_fails S D ex given law hyp w v cs C n inv me up p
-          (note.Stopped (tid_at n st) limit (new_touches a (meant S w n)) (new_downs a (meant S w n)) ∷ []) (Stopped limit) l)
-
       -- an evaluation goes on
       pub resumed_done : a.phase ≡ workers.Evaluating → After (resumes S.rights S.cache n k a (meant S w n))
-      resumed_done p l = resumed_at p (meant S w n).ending refl l
-
-      -- ---- votes
-
-      yes_done : (s : ℕ) → IsTrue (is_store S.rights s) → (ls : List ℕ) → a.phase ≡ workers.Preparing ls
-          → (IsStore S D ex s → Voted S n s st (shelf S w s) (tid_at n st))
-          → (left : List ℕ) → filter (λ l. not (l == s)) ls ≡ left → After (waits_for S.rights S.cache n k left a (parts S w n))
-      yes_done s is ls p voted [] e l =
-          decided_done up (inl (record { tid = refl; waits = subst IsPreparing (sym p) tt })) ((inv.worker n me).ended (subst IsPreparing (sym p) tt))
-          (λ z at part. voted_then S D ex given law hyp w v cs C n inv me up s ls p voted z at part (ap (is_in z) e)) a refl refl refl l
-      yes_done s is ls p voted (x ∷ left) e l = calm_done v cs C n (keeps_yes S D ex given law hyp w v cs C n inv me up s is ls p x left e voted l)
-
-      -- who awaits a vote prepares, this tid
-      awaiting : (s : ℕ) (t : Tid) (phase : Phase) → awaits_vote S.rights S.cache n k s t a (parts S w n) phase ≡ true
-          → (ls : List ℕ) × (phase ≡ workers.Preparing ls) × (t ≡ tid_at n st)
-      awaiting s t (workers.Preparing ls) h = (ls, refl, tid_is t (tid_at n st) (and_parts _ _ h).0)
-      awaiting s t workers.Idle h = absurd (true≢false (sym h))
-      awaiting s t workers.Evaluating h = absurd (true≢false (sym h))
-      awaiting s t (workers.Fetching o) h = absurd (true≢false (sym h))
-
-      yes_by : (s : ℕ) (t : Tid) → IsTrue (is_store S.rights s) → (IsStore S D ex s → Voted S n s st (shelf S w s) t)
-          → awaits_vote S.rights S.cache n k s t a (parts S w n) a.phase ≡ true → After (yes_from S.rights S.cache n k s a (parts S w n))
-      yes_by s t is voted h l =
-          let g = awaiting s t a.phase h in
-          yes_done s is g.0 g.1 (λ at. subst (Voted S n s st (shelf S w s)) g.2 (voted at)) (filter (λ l. not (l == s)) (not_voted a.phase))
-          (ap (λ p. filter (λ l. not (l == s)) (not_voted p)) (sym g.1)) l
+      resumed_done p = resumed S.rights S.cache n k a (meant S w n) After (record {
+        finds = λ site o row e at l.
+            calm_done v cs C n (keeps_needs S D ex given law hyp w v cs C n inv me up p site o e
+            (subst (λ row. Lands n (needs S.rights S.cache n k site o row a (meant S w n)) w v) (sym at) l));
+        fetches = λ site o e at l.
+            calm_done v cs C n (keeps_needs S D ex given law hyp w v cs C n inv me up p site o e
+            (subst (λ row. Lands n (needs S.rights S.cache n k site o row a (meant S w n)) w v) (sym at) l));
+        decides = λ value e at l.
+            decided_done up (evaluating_ready p at) (subst IsEnded (sym e) tt)
+            (λ s is t. absurd (true≢false (sym (subst (λ ss. IsTrue (is_in s ss)) at t))))
+            (telling a (meant S w n)) refl refl refl
+            (lands_noting n _ (decides S.rights S.cache n k (telling a (meant S w n)) (parts_by S c)) w v refl refl refl l);
+        asks = λ value s ss e at l.
+            calm_done v cs C n (keeps_asks S D ex given law hyp w v cs C n inv me up p (subst IsEnded (sym e) tt) s ss at value
+            (subst (λ zs. Lands n (ended S.rights S.cache n k a (meant S w n) value zs) w v) (sym at) l));
+        fails = λ e l.
+            calm_done v cs C n (keeps_fails S D ex given law hyp w v cs C n inv me up p
+            (note.Failed (tid_at n st) (new_touches a (meant S w n)) (new_downs a (meant S w n)) ∷ []) Failed l);
+        stops = λ limit e l.
+            calm_done v cs C n (keeps_fails S D ex given law hyp w v cs C n inv me up p
+            (note.Stopped (tid_at n st) limit (new_touches a (meant S w n)) (new_downs a (meant S w n)) ∷ []) (Stopped limit) l);
+      })
 
       -- ---- a message that is heard
 
-      module _ (s : ℕ) (is : IsTrue (is_store S.rights s)) (bytes : List ℕ) (there : In bytes (w.queue s n)) where
-        abbrev Heard : Message → Type 0
-        Heard message = S.read bytes ≡ Some message → After (takes_any S.rights S.cache n k s message a (parts S w n))
+      module _ (s : ℕ) (message : Message) (bytes : List ℕ) (there : In bytes (w.queue s n)) (read : S.read bytes ≡ Some message) where
+        -- a Yes, and a question, say that its sender has prepared
+        voted_by : IsYes S.rights S.cache n k s a (parts S w n) message → IsStore S D ex s → Voted S n s st (shelf S w s) (tid_at n st)
+        voted_by x at = subst (Voted S n s st (shelf S w s)) (tid_is x.tid (tid_at n st) x.awaited.same) (elim x.is [
+          | inl vote ↦ (inv.pair n s me at).hears bytes (m.Vote x.tid Yes) there (read ∙ ap Some vote)
+          | inr inquire ↦ (inv.pair n s me at).hears bytes (m.Inquire x.tid) there (read ∙ ap Some inquire)
+        ])
 
-        tries_calm : flat_map commit_in (try_ends S.rights S.cache n k a).notes ≡ []
-        tries_calm = elim (suc a.tries == 8) as (λ b. flat_map commit_in (noting (undecided S.rights S.cache n k a)
-            (cond b (closes S.rights S.cache n k Conflict a) (stays (record (dropped a) { tries = suc a.tries })))).notes ≡ []) [ true ↦ refl | false ↦ refl ]
+        -- with these no longer waited for
+        behind_yes : (ls more : List ℕ) → a.phase ≡ workers.Preparing ls → filter (λ l. not (l == s)) (not_voted a.phase) ≡ more → filter (λ l. not (l == s)) ls ≡ more
+        behind_yes ls more at is = ap (λ q. filter (λ l. not (l == s)) (not_voted q)) (sym at) ∙ is
 
-        object_heard : (t : Tid) (o : Oid) (version : ℕ) (x : Object) → Heard (m.Object t o version x)
-        object_heard t o version x r = quiet (takes_any S.rights S.cache n k s (m.Object t o version x) a (parts S w n))
-            (cond_both (awaits_object S.rights S.cache n k s t o a a.phase) (got S.rights S.cache n k s o version x a) (stays a)
-            (λ act. flat_map commit_in act.notes ≡ [])
-            (λ _. cond_both (suits S.rights o x && nat_lt 0 version && is_made_before S.rights S.cache n k o a)
-            (stays (record a { phase = workers.Evaluating; answers = a.answers ++ (o, version, x) ∷ [] })) (gives S.rights S.cache n k (Denied s Ill) a)
-            (λ act. flat_map commit_in act.notes ≡ []) (λ _. refl) (λ _. refl)) (λ _. refl))
-            (λ l. keeps_object S D ex given law hyp w v cs C n inv me up s t o version x is bytes there r l)
+        waits_so : (ls : List ℕ) → a.phase ≡ workers.Preparing ls → IsPreparing a.phase
+        waits_so ls at = subst IsPreparing (sym at) tt
 
-        denied_calm : (reason : Why) → flat_map commit_in (denied S.rights S.cache n k s reason a).notes ≡ []
-        denied_calm why.Missing = tries_calm
-        denied_calm why.Rights = refl
+        gives_done : (outcome : ReqOutcome) → After (gives S.rights S.cache n k outcome a)
+        gives_done outcome l =
+            calm_done v cs C n (keeps_gives S D ex given law hyp w v cs C n inv me up outcome [] (nothing S D ex given law hyp w v cs C n inv me up) l)
 
-        denied_heard : (t : Tid) (o : Oid) (reason : Why) → Heard (m.Deny t o reason)
-        denied_heard t o reason r = quiet (takes_any S.rights S.cache n k s (m.Deny t o reason) a (parts S w n))
-            (cond_both (awaits_object S.rights S.cache n k s t o a a.phase) (denied S.rights S.cache n k s reason a) (stays a)
-            (λ act. flat_map commit_in act.notes ≡ [])
-            (λ _. denied_calm reason) (λ _. refl))
-            (λ l. keeps_denied S D ex given law hyp w v cs C n inv me up s t o reason is bytes there r l)
+        heard_done : After (takes S.rights S.cache n k s message a (parts S w n))
+        heard_done = taken S.rights S.cache n k s a (parts S w n) message After (record {
+          rests = λ e l. calm_done v cs C n (keeps_stays S D ex given law hyp w v cs C n inv me up l);
+          learns = λ x e l.
+              let spelled = (spelled_so S given bytes (m.Object x.tid x.name x.version x.object) (read ∙ ap Some x.is)).body in
+              calm_done v cs C n (keeps_learns S D ex given law hyp w v cs C n inv me up s x.tid x.name x.version x.object x.awaited
+              (λ at c place. (inv.pair n s me at).hears bytes (m.Object x.tid x.name x.version x.object) there (read ∙ ap Some x.is) c place) spelled.2 spelled.3 e l);
+          denied = λ reason x l. gives_done (Denied s reason) l;
+          tires = λ x e l. gives_done Conflict l;
+          tries = λ x e l.
+              calm_done v cs C n (keeps_again S D ex given law hyp w v cs C n inv me up [] (nothing S D ex given law hyp w v cs C n inv me up) l);
+          gives_up = λ x e l.
+              calm_done v cs C n (keeps_gives S D ex given law hyp w v cs C n inv me up Conflict (aborts S.rights S.cache n k a (parts S w n))
+              (only_aborts S D ex given law hyp w v cs C n inv me up (waits_so x.awaited.waiting x.awaited.phase_is)) l);
+          aborts = λ x e l.
+              calm_done v cs C n (keeps_again S D ex given law hyp w v cs C n inv me up (aborts S.rights S.cache n k a (parts S w n))
+              (only_aborts S D ex given law hyp w v cs C n inv me up (waits_so x.awaited.waiting x.awaited.phase_is)) l);
+          decides = λ x e l.
+              let waits = waits_so x.awaited.waiting x.awaited.phase_is in
+              decided_done up (inl (record { tid = refl; waits = waits })) ((inv.worker n me).ended waits)
+              (λ z at part. voted_then S D ex given law hyp w v cs C n inv me up s x.awaited.waiting x.awaited.phase_is (voted_by x) z at part
+              (ap (is_in z) (behind_yes x.awaited.waiting [] x.awaited.phase_is e))) a refl refl refl l;
+          waits = λ x y ls e l.
+              calm_done v cs C n (keeps_yes S D ex given law hyp w v cs C n inv me up s x.awaited.store x.awaited.waiting x.awaited.phase_is y ls
+              (behind_yes x.awaited.waiting (y ∷ ls) x.awaited.phase_is e) (voted_by x) l);
+          commits = λ x e l.
+              calm_done v cs C n (keeps_told_commit S D ex given law hyp w v cs C n inv me up s x.tid
+              (spelled_so S given bytes (m.Inquire x.tid) (read ∙ ap Some x.is)).body e l);
+          forgets = λ x e none l.
+              calm_done v cs C n (keeps_told_abort S D ex given law hyp w v cs C n inv me up s x.tid
+              (spelled_so S given bytes (m.Inquire x.tid) (read ∙ ap Some x.is)).body e none
+              (λ at. (inv.pair n s me at).hears bytes (m.Inquire x.tid) there (read ∙ ap Some x.is)) l);
+        })
 
-        no_heard : (t : Tid) (answer : Answer) → (answer ≡ Yes → ⊥) → flat_map commit_in (voted_by S.rights S.cache n k s answer a (parts S w n)).notes ≡ []
-            → Heard (m.Vote t answer)
-        no_heard t answer no_ calm r = quiet (takes_any S.rights S.cache n k s (m.Vote t answer) a (parts S w n))
-            (cond_both (awaits_vote S.rights S.cache n k s t a (parts S w n) a.phase) (voted_by S.rights S.cache n k s answer a (parts S w n)) (stays a)
-            (λ act. flat_map commit_in act.notes ≡ [])
-            (λ _. calm) (λ _. refl))
-            (λ l. keeps_no S D ex given law hyp w v cs C n inv me up s t answer no_ is bytes there r l)
-
-        vote_heard : (t : Tid) (answer : Answer) → Heard (m.Vote t answer)
-        vote_heard t Yes r = cond_both (awaits_vote S.rights S.cache n k s t a (parts S w n) a.phase) (yes_from S.rights S.cache n k s a (parts S w n)) (stays a) After
-            (λ h. yes_by s t is (λ at. (inv.pair n s me at).hears bytes (m.Vote t Yes) there r) h)
-            (λ _ l. calm_done v cs C n (keeps_stays S D ex given law hyp w v cs C n inv me up l))
-        vote_heard t (Stale o version) r = no_heard t (Stale o version) (λ e. let no : Stale o version ≡ Yes = e in cc) tries_calm r
-        vote_heard t (Locked u) r = no_heard t (Locked u) (λ e. let no : Locked u ≡ Yes = e in cc) tries_calm r
-        vote_heard t (NoRights o) r = no_heard t (NoRights o) (λ e. let no : NoRights o ≡ Yes = e in cc) tries_calm r
-        vote_heard t (OldTid u) r = no_heard t (OldTid u) (λ e. let no : OldTid u ≡ Yes = e in cc) tries_calm r
-        vote_heard t (IllFormed o) r = no_heard t (IllFormed o) (λ e. let no : IllFormed o ≡ Yes = e in cc) tries_calm r
-        vote_heard t (Exists o) r = no_heard t (Exists o) (λ e. let no : Exists o ≡ Yes = e in cc) tries_calm r
-
-        asked_heard : (t : Tid) → Heard (m.Inquire t)
-        asked_heard t r =
-            let voted = λ (at : IsStore S D ex s). (inv.pair n s me at).hears bytes (m.Inquire t) there r in
-            cond_both (t.worker == n) (inquired S.rights S.cache n k s t a (parts S w n)) (stays a) After
-            (λ _. cond_both (has_decided S.rights S.cache n k t s) (sending ((s, m.Commit t) ∷ []) (stays a)) _ After
-            (λ d l. calm_done v cs C n (keeps_told_commit S D ex given law hyp w v cs C n inv me up s t (spelled_so S given bytes (m.Inquire t) r).body d l))
-            (λ d. cond_both (awaits_vote S.rights S.cache n k s t a (parts S w n) a.phase) (yes_from S.rights S.cache n k s a (parts S w n))
-            (sending ((s, m.Abort t) ∷ []) (stays a)) After
-            (λ h. yes_by s t is voted h)
-            (λ h l. calm_done v cs C n (keeps_told_abort S D ex given law hyp w v cs C n inv me up s t (spelled_so S given bytes (m.Inquire t) r).body d h voted l))))
-            (λ _ l. calm_done v cs C n (keeps_stays S D ex given law hyp w v cs C n inv me up l))
-
-        stays_done : After (stays a)
-        stays_done l = calm_done v cs C n (keeps_stays S D ex given law hyp w v cs C n inv me up l)
-
-        taken_done : (message : Message) → Heard message
-        taken_done (m.Object t o version x) r = object_heard t o version x r
-        taken_done (m.Deny t o reason) r = denied_heard t o reason r
-        taken_done (m.Vote t answer) r = vote_heard t answer r
-        taken_done (m.Inquire t) r = asked_heard t r
-        taken_done (m.Fetch t o) r = stays_done
-        taken_done (m.Prepare t items) r = stays_done
-        taken_done (m.Commit t) r = stays_done
-        taken_done (m.Abort t) r = stays_done
-        taken_done (m.Boot b) r = stays_done
-
-      heard_done : (s : ℕ) (heard : Option Message) → In (front_of (w.queue s n)) (w.queue s n) → S.read (front_of (w.queue s n)) ≡ heard → After (hears S w s n heard)
-      heard_done s None there r = λ l. calm_done v cs C n (keeps_stays S D ex given law hyp w v cs C n inv me up l)
-      heard_done s (Some message) there r =
+      heard_by : (s : ℕ) (heard : Option Message) → In (front_of (w.queue s n)) (w.queue s n) → S.read (front_of (w.queue s n)) ≡ heard → After (hears S w s n heard)
+      heard_by s None there read = λ l. calm_done v cs C n (keeps_stays S D ex given law hyp w v cs C n inv me up l)
+      heard_by s (Some message) there read =
           subst (λ b. After (if b then takes S.rights S.cache n k s message a (parts S w n) else of_store S a (says S.rights n s message (shelf S w n)))) (sym me.kind)
-          (cond_both (is_store S.rights s) (takes_any S.rights S.cache n k s message a (parts S w n)) (stays a) After
-          (λ is. taken_done s is (front_of (w.queue s n)) there message r)
-          (λ _ l. calm_done v cs C n (keeps_stays S D ex given law hyp w v cs C n inv me up l)))
+          (heard_done s message (front_of (w.queue s n)) there read)
 
       silent_done : (s : ℕ) → IsTrue (lacks s a.phase) → After (gives_up S.rights S.cache n k s a (parts S w n))
       silent_done s h l = calm_done v cs C n (keeps_gives_up S D ex given law hyp w v cs C n inv me up s h l)
@@ -319,7 +239,7 @@ module _ (S : Setting) (D ex : ℕ → Bool) where
         (λ can. let p = and_parts _ _ can in resumed_done (and_parts _ _ p.0).1 (is_evaluating_at a.phase p.1)) can
     acted_done (i.Deliver s x) at can room =
         subst (λ z. IsTrue (may S w (i.Deliver s z)) → After (act S w (i.Deliver s z))) (sym at)
-        (λ can. let p = and_parts _ _ can in heard_done (and_parts _ _ (and_parts _ _ p.0).0).1 s (S.read (front_of (w.queue s n)))
+        (λ can. let p = and_parts _ _ can in heard_by (and_parts _ _ (and_parts _ _ p.0).0).1 s (S.read (front_of (w.queue s n)))
         (front_in (w.queue s n) p.1) refl) can
     acted_done (i.Idle x s) at can room =
         subst (λ z. IsTrue (may S w (i.Idle z s)) → After (act S w (i.Idle z s))) (sym at)

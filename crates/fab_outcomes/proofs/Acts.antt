@@ -1,40 +1,32 @@
 -- What an act of a worker comes to: it goes on, or loses a try, or decides or ends its request, each for the stated cause.
-use Rattle.std.proofs.Common.{◌≡◌, ◌⊎◌, inl, inr, ℕ, suc, List, [], ◌∷◌, ◌++◌, true, false, not, ◌&&◌, ◌==◌, nat_lt, IsTrue, if◌then◌else◌}
+use Rattle.std.proofs.Common.{◌≡◌, ◌⊎◌, inl, inr, ℕ, suc, List, [], ◌∷◌, true, false, ◌&&◌, ◌==◌, nat_lt, IsTrue, if◌then◌else◌}
 use Rattle.std.proofs.Common.{Option, Some, None, refl, sym, ap, ◌∙◌, subst, true≢false, arith, length, ◌<◌}
-use Rattle.std.specs.List.{filter}
-use Rattle.std.proofs.lemmas.Bool.{and_parts, and_cases, both_ways, and_left, and_right, cond_both, eq-eqb, eqb-true, ltb-false, ltb-true}
+use Rattle.std.proofs.lemmas.Bool.{and_parts, and_cases, both_ways, and_left, and_right, eq-eqb, eqb-true, ltb-false, ltb-true}
 use Rattle.fab_base.specs.declared.object.Oid.{Oid}
 use Rattle.fab_base.specs.declared.object.Object.{Object}
-use Rattle.fab_base.specs.declared.object.Tid.{Tid}
 use Rattle.fab_base.specs.declared.object.Value.{Value}
 use Rattle.fab_base.specs.declared.message.Answer.{Answer}
-use Rattle.fab_base.specs.declared.message.Answer.TheVariants.{Yes, Stale, Locked, Rights as NoRight, OldTid, IllFormed as Malformed, Exists}
+use Rattle.fab_base.specs.declared.message.Answer.TheVariants.{Yes}
 use Rattle.fab_base.specs.declared.message.Message.{Message}
 use Rattle.fab_base.specs.declared.message.Message.TheVariants as m
-use Rattle.fab_base.specs.declared.message.Why.{Why}
 use Rattle.fab_base.specs.declared.message.Why.TheVariants as why
 use Rattle.fab_base.specs.declared.entry.Entry.TheVariants as e
-use Rattle.fab_language.specs.declared.ending.Ending.{Ending}
-use Rattle.fab_language.specs.declared.ending.Ending.TheVariants as endings
 use Rattle.fab_net.specs.declared.event.Inner.{Inner}
 use Rattle.fab_net.specs.declared.event.Inner.TheVariants as i
 use Rattle.fab_net.specs.declared.note.Note.{Note}
-use Rattle.fab_net.specs.declared.note.Note.TheVariants as note
+use Rattle.fab_net.specs.declared.outcome.Denial.{Denial}
 use Rattle.fab_net.specs.declared.outcome.Denial.TheVariants.{Rights as NoRights, IllFormed}
 use Rattle.fab_net.specs.declared.outcome.ReqOutcome.{ReqOutcome}
 use Rattle.fab_net.specs.declared.outcome.ReqOutcome.TheVariants.{Failed, Conflict, Silent, Denied, Stopped}
 use Rattle.fab_rights.specs.Computed.{is_store, is_worker, suits}
-use Rattle.fab_protocol.specs.Caches.{cached_row}
-use Rattle.fab_protocol.specs.Versions.{Row}
 use Rattle.fab_protocol.specs.declared.parts.Parts.{Parts}
 use Rattle.fab_protocol.specs.Parts.{stores_of}
 use Rattle.fab_world.specs.Machine.{Setting, World, Does, kept, meant, parts, act, may, front_of, hears, of_store, shelf, is_idle, is_evaluating, lacks, node_of}
 use Rattle.fab_protocol.specs.Stores.{says, asks}
 use Rattle.fab_world.specs.Workers as workers
-use Rattle.fab_world.specs.Workers.{Kept, Phase, Attempt, Act, stays, noting, sending, telling, dropped, not_voted, request_of, tid_of}
-use Rattle.fab_world.specs.Workers.{decides, closes, undecided, gives, try_ends, needs, new_touches, new_downs, asks_all, resumes_at, awaits_object, awaits_vote}
-use Rattle.fab_world.specs.Workers.{is_made_before, got, denied, waits_for, yes_from, aborts, aborts_in, voted_by, has_decided, inquired, takes_any, takes, wakes}
-use Rattle.fab_outcomes.specs.Causes.{recovers, loses_try, refuses_if, is_no, Gives}
+use Rattle.fab_world.specs.Workers.{Kept, Phase, Attempt, Act, aborts, aborts_in, awaits_vote, closes, gives, is_made_before, noting, request_of, resumes, sending, stays, takes, tid_of, undecided, wakes}
+use Rattle.fab_world.proofs.WorkerActs.{IsDenied, IsMissing, IsNo, IsYes, is_last_try, is_meant, is_yes, resumed, taken}
+use Rattle.fab_outcomes.specs.Causes.{Gives, Hears, is_no, loses_try, recovers, refuses, refuses_if}
 use Rattle.fab_outcomes.proofs.Records.{outcome_by, stopped_is}
 
 module _ (S : Setting) (w : World) (n lost : ℕ) where
@@ -76,21 +68,9 @@ module _ (S : Setting) (w : World) (n lost : ℕ) where
     on_stays : loses_try S w n event ≡ false → On (stays a)
     on_stays l = Goes refl refl l (λ h. inl h)
 
-    -- a try that is lost is the eighth in a row, or one more
-    on_try_ends : (a.tries ≡ lost) → loses_try S w n event ≡ true → is_idle a.phase ≡ false → On (try_ends S.rights S.cache n k a)
-    on_try_ends counted l busy =
-        on_noting (undecided S.rights S.cache n k a) _
-        (cond_both (suc a.tries == 8) (closes S.rights S.cache n k Conflict a) (stays (record (dropped a) { tries = suc a.tries })) On
-        (λ eight. Ends Conflict refl refl (l, ap suc (sym counted) ∙ eqb-true (suc a.tries) 8 eight) busy refl)
-        (λ _. Loses refl refl l refl))
-
     on_gives : (outcome : ReqOutcome) → outcome_by (closes S.rights S.cache n k outcome a).entry ≡ Some outcome → Gives S w n (request_of k) lost outcome event
         → is_idle a.phase ≡ false → On (gives S.rights S.cache n k outcome a)
     on_gives outcome is g busy = on_noting (undecided S.rights S.cache n k a) (closes S.rights S.cache n k outcome a) (Ends outcome is refl g busy refl)
-
-    on_waits_for : loses_try S w n event ≡ false → is_idle a.phase ≡ false → (ls : List ℕ) → On (waits_for S.rights S.cache n k ls a p)
-    on_waits_for l busy [] = Commits p.value (stores_of p) refl refl busy refl
-    on_waits_for l busy (x ∷ ls) = Goes refl refl l (λ idle. absurd (both_ways (is_idle a.phase) busy idle))
 
   -- ---- Resume
 
@@ -98,156 +78,127 @@ module _ (S : Setting) (w : World) (n lost : ℕ) where
     busy_here : is_idle a.phase ≡ false
     busy_here = ap is_idle evaluating
 
-    on_needs : (site : ℕ) (o : Oid) (row : Option Row) → Comes (i.Resume n) (needs S.rights S.cache n k site o row a (meant S w n))
-    on_needs site o (Some row) = Goes refl refl refl (λ idle. inl idle)
-    on_needs site o None = Goes refl refl refl (λ idle. absurd (both_ways (is_idle a.phase) busy_here idle))
+    pub on_resumes : Comes (i.Resume n) (resumes S.rights S.cache n k a (meant S w n))
+    on_resumes = resumed S.rights S.cache n k a (meant S w n) (Comes (i.Resume n)) (record {
+      finds = λ site o row is there. Goes refl refl refl (λ idle. inl idle);
+      fetches = λ site o is none. Goes refl refl refl (λ idle. absurd (both_ways (is_idle a.phase) busy_here idle));
+      decides = λ value is none. Commits p.value (stores_of p) refl refl busy_here refl;
+      asks = λ value s ss is at. Goes refl refl refl (λ idle. absurd (both_ways (is_idle a.phase) busy_here idle));
+      fails = λ is. Ends Failed refl refl (record { is = refl; end = is }) busy_here refl;
+      stops = λ limit is. Ends (Stopped limit) (stopped_is (request_of k) limit) refl (record { is = refl; end = is }) busy_here refl;
+    })
 
-    on_asks_all : (ss : List ℕ) → Comes (i.Resume n) (asks_all S.rights S.cache n k ss (telling a (meant S w n)) p)
-    on_asks_all [] = Commits p.value (stores_of p) refl refl busy_here refl
-    on_asks_all (s ∷ ss) = Goes refl refl refl (λ idle. absurd (both_ways (is_idle a.phase) busy_here idle))
+  -- ---- a message of node s
 
-    pub on_resumes_at : (ending : Ending) → (meant S w n).ending ≡ ending → Comes (i.Resume n) (resumes_at S.rights S.cache n k ending a (meant S w n))
-    on_resumes_at (endings.Missing site o) h = on_needs site o (cached_row a.caches o)
-    on_resumes_at (endings.Ended value) h =
-        on_noting (i.Resume n) (note.Ended (tid_of n k a) value (new_touches a (meant S w n)) (new_downs a (meant S w n)) p.writes p.creates ∷ []) _
-        (on_asks_all (stores_of p))
-    on_resumes_at endings.Failed h = Ends Failed refl refl (record { is = refl; end = h }) busy_here refl
-    on_resumes_at (endings.Stopped limit) h =
-        Ends (Stopped limit) (stopped_is (request_of k) limit) refl (record { is = refl; end = h }) busy_here refl
+  -- what isn't taken is of another shape, at no version, or made by this worker in this attempt or later
+  not_taken : (o : Oid) (version : ℕ) (x : Object) → suits S.rights o x && nat_lt 0 version && is_made_before S.rights S.cache n k o a ≡ false
+      → (suits S.rights o x ≡ false) ⊎ ((version ≡ 0) ⊎ (is_made_before S.rights S.cache n k o a ≡ false))
+  not_taken o version x h = elim (and_cases (suits S.rights o x && nat_lt 0 version) (is_made_before S.rights S.cache n k o a) h) [
+    | inr own ↦ inr (inr own)
+    | inl rest ↦ elim (and_cases (suits S.rights o x) (nat_lt 0 version) rest) [
+      | inl shape ↦ inl shape
+      | inr none ↦ let low = ltb-false 0 version none in inr (inl (omega arith))
+    ]
+  ]
 
-  -- ---- a message from store s
+  -- a message that isn't for the attempt refuses nothing
+  refuses_meant : (s : ℕ) (message : Message) → is_meant S.rights S.cache n k s a p message ≡ false → refuses S w n s message ≡ false
+  refuses_meant s (m.Vote t answer) h = and_left (awaits_vote S.rights S.cache n k s t a p a.phase) (is_no answer) h
+  refuses_meant s (m.Deny t o why.Missing) h = h
+  refuses_meant s (m.Deny t o why.Rights) h = refl
+  refuses_meant s _ h = refl
 
-  module _ (s : ℕ) (is : is_store S.rights s ≡ true) (counted : a.tries ≡ lost) where
+  no_is : (answer : Answer) → is_yes answer ≡ false → is_no answer ≡ true
+  no_is Yes h = absurd (true≢false h)
+  no_is _ h = refl
+
+  module _ (s : ℕ) (counted : a.tries ≡ lost) (message : Message) (read : S.read (front_of (w.queue s n)) ≡ Some message) where
     abbrev event : Inner
     event = i.Deliver s n
 
-    -- a message loses a try where it refuses
-    loses_is : (heard : Option Message) → S.read (front_of (w.queue s n)) ≡ heard → loses_try S w n event ≡ refuses_if S w n s heard
-    loses_is heard r =
+    lost_by : loses_try S w n event ≡ (is_store S.rights s && refuses S w n s message)
+    lost_by =
         ap (λ b. b && (is_store S.rights s && refuses_if S w n s (S.read (front_of (w.queue s n))))) (eq-eqb n n refl)
-        ∙ ap (λ b. b && refuses_if S w n s (S.read (front_of (w.queue s n)))) is
-        ∙ ap (refuses_if S w n s) r
+        ∙ ap (λ found. is_store S.rights s && refuses_if S w n s found) read
 
-    fetching : (t : Tid) (o : Oid) (phase : Phase) → awaits_object S.rights S.cache n k s t o a phase ≡ true → is_idle phase ≡ false
-    fetching t o workers.Idle h = absurd (true≢false (sym h))
-    fetching t o workers.Evaluating h = refl
-    fetching t o (workers.Fetching x) h = refl
-    fetching t o (workers.Preparing ls) h = refl
-
-    preparing : (t : Tid) (phase : Phase) → awaits_vote S.rights S.cache n k s t a p phase ≡ true → is_idle phase ≡ false
-    preparing t workers.Idle h = absurd (true≢false (sym h))
-    preparing t workers.Evaluating h = refl
-    preparing t (workers.Fetching x) h = refl
-    preparing t (workers.Preparing ls) h = refl
-
-    abbrev Heard : Message → Type 0
-    Heard message = S.read (front_of (w.queue s n)) ≡ Some message → Comes event (takes_any S.rights S.cache n k s message a p)
-
-    -- what isn't taken is of another shape, at no version, or made by this worker in this attempt or later
-    not_taken : (o : Oid) (version : ℕ) (x : Object) → suits S.rights o x && nat_lt 0 version && is_made_before S.rights S.cache n k o a ≡ false
-        → (suits S.rights o x ≡ false) ⊎ ((version ≡ 0) ⊎ (is_made_before S.rights S.cache n k o a ≡ false))
-    not_taken o version x h = elim (and_cases (suits S.rights o x && nat_lt 0 version) (is_made_before S.rights S.cache n k o a) h) [
-      | inr own ↦ inr (inr own)
-      | inl rest ↦ elim (and_cases (suits S.rights o x) (nat_lt 0 version) rest) [
-        | inl shape ↦ inl shape
-        | inr none ↦ let low = ltb-false 0 version none in inr (inl (omega arith))
-      ]
+    rests : (is_store S.rights s && is_meant S.rights S.cache n k s a p message) ≡ false → loses_try S w n event ≡ false
+    rests h = lost_by ∙ elim (and_cases (is_store S.rights s) (is_meant S.rights S.cache n k s a p message) h) [
+      | inl none ↦ and_left (is_store S.rights s) (refuses S w n s message) none
+      | inr other ↦ and_right (is_store S.rights s) (refuses S w n s message) (refuses_meant s message other)
     ]
 
-    object_heard : (t : Tid) (o : Oid) (version : ℕ) (x : Object) → Heard (m.Object t o version x)
-    object_heard t o version x r =
-        cond_both (awaits_object S.rights S.cache n k s t o a a.phase) (got S.rights S.cache n k s o version x a) (stays a) (Comes event)
-        (λ h. cond_both (suits S.rights o x && nat_lt 0 version && is_made_before S.rights S.cache n k o a)
-        (stays (record a { phase = workers.Evaluating; answers = a.answers ++ (o, version, x) ∷ [] })) (gives S.rights S.cache n k (Denied s IllFormed) a) (Comes event)
-        (λ _. Goes refl refl (loses_is (Some (m.Object t o version x)) r) (λ idle. absurd (both_ways (is_idle a.phase) (fetching t o a.phase h) idle)))
-        (λ ill. on_gives event (Denied s IllFormed) refl (record {
-          tid = t;
-          name = o;
-          version = version;
-          object = x;
-          heard = record { is = refl; store = is; read = r };
-          current = h;
-          ill = not_taken o version x ill;
-        }) (fetching t o a.phase h)))
-        (λ _. on_stays event (loses_is (Some (m.Object t o version x)) r))
+    -- a message of a store loses a try where it refuses
+    lost_at : is_store S.rights s ≡ true → (x : Message) → message ≡ x → loses_try S w n event ≡ refuses S w n s x
+    lost_at is x at = lost_by ∙ ap (λ b. b && refuses S w n s message) is ∙ ap (refuses S w n s) at
 
-    denied_heard : (t : Tid) (o : Oid) (reason : Why) → Heard (m.Deny t o reason)
-    denied_heard t o why.Missing r =
-        cond_both (awaits_object S.rights S.cache n k s t o a a.phase) (try_ends S.rights S.cache n k a) (stays a) (Comes event)
-        (λ h. on_try_ends event counted (loses_is (Some (m.Deny t o why.Missing)) r ∙ h) (fetching t o a.phase h))
-        (λ h. on_stays event (loses_is (Some (m.Deny t o why.Missing)) r ∙ h))
-    denied_heard t o why.Rights r =
-        cond_both (awaits_object S.rights S.cache n k s t o a a.phase) (gives S.rights S.cache n k (Denied s NoRights) a) (stays a) (Comes event)
-        (λ h. on_gives event (Denied s NoRights) refl
-        (record { tid = t; name = o; heard = record { is = refl; store = is; read = r }; current = h }) (fetching t o a.phase h))
-        (λ _. on_stays event (loses_is (Some (m.Deny t o why.Rights)) r))
+    goes_on : (x : IsYes S.rights S.cache n k s a p message) → loses_try S w n event ≡ false
+    goes_on x = elim x.is [
+      | inl vote ↦ lost_at x.awaited.store (m.Vote x.tid Yes) vote ∙ and_right (awaits_vote S.rights S.cache n k s x.tid a p a.phase) false refl
+      | inr inquire ↦ lost_at x.awaited.store (m.Inquire x.tid) inquire
+    ]
 
-    on_yes : loses_try S w n event ≡ false → is_idle a.phase ≡ false → Comes event (yes_from S.rights S.cache n k s a p)
-    on_yes l busy = on_waits_for event l busy (filter (λ l. not (l == s)) (not_voted a.phase))
+    is_lost : (x : IsNo S.rights S.cache n k s a p message) → loses_try S w n event ≡ true
+    is_lost x = lost_at x.awaited.store (m.Vote x.tid x.answer) x.is ∙ ap (λ b. b && is_no x.answer) x.awaited.passes ∙ no_is x.answer x.other
 
-    -- a No ends the try
-    no_heard : (t : Tid) (answer : Answer) → is_no answer ≡ true → voted_by S.rights S.cache n k s answer a p ≡ sending (aborts S.rights S.cache n k a p) (try_ends S.rights S.cache n k a)
-        → Heard (m.Vote t answer)
-    no_heard t answer no_ does r =
-        cond_both (awaits_vote S.rights S.cache n k s t a p a.phase) (voted_by S.rights S.cache n k s answer a p) (stays a) (Comes event)
-        (λ h. subst (Comes event) (sym does)
-        (on_sending event (aborts S.rights S.cache n k a p) (try_ends S.rights S.cache n k a)
-        (on_try_ends event counted (loses_is (Some (m.Vote t answer)) r ∙ ap (λ b. b && is_no answer) h ∙ no_) (preparing t a.phase h))))
-        (λ h. on_stays event (loses_is (Some (m.Vote t answer)) r ∙ ap (λ b. b && is_no answer) h))
+    is_missing : (x : IsMissing S.rights S.cache n k s a p message) → loses_try S w n event ≡ true
+    is_missing x = lost_at x.awaited.store (m.Deny x.tid x.name why.Missing) x.is ∙ x.awaited.passes
 
-    vote_heard : (t : Tid) (answer : Answer) → Heard (m.Vote t answer)
-    vote_heard t Yes r =
-        cond_both (awaits_vote S.rights S.cache n k s t a p a.phase) (yes_from S.rights S.cache n k s a p) (stays a) (Comes event)
-        (λ h. on_yes (loses_is (Some (m.Vote t Yes)) r ∙ ap (λ b. b && false) h) (preparing t a.phase h))
-        (λ h. on_stays event (loses_is (Some (m.Vote t Yes)) r ∙ ap (λ b. b && false) h))
-    vote_heard t (Stale o version) r = no_heard t (Stale o version) refl refl r
-    vote_heard t (Locked u) r = no_heard t (Locked u) refl refl r
-    vote_heard t (NoRight o) r = no_heard t (NoRight o) refl refl r
-    vote_heard t (OldTid u) r = no_heard t (OldTid u) refl refl r
-    vote_heard t (Malformed o) r = no_heard t (Malformed o) refl refl r
-    vote_heard t (Exists o) r = no_heard t (Exists o) refl refl r
+    heard_so : is_store S.rights s ≡ true → (x : Message) → message ≡ x → Hears S w n s x event
+    heard_so is x at = record { is = refl; store = is; read = read ∙ ap Some at }
 
-    asked_heard : (t : Tid) → Heard (m.Inquire t)
-    asked_heard t r =
-        let l = loses_is (Some (m.Inquire t)) r in
-        cond_both (t.worker == n) (inquired S.rights S.cache n k s t a p) (stays a) (Comes event)
-        (λ _. cond_both (has_decided S.rights S.cache n k t s) (sending ((s, m.Commit t) ∷ []) (stays a)) _ (Comes event)
-        (λ _. on_sending event ((s, m.Commit t) ∷ []) (stays a) (on_stays event l))
-        (λ _. cond_both (awaits_vote S.rights S.cache n k s t a p a.phase) (yes_from S.rights S.cache n k s a p) (sending ((s, m.Abort t) ∷ []) (stays a)) (Comes event)
-        (λ h. on_yes l (preparing t a.phase h))
-        (λ _. on_sending event ((s, m.Abort t) ∷ []) (stays a) (on_stays event l))))
-        (λ _. on_stays event l)
+    on_denied : (reason : Denial) → IsDenied S.rights S.cache n k s a p message reason → Comes event (gives S.rights S.cache n k (Denied s reason) a)
+    on_denied NoRights x = on_gives event (Denied s NoRights) refl (record {
+      tid = x.tid;
+      name = x.name;
+      heard = heard_so x.awaited.store (m.Deny x.tid x.name why.Rights) x.is;
+      current = x.awaited.passes;
+    }) (ap is_idle x.awaited.phase_is)
+    on_denied IllFormed x = on_gives event (Denied s IllFormed) refl (record {
+      tid = x.tid;
+      name = x.name;
+      version = x.is.0;
+      object = x.is.1;
+      heard = heard_so x.awaited.store (m.Object x.tid x.name x.is.0 x.is.1) x.is.2;
+      current = x.awaited.passes;
+      ill = not_taken x.name x.is.0 x.is.1 x.is.3;
+    }) (ap is_idle x.awaited.phase_is)
 
-    pub taken : (message : Message) → Heard message
-    taken (m.Object t o version x) r = object_heard t o version x r
-    taken (m.Deny t o reason) r = denied_heard t o reason r
-    taken (m.Vote t answer) r = vote_heard t answer r
-    taken (m.Inquire t) r = asked_heard t r
-    taken (m.Fetch t o) r = on_stays event (loses_is (Some (m.Fetch t o)) r)
-    taken (m.Prepare t items) r = on_stays event (loses_is (Some (m.Prepare t items)) r)
-    taken (m.Commit t) r = on_stays event (loses_is (Some (m.Commit t)) r)
-    taken (m.Abort t) r = on_stays event (loses_is (Some (m.Abort t)) r)
-    taken (m.Boot b) r = on_stays event (loses_is (Some (m.Boot b)) r)
+    -- the eighth try in a row
+    on_eighth : loses_try S w n event ≡ true → is_last_try S.rights S.cache n k s a p ≡ true → is_idle a.phase ≡ false → Comes event (gives S.rights S.cache n k Conflict a)
+    on_eighth l last busy = on_gives event Conflict refl (l, ap suc (sym counted) ∙ eqb-true (suc a.tries) 8 last) busy
+
+    busy : (phase : Phase) → a.phase ≡ phase → is_idle phase ≡ false → {A : Type 0} → is_idle a.phase ≡ true → A
+    busy phase at none idle = absurd (both_ways (is_idle a.phase) (ap is_idle at ∙ none) idle)
+
+    pub on_takes : Comes event (takes S.rights S.cache n k s message a p)
+    on_takes = taken S.rights S.cache n k s a p message (Comes event) (record {
+      rests = λ h. on_stays event (rests h);
+      learns = λ x h. Goes refl refl (lost_at x.awaited.store (m.Object x.tid x.name x.version x.object) x.is) (busy _ x.awaited.phase_is refl);
+      denied = on_denied;
+      tires = λ x h. on_eighth (is_missing x) h (ap is_idle x.awaited.phase_is);
+      tries = λ x h. Loses refl refl (is_missing x) refl;
+      gives_up = λ x h. on_sending event (aborts S.rights S.cache n k a p) _ (on_eighth (is_lost x) h (ap is_idle x.awaited.phase_is));
+      aborts = λ x h. Loses refl refl (is_lost x) refl;
+      decides = λ x h. Commits p.value (stores_of p) refl refl (ap is_idle x.awaited.phase_is) refl;
+      waits = λ x l ls h. Goes refl refl (goes_on x) (busy _ x.awaited.phase_is refl);
+      commits = λ x h. on_sending event ((s, m.Commit x.tid) ∷ []) (stays a) (on_stays event (lost_at x.store (m.Inquire x.tid) x.is));
+      forgets = λ x h g. on_sending event ((s, m.Abort x.tid) ∷ []) (stays a) (on_stays event (lost_at x.store (m.Inquire x.tid) x.is));
+    })
 
   -- ---- each event
 
   module _ (me : is_worker S.rights n ≡ true) where
-    -- bytes that are no message, and those of a node that is no store, lose no try
+    -- bytes that are no message lose no try
     none_lost : (s : ℕ) → S.read (front_of (w.queue s n)) ≡ None → loses_try S w n (i.Deliver s n) ≡ false
     none_lost s r =
         ap (λ heard. (n == n) && (is_store S.rights s && refuses_if S w n s heard)) r
         ∙ and_right (n == n) (is_store S.rights s && false) (and_right (is_store S.rights s) false refl)
 
-    stranger_lost : (s : ℕ) → is_store S.rights s ≡ false → loses_try S w n (i.Deliver s n) ≡ false
-    stranger_lost s no_ = and_right (n == n) _ (and_left (is_store S.rights s) (refuses_if S w n s (S.read (front_of (w.queue s n)))) no_)
-
     heard_at : (s : ℕ) → a.tries ≡ lost → (heard : Option Message) → S.read (front_of (w.queue s n)) ≡ heard → Comes (i.Deliver s n) (hears S w s n heard)
     heard_at s counted None r = on_stays (i.Deliver s n) (none_lost s r)
     heard_at s counted (Some message) r =
         subst (λ b. Comes (i.Deliver s n) (if b then takes S.rights S.cache n k s message a p else of_store S a (says S.rights n s message (shelf S w n)))) (sym me)
-        (cond_both (is_store S.rights s) (takes_any S.rights S.cache n k s message a p) (stays a) (Comes (i.Deliver s n))
-        (λ is. taken s is counted message r)
-        (λ no_. on_stays (i.Deliver s n) (stranger_lost s no_)))
+        (on_takes s counted message r)
 
     lacking : (s : ℕ) (phase : Phase) → lacks s phase ≡ true → is_idle phase ≡ false
     lacking s workers.Idle h = absurd (true≢false (sym h))
@@ -290,7 +241,7 @@ module _ (S : Setting) (w : World) (n lost : ℕ) where
         (λ h. inl (record {
           up = (and_parts _ _ (and_parts _ _ h).0).1;
           stays_up = refl;
-          comes = on_resumes_at (is_evaluating_at a.phase (and_parts _ _ h).1) (meant S w n).ending refl;
+          comes = on_resumes (is_evaluating_at a.phase (and_parts _ _ h).1);
         })) can
     comes_at (i.Deliver s x) at can counted =
         subst (λ z. IsTrue (may S w (i.Deliver s z)) → Is (i.Deliver s z)) (sym at)

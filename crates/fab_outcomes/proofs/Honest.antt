@@ -1,11 +1,9 @@
 -- What an honest store says: its record owes nothing, and each object that it answers is one that it has.
-use Rattle.std.proofs.Common.{◌≡◌, ℕ, [], ◌∷◌, Bool, true, not, ◌&&◌, ◌||◌, ◌==◌, if◌then◌else◌}
-use Rattle.std.proofs.Common.{Option, Some, None, refl, sym, ap, subst, arith}
-use Rattle.std.specs.Prelude.{nat_lt}
+use Rattle.std.proofs.Common.{◌≡◌, ℕ, [], ◌∷◌, true}
+use Rattle.std.proofs.Common.{Option, Some, None, sym, ap, subst, arith}
 use Rattle.std.specs.List.{AllByRecursion}
-use Rattle.std.proofs.lemmas.Bool.{and_parts, cond_both, eqb-true}
+use Rattle.std.proofs.lemmas.Bool.{eqb-true}
 use Rattle.fab_base.specs.declared.entry.Entry.{Entry}
-use Rattle.fab_base.specs.declared.entry.Entry.TheVariants as e
 use Rattle.fab_base.specs.declared.message.Answer.{Answer}
 use Rattle.fab_base.specs.declared.message.Answer.TheVariants as answers
 use Rattle.fab_base.specs.declared.message.Items.{Items}
@@ -18,15 +16,14 @@ use Rattle.fab_base.specs.declared.object.Oid.{Oid}
 use Rattle.fab_base.specs.declared.object.Tid.{Tid}
 use Rattle.fab_base.specs.FieldSpelling.{IsOid, IsTid}
 use Rattle.fab_base.specs.MessageSpelling.{IsBody, spelled}
-use Rattle.fab_base.specs.Tids.{is_above}
-use Rattle.fab_net.specs.declared.note.Note.TheVariants as note
-use Rattle.fab_rights.specs.Computed.{is_worker, knows, may_fetch}
+use Rattle.fab_rights.specs.Computed.{is_worker}
 use Rattle.fab_protocol.specs.declared.said.Said.{Said}
-use Rattle.fab_protocol.specs.Stores.{Prepared, Shelf, asked, asks, boot_of, does, fetched, found, hears, is_own, is_prepared, last_of, records, replies, silent}
-use Rattle.fab_protocol.specs.Stores.{vote, voted, votes}
+use Rattle.fab_protocol.specs.Stores.{Prepared, Shelf, asks, hears, last_of, replies, silent}
+use Rattle.fab_protocol.specs.Stores.{vote, voted}
 use Rattle.fab_protocol.specs.Tables.{row_of}
 use Rattle.fab_protocol.specs.Versions.{Row, is_made_in, name_of}
 use Rattle.fab_protocol.specs.Shelves.{IsShelf}
+use Rattle.fab_protocol.proofs.StoreActs.{answered}
 use Rattle.fab_protocol.proofs.TableLaws.{row_of_all, row_of_name}
 use Rattle.fab_world.specs.Machine.{Setting}
 use Rattle.fab_world.specs.Serial.{IsSetting}
@@ -103,67 +100,36 @@ module _ (S : Setting) (given : IsSetting S) (Made : Oid → Type 0) (s : ℕ) (
   fair_replies : (n : ℕ) (sent : Message) → IsHonest sent → IsFair (replies n sent)
   fair_replies n sent h = record { owes = tt; sends = one_reply n sent h }
 
-  fair_found : (n : ℕ) (t : Tid) (o : Oid) → IsTid t → IsOid o → (row : Option Row) → row_of name_of shelf.rows o ≡ row → IsFair (found n t o row)
-  fair_found n t o tid name None there = fair_replies n (m.Deny t o why.Missing) (honest_deny t o why.Missing)
-  fair_found n t o tid name (Some row) there = fair_replies n (m.Object t o row.1 row.2) (honest_object t o row tid name there)
-
-  fair_fetched : (n : ℕ) (t : Tid) (o : Oid) → IsTid t → IsOid o → IsFair (fetched S.rights s n t o shelf)
-  fair_fetched n t o tid name =
-      cond_both (not (o.store == s) || not (knows S.rights o.class)) (replies n (m.Deny t o why.Missing)) _ IsFair
-      (λ _. fair_replies n (m.Deny t o why.Missing) (honest_deny t o why.Missing))
-      (λ _. cond_both (not (may_fetch S.rights n o.class)) (replies n (m.Deny t o why.Rights)) (found n t o (row_of name_of shelf.rows o)) IsFair
-      (λ _. fair_replies n (m.Deny t o why.Rights) (honest_deny t o why.Rights))
-      (λ _. fair_found n t o tid name (row_of name_of shelf.rows o) refl))
-
   owes_vote : (t : Tid) (items : Items) → IsSpelled (t, items) → (answer : Answer) → Owes S.rights Made s shelf ok (voted t items answer)
   owes_vote t items h answers.Yes = h
-  owes_vote t items h (answers.Stale o version) = tt
-  owes_vote t items h (answers.Locked u) = tt
-  owes_vote t items h (answers.Rights o) = tt
-  owes_vote t items h (answers.OldTid u) = tt
-  owes_vote t items h (answers.IllFormed o) = tt
-  owes_vote t items h (answers.Exists o) = tt
+  owes_vote t items h _ = tt
 
-  fair_asked : (n : ℕ) (t : Tid) (items : Items) → IsSpelled (t, items) → IsFair (asked S.rights s n t items shelf)
-  fair_asked n t items h =
-      cond_both (not (is_above t (last_of shelf n))) (votes n t (answers.OldTid (last_of shelf n)) None)
-      (votes n t (vote S.rights s n t items shelf) (Some (voted t items (vote S.rights s n t items shelf)))) IsFair
-      (λ _. record { owes = tt; sends = one_reply n (m.Vote t (answers.OldTid (last_of shelf n))) (honest_vote t (answers.OldTid (last_of shelf n))) })
-      (λ _. record {
-        owes = owes_vote t items h (vote S.rights s n t items shelf);
-        sends = one_reply n (m.Vote t (vote S.rights s n t items shelf)) (honest_vote t (vote S.rights s n t items shelf));
-      })
-
-  fair_record : (test : Bool) (said : Said) → IsFair said → IsFair (if test then said else silent)
-  fair_record test said h = cond_both test said silent IsFair (λ _. h) (λ _. fair_silent)
-
-  -- a message of worker n that can be spelled, and of which, if it is a Commit, what it commits has a maker
-  fair_does : (n : ℕ) (message : Message) → IsBody 1 message
-      → ((t : Tid) → message ≡ m.Commit t → (o : Oid) → is_made_in t o ≡ true → Made o) → IsFair (does S.rights s n message shelf)
-  fair_does n (m.Fetch t o) body made = fair_fetched n t o body.0 body.1
-  fair_does n (m.Prepare t items) body made = fair_asked n t items (body.0, body.1)
-  fair_does n (m.Commit t) body made =
-      fair_record (is_prepared t shelf) (records (e.Applied t) (note.Applied t ∷ [])) (record { owes = made t refl; sends = λ k message h. absurd h })
-  fair_does n (m.Abort t) body made =
-      fair_record (is_prepared t shelf) (records (e.Released t) []) (record { owes = tt; sends = λ k message h. absurd h })
-  fair_does n (m.Boot b) body made =
-      fair_record (nat_lt (boot_of shelf n) b) (records (e.BootSeen n b) []) (record { owes = tt; sends = λ k message h. absurd h })
-  fair_does n (m.Object t o version x) body made = fair_silent
-  fair_does n (m.Deny t o reason) body made = fair_silent
-  fair_does n (m.Vote t answer) body made = fair_silent
-  fair_does n (m.Inquire t) body made = fair_silent
-
-  -- so is what it says to anyone
+  -- to a message that can be spelled, and of which, if it is a Commit of its worker, what it commits has a maker
   pub fair_hears : (n : ℕ) (heard : Option Message) → ((message : Message) → heard ≡ Some message → IsBody 1 message)
       → ((t : Tid) → heard ≡ Some (m.Commit t) → is_worker S.rights n ≡ true → t.worker ≡ n → (o : Oid) → is_made_in t o ≡ true → Made o)
       → IsFair (hears S.rights s n heard shelf)
   fair_hears n None body made = fair_silent
-  fair_hears n (Some message) body made =
-      cond_both (is_worker S.rights n && is_own n message) (does S.rights s n message shelf) silent IsFair
-      (λ both.
-      let q = and_parts (is_worker S.rights n) (is_own n message) both in
-      fair_does n message (body message refl) (λ t is. made t (ap Some is) q.0 (eqb-true t.worker n (subst (λ x. is_own n x ≡ true) is q.1))))
-      (λ _. fair_silent)
+  fair_hears n (Some message) body made = answered S.rights s n shelf IsFair message (record {
+    rests = λ h. fair_silent;
+    lacks = λ t o h. fair_replies n (m.Deny t o why.Missing) (honest_deny t o why.Missing);
+    bars = λ t o h. fair_replies n (m.Deny t o why.Rights) (honest_deny t o why.Rights);
+    shows = λ t o row h there.
+        let fits = body (m.Fetch t o) (ap Some h.is) in
+        fair_replies n (m.Object t o row.1 row.2) (honest_object t o row fits.0 fits.1 there);
+    too_late = λ t items h. record {
+      owes = tt;
+      sends = one_reply n (m.Vote t (answers.OldTid (last_of shelf n))) (honest_vote t (answers.OldTid (last_of shelf n)));
+    };
+    votes_on = λ t items h above.
+        let fits = body (m.Prepare t items) (ap Some h.is) in
+        record {
+          owes = owes_vote t items (fits.0, fits.1) (vote S.rights s n t items shelf);
+          sends = one_reply n (m.Vote t (vote S.rights s n t items shelf)) (honest_vote t (vote S.rights s n t items shelf));
+        };
+    applies = λ t h there. record { owes = made t (ap Some h.is) h.worker (eqb-true t.worker n h.sender); sends = λ k sent i. absurd i };
+    releases = λ t h there. record { owes = tt; sends = λ k sent i. absurd i };
+    boots = λ b h later. record { owes = tt; sends = λ k sent i. absurd i };
+  })
 
   pub fair_asks : IsFair (asks shelf)
   fair_asks = record {

@@ -9,6 +9,7 @@ pub mod Records
 pub mod Refusals
 pub mod Senders
 pub mod ShelfKept
+pub mod StoreActs
 mod StoreExamples
 pub mod TableLaws
 pub mod Toy

@@ -1,9 +1,9 @@
 -- What a store's record makes of versions and of what is prepared: no version rises but by what was prepared, and that by a Prepare.
 use Rattle.std.proofs.Common.{◌≡◌, ◌⊎◌, inl, inr, ℕ, suc, ◌+◌, ◌≤◌, List, [], ◌∷◌, map, length, Bool, true}
-use Rattle.std.proofs.Common.{false, not, ◌&&◌, ◌||◌, cond, IsFalse, Option, Some, None, refl, sym, ap, arith, true≢false}
-use Rattle.std.specs.Prelude.{◌==◌, nat_lt, if◌then◌else◌}
+use Rattle.std.proofs.Common.{false, not, cond, IsFalse, Option, Some, None, refl, sym, ap, subst, arith, true≢false}
+use Rattle.std.specs.Prelude.{◌==◌, if◌then◌else◌}
 use Rattle.std.specs.List.{flat_map, list_any, AllByRecursion}
-use Rattle.std.proofs.lemmas.Bool.{cond_both, or_cases}
+use Rattle.std.proofs.lemmas.Bool.{or_cases}
 use Rattle.std.proofs.lemmas.List.{length-append}
 use Rattle.fab_base.specs.declared.entry.Entry.{Entry}
 use Rattle.fab_base.specs.declared.object.Oid.{Oid}
@@ -12,18 +12,15 @@ use Rattle.fab_base.specs.declared.message.Answer.{Answer}
 use Rattle.fab_base.specs.declared.message.Answer.TheVariants as answers
 use Rattle.fab_base.specs.declared.message.Items.{Items}
 use Rattle.fab_base.specs.declared.message.Message.{Message}
-use Rattle.fab_base.specs.declared.message.Message.TheVariants as m
 use Rattle.fab_base.specs.FlatMap.{is_same}
-use Rattle.fab_base.specs.Tids.{is_above}
 use Rattle.fab_rights.specs.declared.rights.Rights.{Rights}
-use Rattle.fab_rights.specs.Computed.{is_worker, knows, may_fetch}
-use Rattle.fab_protocol.specs.declared.said.Said.{Said}
 use Rattle.fab_protocol.specs.Shelves.{IsCurrent, IsShelf}
-use Rattle.fab_protocol.specs.Stores.{Prepared, Shelf, Write, all_in, behind, boot_of, does}
-use Rattle.fab_protocol.specs.Stores.{found, hears, is_own, is_prepared, keeps_said, last_of, out_of_date}
-use Rattle.fab_protocol.specs.Stores.{prepared_as, says, silent, vote, voted, without}
-use Rattle.fab_protocol.specs.Tables.{placed, placed_all, row_of}
+use Rattle.fab_protocol.specs.Stores.{Prepared, Shelf, Write, all_in, behind}
+use Rattle.fab_protocol.specs.Stores.{hears, keeps_said, out_of_date}
+use Rattle.fab_protocol.specs.Stores.{prepared_as, says, vote, voted, without}
+use Rattle.fab_protocol.specs.Tables.{placed, placed_all}
 use Rattle.fab_protocol.specs.Versions.{Row, Rows, begun, is_tid, left_by, name_of, raised, risen, version_of}
+use Rattle.fab_protocol.proofs.StoreActs.{answered}
 use Rattle.fab_protocol.proofs.TableLaws.{one_name}
 use Rattle.fab_protocol.proofs.VersionLaws.{version_of_placed}
 use Rattle.fab_integrity.proofs.Invariant.{In}
@@ -108,41 +105,22 @@ module _ (rights : Rights) (s n : ℕ) (shelf : Shelf) (ok : IsShelf rights s sh
 
   voted_rises : (t : Tid) (items : Items) (answer : Answer) → Rises (Some (voted t items answer)) 1
   voted_rises t items answers.Yes = let more = length-append shelf.prepared ((t, items) ∷ []) in omega (arith, more)
-  voted_rises t items (answers.Stale p version) = omega arith
-  voted_rises t items (answers.Locked other) = omega arith
-  voted_rises t items (answers.Rights p) = omega arith
-  voted_rises t items (answers.OldTid last) = omega arith
-  voted_rises t items (answers.IllFormed p) = omega arith
-  voted_rises t items (answers.Exists p) = omega arith
-
-  found_rises : (t : Tid) (p : Oid) (row : Option Row) → Rises (found n t p row).entry 0
-  found_rises t p None = omega arith
-  found_rises t p (Some row) = omega arith
-
-  does_rises : (message : Message) → Rises (does rights s n message shelf).entry (one_if (is_prepare message))
-  does_rises (m.Fetch t p) =
-      cond_both (not (p.store == s) || not (knows rights p.class)) _ _ (λ (x : Said). Rises x.entry 0) (λ _. omega arith)
-      (λ _. cond_both (not (may_fetch rights n p.class)) _ _ (λ (x : Said). Rises x.entry 0) (λ _. omega arith) (λ _. found_rises t p (row_of name_of shelf.rows p)))
-  does_rises (m.Prepare t items) =
-      cond_both (not (is_above t (last_of shelf n))) _ _ (λ (x : Said). Rises x.entry 1) (λ _. omega arith) (λ _. voted_rises t items (vote rights s n t items shelf))
-  does_rises (m.Commit t) =
-      cond_both (is_prepared t shelf) _ silent (λ (x : Said). Rises x.entry 0)
-      (λ there. let low = applied_low rights s shelf ok t o in let gone = one_gone t shelf.prepared there in omega (arith, low, gone)) (λ _. omega arith)
-  does_rises (m.Abort t) =
-      cond_both (is_prepared t shelf) _ silent (λ (x : Said). Rises x.entry 0)
-      (λ _. let few = few_pass (λ (p : Prepared). not (is_tid p.0 t)) shelf.prepared in omega (arith, few)) (λ _. omega arith)
-  does_rises (m.Boot b) =
-      cond_both (nat_lt (boot_of shelf n) b) _ silent (λ (x : Said). Rises x.entry 0)
-      (λ _. let few = few_pass (λ (p : Prepared). not (p.0.worker == n)) shelf.prepared in omega (arith, few)) (λ _. omega arith)
-  does_rises (m.Object t p version x) = omega arith
-  does_rises (m.Deny t p reason) = omega arith
-  does_rises (m.Vote t answer) = omega arith
-  does_rises (m.Inquire t) = omega arith
+  voted_rises t items _ = omega arith
 
   says_rises : (message : Message) → Rises (says rights s n message shelf).entry (one_if (is_prepare message))
-  says_rises message =
-      cond_both (is_worker rights n && is_own n message) (does rights s n message shelf) silent (λ (x : Said). Rises x.entry (one_if (is_prepare message)))
-      (λ _. does_rises message) (λ _. omega arith)
+  says_rises message = answered rights s n shelf (λ said. Rises said.entry (one_if (is_prepare message))) message (record {
+    rests = λ h. omega arith;
+    lacks = λ t p h. omega arith;
+    bars = λ t p h. omega arith;
+    shows = λ t p row h there. omega arith;
+    too_late = λ t items h. omega arith;
+    votes_on = λ t items h above.
+        subst (λ x. Rises (Some (voted t items (vote rights s n t items shelf))) (one_if (is_prepare x))) (sym h.is)
+        (voted_rises t items (vote rights s n t items shelf));
+    applies = λ t h there. let low = applied_low rights s shelf ok t o in let gone = one_gone t shelf.prepared there in omega (arith, low, gone);
+    releases = λ t h there. let few = few_pass (λ (p : Prepared). not (is_tid p.0 t)) shelf.prepared in omega (arith, few);
+    boots = λ b h later. let few = few_pass (λ (p : Prepared). not (p.0.worker == n)) shelf.prepared in omega (arith, few);
+  })
 
   pub hears_rises : (heard : Option Message) → Rises (hears rights s n heard shelf).entry (one_if (asks heard))
   hears_rises None = omega arith

@@ -1,47 +1,34 @@
 -- What the nodes outside the set send is for nodes.
-use Rattle.std.proofs.Common.{◌≡◌, inl, inr, ℕ, suc, false, not, ◌&&◌, ◌||◌, cond, IsTrue, List, [], ◌∷◌, ◌++◌, map, Option, Some, None, refl, sym, ap, ◌∙◌, subst, true≢false}
-use Rattle.std.specs.Prelude.{◌==◌, nat_lt}
-use Rattle.std.specs.List.{filter, flat_map, range_with_len, AllByRecursion}
-use Rattle.std.proofs.lemmas.Bool.{and_parts, both_ways, cond_both, or_cases, or_left, or_right}
-use Rattle.fab_base.specs.declared.message.Answer.{Answer}
-use Rattle.fab_base.specs.declared.message.Answer.TheVariants.{Yes, Stale, Locked, Rights as NoRights, OldTid, IllFormed, Exists}
+use Rattle.std.proofs.Common.{◌≡◌, inl, inr, ℕ, suc, false, IsTrue, List, [], ◌∷◌, map, refl, sym, ap, ◌∙◌, subst, true≢false}
+use Rattle.std.specs.List.{flat_map, range_with_len, AllByRecursion}
+use Rattle.std.proofs.lemmas.Bool.{and_parts, both_ways, or_cases, or_left, or_right}
 use Rattle.fab_base.specs.declared.message.Message.{Message}
 use Rattle.fab_base.specs.declared.message.Message.TheVariants as m
-use Rattle.fab_base.specs.declared.message.Why.{Why}
-use Rattle.fab_base.specs.declared.message.Why.TheVariants as why
-use Rattle.fab_base.specs.declared.entry.Entry.TheVariants as e
-use Rattle.fab_base.specs.declared.object.Object.{Object}
 use Rattle.fab_base.specs.declared.object.Oid.{Oid}
 use Rattle.fab_base.specs.declared.object.Tid.{Tid}
 use Rattle.fab_base.specs.FlatMap.{map_of}
-use Rattle.fab_base.specs.Tids.{is_above}
-use Rattle.fab_language.specs.declared.ending.Ending.{Ending}
 use Rattle.fab_language.specs.declared.ending.Ending.TheVariants as endings
 use Rattle.fab_language.specs.Meaning.{Meant}
 use Rattle.fab_net.specs.declared.event.Inner.{Inner}
 use Rattle.fab_net.specs.declared.event.Inner.TheVariants as i
 use Rattle.fab_net.specs.declared.note.Commit.{Commit}
 use Rattle.fab_net.specs.declared.note.Logged.{Logged}
-use Rattle.fab_net.specs.declared.note.Note.TheVariants as note
-use Rattle.fab_net.specs.declared.outcome.Denial.TheVariants.{IllFormed as Ill}
-use Rattle.fab_net.specs.declared.outcome.ReqOutcome.TheVariants.{Conflict, Denied}
+use Rattle.fab_net.specs.declared.outcome.ReqOutcome.TheVariants.{Conflict, Silent}
 use Rattle.fab_protocol.specs.declared.parts.Decision.{Decision}
 use Rattle.fab_protocol.specs.declared.parts.Parts.{Parts}
-use Rattle.fab_protocol.specs.declared.said.Said.{Said}
-use Rattle.fab_protocol.specs.Caches.{cached_row}
 use Rattle.fab_protocol.specs.Parts.{stores_of, items_at}
 use Rattle.fab_protocol.specs.Stores as stores
-use Rattle.fab_protocol.specs.Stores.{Shelf, Prepared, asks, boot_of, does, found, is_own, is_prepared, last_of, records, replies, silent, vote, voted, votes}
-use Rattle.fab_protocol.specs.Tables.{row_of}
-use Rattle.fab_protocol.specs.Versions.{Row, name_of, objects_of}
+use Rattle.fab_protocol.specs.Stores.{Shelf, Prepared, asks}
+use Rattle.fab_protocol.specs.Versions.{objects_of}
 use Rattle.fab_protocol.proofs.Lists.{all_append}
+use Rattle.fab_protocol.proofs.StoreActs.{answered}
 use Rattle.fab_rights.specs.declared.rights.Rights.{Rights}
-use Rattle.fab_rights.specs.Computed.{is_node, is_store, is_worker, knows, may_fetch, stores_in, suits}
+use Rattle.fab_rights.specs.Computed.{is_node, is_store, is_worker, stores_in}
 use Rattle.fab_world.specs.Attempts.{parts_of}
-use Rattle.fab_world.specs.Machine.{Setting, World, node_of, act, front_of, hears, kept, may, meant, of_store, parts, shelf, is_evaluating}
+use Rattle.fab_world.specs.Machine.{Setting, World, node_of, act, front_of, kept, may, meant, parts, shelf, is_evaluating}
 use Rattle.fab_world.specs.Workers as workers
-use Rattle.fab_world.specs.Workers.{Act, Attempt, Kept, Phase, aborts_in, asks_all, awaits_object, awaits_vote, closes, denied, dropped, got, has_decided, inquired, is_made_before, needs}
-use Rattle.fab_world.specs.Workers.{not_voted, noting, request_of, resumes_at, stays, takes, takes_any, telling, tid_of, to_all, try_ends, undecided, voted_by, waits_for, wakes, yes_from}
+use Rattle.fab_world.specs.Workers.{Act, Attempt, Kept, request_of, resumes, takes, tid_of, to_all, wakes}
+use Rattle.fab_world.proofs.WorkerActs.{again, heard, resumed, silenced, taken, woken}
 use Rattle.fab_release.specs.Sights.{Sight, Public}
 use Rattle.fab_release.specs.Replay.{Rebuilt}
 use Rattle.fab_isolation.specs.Law.{IsShared}
@@ -78,118 +65,61 @@ module _ (rights : Rights) where
       all_of (λ y. IsTrue (is_node rights y.0)) (map (λ s. (s, m.Prepare t (items_at whole s))) ss) (λ y j.
       let r = in_map (λ (s : ℕ). (s, m.Prepare t (items_at whole s))) y ss j in subst (λ (z : ℕ × Message). IsTrue (is_node rights z.0)) (sym r.2) (store_node r.0 (h r.0 r.1)))
 
-  module _ (k n : ℕ) (kept : Kept) where
-    reach_try : (a : Attempt) → Reaches (try_ends rights k n kept a)
-    reach_try a =
-        cond_both (suc a.tries == 8) (closes rights k n kept Conflict a) (stays (record (dropped a) { tries = suc a.tries }))
-        (λ act. Reaches (noting (undecided rights k n kept a) act)) (λ _. tt) (λ _. tt)
-
-    reach_got : (s : ℕ) (o : Oid) (version : ℕ) (x : Object) (a : Attempt) → Reaches (got rights k n kept s o version x a)
-    reach_got s o version x a =
-        cond_both (suits rights o x && nat_lt 0 version && is_made_before rights k n kept o a)
-        (stays (record a { phase = workers.Evaluating; answers = a.answers ++ (o, version, x) ∷ [] })) (workers.gives rights k n kept (Denied s Ill) a)
-        Reaches (λ _. tt) (λ _. tt)
-
-    reach_denied : (s : ℕ) (reason : Why) (a : Attempt) → Reaches (denied rights k n kept s reason a)
-    reach_denied s why.Missing a = reach_try a
-    reach_denied s why.Rights a = tt
+  module _ (k n : ℕ) (kept : Kept) (a : Attempt) where
+    reach_resumes : (full : Meant) → AllStores rights (stores_of (parts_of a.answers full))
+        → ((site : ℕ) (o : Oid) → full.ending ≡ endings.Missing site o → IsTrue (is_store rights o.store)) → Reaches (resumes rights k n kept a full)
+    reach_resumes full part missing =
+        let whole : Parts = parts_of a.answers full in
+        resumed rights k n kept a full Reaches (record {
+          finds = λ site o row is there. tt;
+          fetches = λ site o is none. (store_node o.store (missing site o is), tt);
+          decides = λ value is none. all_told (stores_of whole) (m.Commit (tid_of n kept a)) part;
+          asks = λ value s ss is at.
+              all_append (λ y. IsTrue (is_node rights y.0)) (map (λ s. (s, m.Prepare (tid_of n kept a) (items_at whole s))) (s ∷ ss)) []
+              (all_asked (tid_of n kept a) whole (s ∷ ss) (subst (AllStores rights) at part)) tt;
+          fails = λ is. tt;
+          stops = λ limit is. tt;
+        })
 
     -- those that take part are stores
-    module _ (a : Attempt) (whole : Parts) (part : AllStores rights (stores_of whole)) where
-      reach_waits : (ls : List ℕ) → Reaches (waits_for rights k n kept ls a whole)
-      reach_waits [] = all_told (stores_of whole) (m.Commit (tid_of n kept a)) part
-      reach_waits (l ∷ ls) = tt
-
-      reach_no : Reaches (workers.sending (workers.aborts rights k n kept a whole) (try_ends rights k n kept a))
-      reach_no =
-          all_append (λ y. IsTrue (is_node rights y.0)) (workers.aborts rights k n kept a whole) (try_ends rights k n kept a).sends
-          (all_told (stores_of whole) (m.Abort (tid_of n kept a)) part) (reach_try a)
-
-      reach_voted : (s : ℕ) (answer : Answer) → Reaches (voted_by rights k n kept s answer a whole)
-      reach_voted s Yes = reach_waits (filter (λ l. not (l == s)) (not_voted a.phase))
-      reach_voted s (Stale o version) = reach_no
-      reach_voted s (Locked t) = reach_no
-      reach_voted s (NoRights o) = reach_no
-      reach_voted s (OldTid t) = reach_no
-      reach_voted s (IllFormed o) = reach_no
-      reach_voted s (Exists o) = reach_no
-
-      reach_inquired : (s : ℕ) (t : Tid) → IsTrue (is_store rights s) → Reaches (inquired rights k n kept s t a whole)
-      reach_inquired s t is =
-          cond_both (has_decided rights k n kept t s) (workers.sending ((s, m.Commit t) ∷ []) (stays a))
-          (cond (awaits_vote rights k n kept s t a whole a.phase) (yes_from rights k n kept s a whole) (workers.sending ((s, m.Abort t) ∷ []) (stays a)))
-          Reaches (λ _. (store_node s is, tt))
-          (λ _. cond_both (awaits_vote rights k n kept s t a whole a.phase) (yes_from rights k n kept s a whole) (workers.sending ((s, m.Abort t) ∷ []) (stays a)) Reaches
-          (λ _. reach_waits (filter (λ l. not (l == s)) (not_voted a.phase))) (λ _. (store_node s is, tt)))
-
-      reach_any : (s : ℕ) → IsTrue (is_store rights s) → (message : Message) → Reaches (takes_any rights k n kept s message a whole)
-      reach_any s is (m.Object t o version x) =
-          cond_both (awaits_object rights k n kept s t o a a.phase) (got rights k n kept s o version x a) (stays a) Reaches (λ _. reach_got s o version x a) (λ _. tt)
-      reach_any s is (m.Deny t o reason) =
-          cond_both (awaits_object rights k n kept s t o a a.phase) (denied rights k n kept s reason a) (stays a) Reaches (λ _. reach_denied s reason a) (λ _. tt)
-      reach_any s is (m.Vote t answer) =
-          cond_both (awaits_vote rights k n kept s t a whole a.phase) (voted_by rights k n kept s answer a whole) (stays a) Reaches (λ _. reach_voted s answer) (λ _. tt)
-      reach_any s is (m.Inquire t) = cond_both (t.worker == n) (inquired rights k n kept s t a whole) (stays a) Reaches (λ _. reach_inquired s t is) (λ _. tt)
-      reach_any s is (m.Fetch t o) = tt
-      reach_any s is (m.Prepare t items) = tt
-      reach_any s is (m.Commit t) = tt
-      reach_any s is (m.Abort t) = tt
-      reach_any s is (m.Boot b) = tt
+    module _ (whole : Parts) (part : AllStores rights (stores_of whole)) where
+      aborted : (act : Act) → act.sends ≡ [] → Reaches (workers.sending (workers.aborts rights k n kept a whole) act)
+      aborted act none =
+          all_append (λ y. IsTrue (is_node rights y.0)) (workers.aborts rights k n kept a whole) act.sends
+          (all_told (stores_of whole) (m.Abort (tid_of n kept a)) part) (subst AreReached (sym none) tt)
 
       reach_takes : (s : ℕ) (message : Message) → Reaches (takes rights k n kept s message a whole)
-      reach_takes s message = cond_both (is_store rights s) (takes_any rights k n kept s message a whole) (stays a) Reaches (λ is. reach_any s is message) (λ _. tt)
+      reach_takes s message = taken rights k n kept s a whole message Reaches (record {
+        rests = λ h. tt;
+        learns = λ x h. tt;
+        denied = λ reason x. tt;
+        tires = λ x h. tt;
+        tries = λ x h. tt;
+        gives_up = λ x h. aborted (workers.gives rights k n kept Conflict a) refl;
+        aborts = λ x h. aborted (again rights k n kept a) refl;
+        decides = λ x h. all_told (stores_of whole) (m.Commit (tid_of n kept a)) part;
+        waits = λ x l ls h. tt;
+        commits = λ x h. (store_node s x.store, tt);
+        forgets = λ x h g. (store_node s x.store, tt);
+      })
 
-      reach_aborts : (phase : Phase) → AreReached (aborts_in rights k n kept phase a whole)
-      reach_aborts (workers.Preparing ls) = all_told (stores_of whole) (m.Abort (tid_of n kept a)) part
-      reach_aborts workers.Idle = tt
-      reach_aborts workers.Evaluating = tt
-      reach_aborts (workers.Fetching o) = tt
-
-      reach_asks : (ss : List ℕ) → AllStores rights ss → Reaches (asks_all rights k n kept ss a whole)
-      reach_asks [] h = all_told (stores_of whole) (m.Commit (tid_of n kept a)) part
-      reach_asks (s ∷ ss) h =
-          all_append (λ y. IsTrue (is_node rights y.0)) (map (λ s. (s, m.Prepare (tid_of n kept a) (items_at whole s))) (s ∷ ss)) [] (all_asked (tid_of n kept a) whole (s ∷ ss) h) tt
-
-    reach_needs : (site : ℕ) (o : Oid) (row : Option Row) (a : Attempt) (full : Meant) → IsTrue (is_store rights o.store) → Reaches (needs rights k n kept site o row a full)
-    reach_needs site o (Some row) a full is = tt
-    reach_needs site o None a full is = (store_node o.store is, tt)
-
-    reach_resumes : (ending : Ending) (a : Attempt) (full : Meant) → AllStores rights (stores_of (parts_of a.answers full))
-        → ((site : ℕ) (o : Oid) → ending ≡ endings.Missing site o → IsTrue (is_store rights o.store)) → Reaches (resumes_at rights k n kept ending a full)
-    reach_resumes (endings.Missing site o) a full part missing = reach_needs site o (cached_row a.caches o) a full (missing site o refl)
-    reach_resumes (endings.Ended value) a full part missing = reach_asks (telling a full) (parts_of a.answers full) part (stores_of (parts_of a.answers full)) part
-    reach_resumes endings.Failed a full part missing = tt
-    reach_resumes (endings.Stopped limit) a full part missing = tt
+      reach_silence : (s : ℕ) → Reaches (workers.gives_up rights k n kept s a whole)
+      reach_silence s = silenced rights k n kept s a whole Reaches tt (λ ls is. aborted (workers.gives rights k n kept (Silent s) a) refl)
 
   -- ---- a store, that answers a node
 
-  abbrev ReachesSo : Said → Type 0
-  ReachesSo said = AreReached said.sends
-
-  module _ (s n : ℕ) (from : IsTrue (is_node rights n)) where
-    reach_found : (t : Tid) (o : Oid) (row : Option Row) → ReachesSo (found n t o row)
-    reach_found t o None = (from, tt)
-    reach_found t o (Some row) = (from, tt)
-
-    reach_does : (message : Message) (x : Shelf) → ReachesSo (does rights s n message x)
-    reach_does (m.Fetch t o) x =
-        cond_both (not (o.store == s) || not (knows rights o.class)) (replies n (m.Deny t o why.Missing))
-        (cond (not (may_fetch rights n o.class)) (replies n (m.Deny t o why.Rights)) (found n t o (row_of name_of x.rows o))) ReachesSo (λ _. (from, tt))
-        (λ _. cond_both (not (may_fetch rights n o.class)) (replies n (m.Deny t o why.Rights)) (found n t o (row_of name_of x.rows o)) ReachesSo (λ _. (from, tt))
-        (λ _. reach_found t o (row_of name_of x.rows o)))
-    reach_does (m.Prepare t items) x =
-        cond_both (not (is_above t (last_of x n))) (votes n t (OldTid (last_of x n)) None)
-        (votes n t (vote rights s n t items x) (Some (voted t items (vote rights s n t items x)))) ReachesSo (λ _. (from, tt)) (λ _. (from, tt))
-    reach_does (m.Commit t) x = cond_both (is_prepared t x) (records (e.Applied t) (note.Applied t ∷ [])) silent ReachesSo (λ _. tt) (λ _. tt)
-    reach_does (m.Abort t) x = cond_both (is_prepared t x) (records (e.Released t) []) silent ReachesSo (λ _. tt) (λ _. tt)
-    reach_does (m.Boot b) x = cond_both (nat_lt (boot_of x n) b) (records (e.BootSeen n b) []) silent ReachesSo (λ _. tt) (λ _. tt)
-    reach_does (m.Object t o version y) x = tt
-    reach_does (m.Deny t o reason) x = tt
-    reach_does (m.Vote t answer) x = tt
-    reach_does (m.Inquire t) x = tt
-
-    reach_says : (message : Message) (x : Shelf) → ReachesSo (stores.says rights s n message x)
-    reach_says message x = cond_both (is_worker rights n && is_own n message) (does rights s n message x) silent ReachesSo (λ _. reach_does message x) (λ _. tt)
+  reach_says : (s n : ℕ) → IsTrue (is_node rights n) → (message : Message) (x : Shelf) → AreReached (stores.says rights s n message x).sends
+  reach_says s n from message x = answered rights s n x (λ said. AreReached said.sends) message (record {
+    rests = λ h. tt;
+    lacks = λ t o h. (from, tt);
+    bars = λ t o h. (from, tt);
+    shows = λ t o row h there. (from, tt);
+    too_late = λ t items h. (from, tt);
+    votes_on = λ t items h above. (from, tt);
+    applies = λ t h there. tt;
+    releases = λ t h there. tt;
+    boots = λ b h later. tt;
+  })
 
 -- ---- an event
 
@@ -227,34 +157,19 @@ module _ (S : Setting) (sight : Sight) (P : Public) (shared : IsShared S sight P
         (all_told S.rights (r.0).stores (m.Commit (r.0).tid) (decided_stores r.0 r.1)) r.2))
         (all_told S.rights (stores_in S.rights) (m.Boot (suc (kept S w n).boot)) (λ l j. (in_filter (is_store S.rights) l (range_with_len 0 64) j).1))
 
-    heard_reached : (a : ℕ) (read : Option Message) → AllReached (hears S w a n read)
-    heard_reached a None = tt
-    heard_reached a (Some message) =
-        cond_both (is_worker S.rights n) (takes S.rights S.cache n (kept S w n) a message (w.node n).attempt (parts S w n))
-        (of_store S (w.node n).attempt (stores.says S.rights n a message (shelf S w n))) AllReached
-        (λ _. reach_takes S.rights S.cache n (kept S w n) (w.node n).attempt (parts S w n) those_that_take_part a message)
-        (λ other. absurd (both_ways (is_worker S.rights n) other me.kind))
-
   worker_reached : (e : Inner) → IsWorker S sight.has never (node_of e) → AllReached (act S w e)
   worker_reached (i.Begin n) me = tt
   worker_reached (i.Resume n) me =
-      reach_resumes S.rights S.cache n (kept S w n) (meant S w n).ending (w.node n).attempt (meant S w n) (those_that_take_part n me) (missing_store n me)
-  worker_reached (i.Deliver a n) me = heard_reached n me a (S.read (front_of (w.queue a n)))
-  worker_reached (i.Idle n s) me =
-      all_append (λ y. IsTrue (is_node S.rights y.0)) (aborts_in S.rights S.cache n (kept S w n) (w.node n).attempt.phase (w.node n).attempt (parts S w n)) []
-      (reach_aborts S.rights S.cache n (kept S w n) (w.node n).attempt (parts S w n) (those_that_take_part n me) (w.node n).attempt.phase) tt
+      reach_resumes S.rights S.cache n (kept S w n) (w.node n).attempt (meant S w n) (those_that_take_part n me) (missing_store n me)
+  worker_reached (i.Deliver a n) me =
+      heard S w AllReached a n tt
+      (λ message worker. reach_takes S.rights S.cache n (kept S w n) (w.node n).attempt (parts S w n) (those_that_take_part n me) a message)
+      (λ message other. absurd (both_ways (is_worker S.rights n) other me.kind)) (S.read (front_of (w.queue a n)))
+  worker_reached (i.Idle n s) me = reach_silence S.rights S.cache n (kept S w n) (w.node n).attempt (parts S w n) (those_that_take_part n me) s
   worker_reached (i.Recover n) me =
-      subst (λ b. AllReached (cond b (wakes S.rights S.cache n (kept S w n)) (of_store S (w.node n).attempt (asks (shelf S w n))))) (sym me.kind) (woken_reached n me)
+      woken S w AllReached n (λ worker. woken_reached n me) (λ other. absurd (both_ways (is_worker S.rights n) other me.kind))
 
   -- of a store
-
-  heard_at : (s a : ℕ) → IsStore S sight.has never s → IsTrue (is_node S.rights a) → (read : Option Message) → AllReached (hears S w a s read)
-  heard_at s a me from None = tt
-  heard_at s a me from (Some message) =
-      cond_both (is_worker S.rights s) (takes S.rights S.cache s (kept S w s) a message (w.node s).attempt (parts S w s))
-      (of_store S (w.node s).attempt (stores.says S.rights s a message (shelf S w s))) AllReached
-      (λ worker. absurd (both_ways (is_store S.rights s) (shared.setting.apart s worker) me.kind))
-      (λ _. reach_says S.rights s a from message (shelf S w s))
 
   asks_reached : (s : ℕ) → IsStore S sight.has never s → AllByRecursion (λ y. IsTrue (is_node S.rights y.0)) (asks (shelf S w s)).sends
   asks_reached s me =
@@ -268,10 +183,11 @@ module _ (S : Setting) (sight : Sight) (P : Public) (shared : IsShared S sight P
   store_reached (i.Begin n) me can = tt
   store_reached (i.Idle n s) me can = absurd (lacks_none s (w.node n).attempt.phase (stands.holds.idle n me) (and_parts _ _ (and_parts _ _ can).0).1)
   store_reached (i.Resume n) me can = absurd (true≢false (sym (and_parts _ _ can).1 ∙ ap is_evaluating (stands.holds.idle n me)))
-  store_reached (i.Deliver a n) me can = heard_at n a me (and_parts _ _ (and_parts _ _ can).0).1 (S.read (front_of (w.queue a n)))
+  store_reached (i.Deliver a n) me can =
+      heard S w AllReached a n tt (λ message worker. absurd (both_ways (is_store S.rights n) (shared.setting.apart n worker) me.kind))
+      (λ message other. reach_says S.rights n a (and_parts _ _ (and_parts _ _ can).0).1 message (shelf S w n)) (S.read (front_of (w.queue a n)))
   store_reached (i.Recover n) me can =
-      cond_both (is_worker S.rights n) (wakes S.rights S.cache n (kept S w n)) (of_store S (w.node n).attempt (asks (shelf S w n))) AllReached
-      (λ worker. absurd (both_ways (is_store S.rights n) (shared.setting.apart n worker) me.kind)) (λ _. asks_reached n me)
+      woken S w AllReached n (λ worker. absurd (both_ways (is_store S.rights n) (shared.setting.apart n worker) me.kind)) (λ other. asks_reached n me)
 
 pub sent_to_nodes : (S : Setting) (sight : Sight) (P : Public) → IsShared S sight P → (w : World) (log : List Logged) (cs : List Commit) (k : Rebuilt)
     → Stands S sight P w log cs k → (e : Inner) → IsTrue (may S w e) → sight.has (node_of e) ≡ false

@@ -9,4 +9,6 @@ mod RefusalExamples
 mod ResumeExamples
 mod SettledExamples
 pub mod Toy
+-- what each event makes of a worker
+pub mod WorkerActs
 mod WorkerExamples
