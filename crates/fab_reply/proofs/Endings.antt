@@ -10,7 +10,7 @@ use Rattle.fab_front.specs.declared.status.Status.TheVariants.{Ok, Usage, ReadFa
 use Rattle.fab_front.specs.declared.texts.Outcome.TheVariants as outcome
 use Rattle.fab_front.specs.Front.{IsFront, IsTooLong}
 use Rattle.fab_front.specs.Lines.{line, what_word}
-use Rattle.fab_reply.specs.Reply.{Answers, one_reply, interrupted, ran, in_run, before, sound, faulty, IsNoRefusal, Interrupted, IsComplete, IsJournalFault, Ran, Replies, usage, said, replayed, barred, unrobust, inferred}
+use Rattle.fab_reply.specs.Reply.{Answers, one_reply, interrupted, ran, in_run, without_text, sound, faulty, IsNoRefusal, Interrupted, IsComplete, IsJournalFault, Ran, Replies, usage, said, replayed, barred, unrobust, inferred}
 use Rattle.fab_reply.specs.Reply.{AreCut, cut_short, untouched, AreLeft, JournalsAre, RepliesInPart, IsReply, IsInput, unasked, read, RepliesWith, Ends, ComesTo, SpeaksOfText}
 use Rattle.fab_front.specs.Refused.{syntax, limit, misnamed as name_refused, unknown, mislabelled}
 use Rattle.fab_answers.specs.Says.{MakesRuns, Says, refused, formatted, checked, evaluated, flow}
@@ -64,11 +64,11 @@ told l l' (read t) r = read_reply l l' t.taken t.whole r
 -- an interrupted run has the status of a journal's fault
 is_fault : {command : Option Command} {text reply : List ℕ} {status : Status} → Interrupted command text status reply → IsJournalFault status
 is_fault (in_run w g h k) = tt
-is_fault (before u w g h k) = tt
+is_fault (without_text u w g h k) = tt
 
 fault_refuses_not : {command : Option Command} {text reply : List ℕ} {status : Status} → Interrupted command text status reply → IsNoRefusal status
 fault_refuses_not (in_run w g h k) = tt
-fault_refuses_not (before u w g h k) = tt
+fault_refuses_not (without_text u w g h k) = tt
 
 -- ---- runs that nodes make by themselves
 
@@ -168,7 +168,7 @@ module _ (command : Option Command) (l l' w w' : Option (List ℕ)) (old new : M
     where
       long_front : {command : Option Command} {text reply : List ℕ} {status : Status} → length text ≡ 4194305 → Interrupted command text status reply → ⊥
       long_front many (in_run v g h k) = let few = short g in omega (arith, many, few)
-      long_front many (before u v g h k) = let few = short g in omega (arith, many, few)
+      long_front many (without_text u v g h k) = let few = short g in omega (arith, many, few)
 
       go : {command : Option Command} {text reply : List ℕ} → IsInput command l l' text → Answers command text status reply → IsAtEnd l'
       go (unasked k) (one_reply r) = absurd (speaks_no_usage s (r.only _ _ usage).0)
@@ -304,7 +304,7 @@ module _ (command : Option Command) (l l' w w' : Option (List ℕ)) (old new : M
   of_run : {asked : Option Command} {text reply : List ℕ} {status : Status} {node : ℕ} → Answers asked text status reply → status ≡ JournalFault node → MakesRuns asked
   of_run (one_reply r) h = absurd (no_journal_fault r.is h)
   of_run (interrupted (in_run {command = c} {wanted = u} {s = z} w g k m)) h = runs_by z c u w
-  of_run (interrupted (before {command = c} u {s = z} w g k m)) h = runs_by z c u w
+  of_run (interrupted (without_text {command = c} u {s = z} w g k m)) h = runs_by z c u w
   of_run (ran (sound g k m)) h = tt
   of_run (ran (faulty g k m)) h = tt
 
