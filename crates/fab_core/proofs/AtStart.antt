@@ -12,7 +12,7 @@ use Rattle.fab_node.specs.Standing.{GivenModel, IsGiven, JournalModel, NodeModel
 use Rattle.fab_queues.specs.Channels.{Network, queue_of, sent_of}
 use Rattle.fab_core.specs.Cores.{IsCore, SlotStands, count_in, is_honest, posts_from, setting, slot}
 use Rattle.fab_core.specs.Telling.{those_in}
-use Rattle.fab_core.specs.Starts.{AreAtStart, AreBack, IsFailedAt, honest_below, journals_faults, nodes_faults}
+use Rattle.fab_core.specs.Starts.{AreAtStart, AreBack, IsFailedAt, IsUnmoved, honest_below, journals_faults, nodes_faults}
 use Rattle.fab_core.proofs.Between.{those_map}
 use Rattle.fab_core.proofs.Taking.{count_last}
 
@@ -212,6 +212,21 @@ failed_room key was now old new left a b cap next alike had have room same =
     let second = ap length have ∙ length_last left b in
     let nodes = ap (λ xs. count_in xs) alike in
     omega (arith, before, behind, first, second, nodes, room, same)
+
+-- where memory ran out
+pub unmoved_room : {C : Type 0} (key : C → ℕ × Bool) (was now : List C) (old new : List (Option NodeModel)) (cap next : ℕ) → IsUnmoved old new (map key was) (map key now)
+    → length was + count_in old ≤ cap → next ≡ cap → length now + count_in new ≤ next
+unmoved_room key was now old new cap next same room alike =
+    let before = length-map was key in
+    let behind = length-map now key in
+    let both = ap length same.journals in
+    let nodes = ap (λ xs. count_in xs) same.nodes in
+    omega (arith, before, behind, both, nodes, room, alike)
+
+pub unmoved_back : {C : Type 0} (key : C → ℕ × Bool) (was now back : List C) (old new : List (Option NodeModel)) (all : List (ℕ × Bool)) → IsUnmoved old new (map key was) (map key now)
+    → nodes_faults old ++ reverse (map key was) ≡ all → map key back ≡ nodes_faults new ++ reverse (map key now) → map key back ≡ all
+unmoved_back key was now back old new all same taken handed =
+    handed ∙ ap (λ ns. nodes_faults ns ++ reverse (map key now)) same.nodes ∙ ap (λ ks. nodes_faults old ++ reverse ks) same.journals ∙ taken
 
 -- any place of zeros holds 0, and so does one behind them
 pub zeros_at : (h n : ℕ) → ◌≡◌ {A = ℕ} (slice_index_or (replicate {A = ℕ} n 0) h 0) 0

@@ -1,8 +1,8 @@
 -- The honest nodes in order, and one of them among the others.
-use Rattle.std.specs.Prelude.{◌≡◌, ℕ, zero, suc, ◌+◌, ◌<◌, Bool, true, false, cond, IsTrue, List, [], ◌∷◌, ◌++◌, length, map}
+use Rattle.std.specs.Prelude.{◌≡◌, ℕ, zero, suc, ◌+◌, ◌<◌, ◌≤◌, Bool, true, false, cond, IsTrue, List, [], ◌∷◌, ◌++◌, length, map}
 use Rattle.std.specs.List.{AllByRecursion}
 use Rattle.std.proofs.Common.{refl, sym, ap, ◌∙◌, arith, inl, inr, append_assoc}
-use Rattle.std.proofs.lemmas.List.{length-append}
+use Rattle.std.proofs.lemmas.List.{append-nil, length-append}
 use Rattle.std.proofs.lemmas.Bool.{cases_eq}
 use Rattle.fab_protocol.proofs.Lists.{all_append}
 use Rattle.fab_node.specs.Standing.{GivenModel}
@@ -71,6 +71,26 @@ place_of g node (suc m) honest below = elim (cases_eq node m) [
     one : node < m → (b : Bool) → AllByRecursion (λ k. node < k) (cond b (m ∷ []) [])
     one h true = (h, tt)
     one h false = tt
+
+-- those below one number stand in front of those below another
+pub record IsFront (g : GivenModel) (n m : ℕ) : Type 0 where
+  pub rest : List ℕ
+  pub parts : honest_up g m ≡ honest_up g n ++ rest
+
+pub front_up : (g : GivenModel) (n m : ℕ) → n ≤ m → IsFront g n m
+unfolding honest_up
+front_up g n zero below = record { rest = []; parts = ap (honest_up g) (let e : 0 ≡ n = omega (arith, below) in e) ∙ sym (append-nil (honest_up g n)) }
+front_up g n (suc m) below = elim (cases_eq n (suc m)) [
+  | inl same ↦ record { rest = []; parts = ap (honest_up g) (sym same) ∙ sym (append-nil (honest_up g n)) }
+  | inr apart ↦
+      let before = front_up g n m (omega (arith, below, apart)) in
+      record {
+        rest = before.rest ++ cond (is_honest g m) (m ∷ []) [];
+        parts =
+            ap (λ ns. ns ++ cond (is_honest g m) (m ∷ []) []) before.parts
+            ∙ append_assoc (honest_up g n) before.rest (cond (is_honest g m) (m ∷ []) []);
+      }
+]
 
 -- ---- one for each node
 

@@ -9,10 +9,10 @@ use Rattle.fab_world.specs.Machine.{at_start}
 use Rattle.fab_node.specs.Standing.{GivenModel, JournalModel, NodeModel}
 use Rattle.fab_core.specs.Cores.{SlotStands, is_honest, setting}
 use Rattle.fab_core.specs.Honest.{AreFor, honest_up}
-use Rattle.fab_core.specs.Starts.{AreBack, EndsInFront, HoldsFront, HoldsHeader, HoldsNothing, IsLeft, honest_below}
+use Rattle.fab_core.specs.Starts.{AreBack, Empty, EndsInFront, Headed, HoldsFront, HoldsHeader, HoldsNothing, IsFresh, IsLeft, honest_below}
 use Rattle.fab_core.specs.Telling.{those_in}
 use Rattle.fab_core.proofs.AtStart.{those_both}
-use Rattle.fab_core.proofs.Honest.{IsPlace, for_both, for_long, for_seen, honest_long, place_of}
+use Rattle.fab_core.proofs.Honest.{IsFront, IsPlace, for_both, for_long, for_seen, front_up, honest_long, place_of}
 
 -- the journals of nodes that were made
 abbrev pub journals_in : List (Option NodeModel) → List JournalModel
@@ -60,7 +60,7 @@ before_it failed (n ∷ ns) [] below h = absurd h
 
 -- ---- those behind it
 
-all_turned : {A : Type 0} (P : A → Type 0) (xs : List A) → AllByRecursion P xs → AllByRecursion P (reverse xs)
+pub all_turned : {A : Type 0} (P : A → Type 0) (xs : List A) → AllByRecursion P xs → AllByRecursion P (reverse xs)
 all_turned P [] h = tt
 all_turned P (x ∷ xs) h =
     subst (AllByRecursion P) (sym (reverse-append (x ∷ []) xs)) (all_append P (reverse xs) (x ∷ []) (all_turned P xs h.1) (h.0, tt))
@@ -76,6 +76,21 @@ behind_it failed (n ∷ ns) (j ∷ js) long above h =
 behind_it failed [] (j ∷ js) long above h = absurd (omega (arith, long))
 behind_it failed (n ∷ ns) [] long above h = absurd (omega (arith, long))
 
+-- ---- where memory ran out
+
+fresh_front : (ns : List ℕ) (js : List JournalModel) → AreFor IsHeaded ns js → AreFor (λ n j. IsFresh n j.content j.synced) ns js
+fresh_front [] [] h = tt
+fresh_front (n ∷ ns) (j ∷ js) h = (Headed h.0, fresh_front ns js h.1)
+fresh_front [] (j ∷ js) h = absurd h
+fresh_front (n ∷ ns) [] h = absurd h
+
+fresh_rest : (ns : List ℕ) (js : List JournalModel) → length ns ≡ length js → AllByRecursion (λ j. HoldsNothing j.content j.synced) js
+    → AreFor (λ n j. IsFresh n j.content j.synced) ns js
+fresh_rest [] [] long h = tt
+fresh_rest (n ∷ ns) (j ∷ js) long h = (Empty h.0, fresh_rest ns js (omega (arith, long)) h.1)
+fresh_rest [] (j ∷ js) long h = absurd (omega (arith, long))
+fresh_rest (n ∷ ns) [] long h = absurd (omega (arith, long))
+
 -- ---- all of them
 
 module _ {J : Type 0} (seen : J → JournalModel) (within : (j : J) → (seen j).synced ≤ length (seen j).content) where
@@ -85,6 +100,33 @@ module _ {J : Type 0} (seen : J → JournalModel) (within : (j : J) → (seen j)
       let few = within j in
       let none = ap length h.0 in
       (record { content_is = h.0; synced_is = omega (arith, few, none) }, nothing_in js h.1)
+
+  -- each is handed back, with its header or without
+  pub fresh_back : (g : GivenModel) (n : ℕ) (made : List JournalModel) (rest back : List J) → n ≤ 64 → AreFor IsHeaded (honest_up g n) made
+      → AllByRecursion (λ j. (seen j).content ≡ []) rest → map seen back ≡ made ++ reverse (map seen rest) → length back ≡ honest_below g 64
+      → AreFor (λ m j. IsFresh m (seen j).content (seen j).synced) (honest_up g 64) back
+  fresh_back g n made rest back few headed empty handed many =
+      let front : IsFront g n 64 = front_up g n 64 few in
+      let long : length front.rest ≡ length (reverse (map seen rest)) =
+      (let all = ap length front.parts ∙ length-append (honest_up g n) front.rest in
+      let honest = honest_long g 64 in
+      let first = for_long IsHeaded (honest_up g n) made headed in
+      let those = sym (length-map back seen) ∙ ap length handed ∙ length-append made (reverse (map seen rest)) in
+      omega (arith, all, honest, first, those, many)) in
+      for_seen (λ m (j : JournalModel). IsFresh m j.content j.synced) seen (honest_up g 64) back
+      (subst (λ ns. AreFor (λ m (j : JournalModel). IsFresh m j.content j.synced) ns (map seen back)) (sym front.parts)
+      (subst (AreFor (λ m (j : JournalModel). IsFresh m j.content j.synced) (honest_up g n ++ front.rest)) (sym handed)
+      (for_both (λ m (j : JournalModel). IsFresh m j.content j.synced) (honest_up g n) front.rest made (reverse (map seen rest))
+      (fresh_front (honest_up g n) made headed)
+      (fresh_rest front.rest (reverse (map seen rest)) long
+      (all_turned (λ j. HoldsNothing j.content j.synced) (map seen rest) (nothing_in rest empty))))))
+
+  -- and so where nothing was written
+  pub fresh_all : (ns : List ℕ) (js : List J) → length ns ≡ length js → AllByRecursion (λ j. (seen j).content ≡ []) js
+      → AreFor (λ m j. IsFresh m (seen j).content (seen j).synced) ns js
+  fresh_all ns js long empty =
+      for_seen (λ m (j : JournalModel). IsFresh m j.content j.synced) seen ns js
+      (fresh_rest ns (map seen js) (long ∙ sym (length-map js seen)) (nothing_in js empty))
 
   -- a journal behind others, before it was written and after
   pub ends_in : (n : ℕ) (old mid new : List J) (was now : J) → old ≡ mid ++ was ∷ [] → new ≡ mid ++ now ∷ [] → AllByRecursion (λ j. (seen j).content ≡ []) old

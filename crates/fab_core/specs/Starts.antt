@@ -65,6 +65,11 @@ pub record IsLeft (failed n : ℕ) (content : List ℕ) (synced : ℕ) : Type 0 
   pub here : n ≡ failed → HoldsFront n content synced
   pub behind : failed < n → HoldsNothing content synced
 
+-- its header, or nothing yet
+pub data IsFresh (n : ℕ) (content : List ℕ) (synced : ℕ) : Type 0 where
+  Headed : HoldsHeader n content synced → IsFresh n content synced
+  Empty : HoldsNothing content synced → IsFresh n content synced
+
 -- the last of these holds a front of the header, and the others nothing
 pub record EndsInFront {J : Type 0} (content : J → List ℕ) (synced : J → ℕ) (n : ℕ) (all : List J) : Type 0 where
   pub others : List J
@@ -81,6 +86,15 @@ pub record IsNext (g : GivenModel) (n : ℕ) (old new : List (Option NodeModel))
   pub nodes : new ≡ old ++ slot ∷ []
   pub stands : SlotStands g (at_start (setting g)) n slot
   pub journals : had ≡ have ++ nodes_faults (slot ∷ [])
+
+-- of journals that are back, the counts of faults are as before
+abbrev pub AreUnchanged : List (ℕ × Bool) → List (ℕ × Bool) → Type 0
+AreUnchanged old new = new ≡ old
+
+-- Memory ran out: the nodes are as they were, and of the journals none is gone, and the counts are as before.
+pub record IsUnmoved (old new : List (Option NodeModel)) (had have : List (ℕ × Bool)) : Type 0 where
+  pub nodes : new ≡ old
+  pub journals : have ≡ had
 
 -- The count of its journal, the last one, has risen.
 pub record IsFailedAt (g : GivenModel) (n : ℕ) (old new : List (Option NodeModel)) (had have : List (ℕ × Bool)) : Type 0 where

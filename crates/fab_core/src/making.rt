@@ -9,10 +9,10 @@ ghost use Rattle.fab_settings.specs.Settings.{IsAcceptedWith, is_hostile_node};
 ghost use Rattle.fab_core.specs.Cores.{HasPlaces, count_in, is_honest as is_honest_in};
 ghost use Rattle.fab_base.specs.JournalSpelling.{header_bytes as header_of};
 ghost use Rattle.fab_device.specs.Devices.{JournalCause, KeepsSure};
-ghost use Rattle.fab_device.specs.declared.traits.JournalError.TheVariants.{Failed as JournalFault};
-ghost use Rattle.fab_core.specs.declared.refused.CoreRefused.TheVariants.{Journal as JournalFailed};
+ghost use Rattle.fab_device.specs.declared.traits.JournalError.TheVariants.{Failed as JournalFault, Memory as Wanting};
+ghost use Rattle.fab_core.specs.declared.refused.CoreRefused.TheVariants.{Journal as JournalFailed, Memory as WantsMemory};
 ghost use Rattle.fab_core.specs.Honest.{AreFor, honest_in};
-ghost use Rattle.fab_core.specs.Starts.{AreAtStart, AreBack, EndsInFront, HoldsFront, IsFailedAt, IsLeft, IsNext, given_by, honest_below, journals_faults, nodes_faults};
+ghost use Rattle.fab_core.specs.Starts.{AreAtStart, AreBack, AreUnchanged, EndsInFront, HoldsFront, IsFailedAt, IsFresh, IsLeft, IsNext, IsUnmoved, given_by, honest_below, journals_faults, nodes_faults};
 ghost use Rattle.fab_core.specs.Telling.{those_in};
 
 use crate::core_state::Core;
@@ -61,6 +61,7 @@ fn start_journal<J: Journal>(
     ensures content { OnOk result (J.content journal.new ≡ header_of 1 number) }
     ensures synced { OnOk result (J.synced journal.new ≡ length (J.content journal.new)) }
     ensures failed { IsErrOf result JournalFault → HoldsFront number (J.content journal.new) (J.synced journal.new) }
+    ensures memory { IsErrOf result Wanting → J.content journal.new ≡ [] }
     ensures cause { JournalCause (J.faults journal.old) (J.faults journal.new) result }
     ensures sure { KeepsSure (J.sure journal.old) (J.sure journal.new) (IsErrOf result JournalFault) }
 {
@@ -86,6 +87,9 @@ fn honest_node<J: Journal + Drop>(
         → IsFailedAt given.now number nodes.old.items nodes.new.items (map (λ j. (J.faults j, J.sure j)) rest.old.items)
         (map (λ j. (J.faults j, J.sure j)) rest.new.items) }
     ensures left { IsErrOf result JournalFault → EndsInFront J.content J.synced number rest.new.items }
+    ensures memory { IsErrOf result Wanting → IsUnmoved nodes.old.items nodes.new.items
+        (map (λ j. (J.faults j, J.sure j)) rest.old.items) (map (λ j. (J.faults j, J.sure j)) rest.new.items) }
+    ensures empty { IsErrOf result Wanting → AllByRecursion (λ j. J.content j ≡ []) rest.new.items }
 {
     nodes.reserve(1)?;
     let role = role_at_start(alloc, given, number)?;
@@ -122,6 +126,9 @@ fn next_node<J: Journal + Drop>(
         → IsFailedAt given.now number nodes.old.items nodes.new.items (map (λ j. (J.faults j, J.sure j)) rest.old.items)
         (map (λ j. (J.faults j, J.sure j)) rest.new.items) }
     ensures left { IsErrOf result JournalFault → EndsInFront J.content J.synced number rest.new.items }
+    ensures memory { IsErrOf result Wanting → IsUnmoved nodes.old.items nodes.new.items
+        (map (λ j. (J.faults j, J.sure j)) rest.old.items) (map (λ j. (J.faults j, J.sure j)) rest.new.items) }
+    ensures empty { IsErrOf result Wanting → AllByRecursion (λ j. J.content j ≡ []) rest.new.items }
 {
     if is_honest(given, number) {
         honest_node(alloc, given, number, nodes, rest)
@@ -166,13 +173,19 @@ fn make_nodes<J: Journal + Drop>(
         → AreBack given.now node (reverse (map (λ j. (J.faults j, J.sure j)) journals.items)) (map (λ j. (J.faults j, J.sure j)) back) }
     ensures left { (node : ℕ) (back : _) → result ≡ Err (JournalFailed node back)
         → AreFor (λ n j. IsLeft node n (J.content j) (J.synced j)) (honest_in given.now) back }
+    ensures fresh { (back : _) → result ≡ Err (WantsMemory back) → AreFor (λ n j. IsFresh n (J.content j) (J.synced j)) (honest_in given.now) back }
+    ensures unfailed { (back : _) → result ≡ Err (WantsMemory back) → AreUnchanged (reverse (map (λ j. (J.faults j, J.sure j)) journals.items)) (map (λ j. (J.faults j, J.sure j)) back) }
 {
     let mut rest = journals;
     let mut nodes = Vec::new(alloc);
     'numbers: for number in 0..64_u16 {
         match next_node(alloc, given, number, &mut nodes, &mut rest) {
             Ok(()) => {}
-            Err(JournalError::Memory) => return Err(CoreRefused::Memory),
+            Err(JournalError::Memory) => {
+                return Err(CoreRefused::Memory {
+                    journals: Seq::from_vec(hand_back(nodes, rest)),
+                });
+            }
             Err(JournalError::Failed) => {
                 return Err(CoreRefused::Journal {
                     node: number,
@@ -215,7 +228,8 @@ fn parts_at_start(
 
 impl<J: Journal + Drop> Core<J> {
     /// All nodes of an accepted bundle at the start of a run, with its rights, and an empty journal for each
-    /// honest one, in the order of their numbers, into which its header is written.
+    /// honest one, in the order of their numbers, into which its header is written. Where there is none, each
+    /// journal is handed back.
     pub fn make(
         alloc: Global,
         program: Arc<Resolved>,
@@ -234,9 +248,12 @@ impl<J: Journal + Drop> Core<J> {
         // Those before it hold their headers, synced; it holds a front of its own; and those behind it hold nothing.
         ensures left { (node : ℕ) (back : _) → result ≡ Err (JournalFailed node back)
             → AreFor (λ n j. IsLeft node n (J.content j) (J.synced j)) (honest_in (given_by program.value rights)) back }
+        // Where memory ran out, none has failed, and each holds its header or nothing.
+        ensures fresh { (back : _) → result ≡ Err (WantsMemory back) → AreFor (λ n j. IsFresh n (J.content j) (J.synced j)) (honest_in (given_by program.value rights)) back }
+        ensures unfailed { (back : _) → result ≡ Err (WantsMemory back) → AreUnchanged (map (λ j. (J.faults j, J.sure j)) journals) (map (λ j. (J.faults j, J.sure j)) back) }
     {
         let Ok((given, queues, places)) = parts_at_start(alloc, program, rights) else {
-            return Err(CoreRefused::Memory);
+            return Err(CoreRefused::Memory { journals });
         };
         let mut turned = journals.into_vec();
         turned.reverse();

@@ -6,7 +6,7 @@ use Rattle.fab_base.specs.Faults.{Calls}
 use Rattle.fab_device.specs.Devices.{FailsNext, StaysStopped}
 use Rattle.fab_device.specs.Kept.{with_name}
 use Rattle.fab_device.specs.declared.traits.JournalError.{JournalError}
-use Rattle.fab_device.specs.declared.traits.JournalError.TheVariants.{Failed, Memory}
+use Rattle.fab_device.specs.declared.traits.JournalError.TheVariants.{Failed}
 
 abbrev worked : Result ℕ JournalError
 worked = Ok 0

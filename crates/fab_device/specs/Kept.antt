@@ -1,5 +1,5 @@
 -- What those who make journals tell.
-use Rattle.std.specs.Prelude.{◌++◌, ◌∷◌, [], ℕ, List, Option, Some, None, map, filter, find, reverse, Contains}
+use Rattle.std.specs.Prelude.{◌+◌, ◌-◌, ◌^◌, ◌++◌, ◌∷◌, [], ℕ, List, Option, Some, None, map, min, filter, find, reverse, Contains}
 use Rattle.std.specs.Option.{option_map}
 use Rattle.std.specs.Str.{bytes_eq}
 use Rattle.fab_device.specs.Devices.{Held, HeldWithCalls, synced_of}
@@ -12,12 +12,18 @@ pub record Entry : Type 0 where
   pub faults : ℕ
 
 -- What contracts see of who makes journals and takes them back: the nodes whose journals may ever fail, the nodes for which it made one and the
--- journals that it was given to keep, each in order, where it tells them; and how often it has failed, a count that stays at its last value, 2^64 - 1.
+-- journals that it was given to keep, each in order, where it tells them; how often it has failed; and how many journals it lost, since it wanted
+-- memory to keep them. Both counts stay at their last value, 2^64 - 1.
 pub record Makers : Type 0 where
   pub may_fail : Option (List (List ℕ))
   pub made : Option (List (List ℕ))
   pub kept : Option (List Entry)
   pub faults : ℕ
+  pub lost : ℕ
+
+-- a count that stays at its last value
+abbrev pub one_more : ℕ → ℕ
+one_more n = min (n + 1) (2 ^ 64 - 1)
 
 -- It is told which nodes' journals may ever fail, and this node isn't one of them.
 abbrev pub CannotFail : Option (List (List ℕ)) → List ℕ → Type 0
@@ -47,13 +53,15 @@ sure_entry pair = record { node = pair.0; content = pair.1.content; synced = syn
 abbrev pub mem_entry : List ℕ × HeldWithCalls → Entry
 mem_entry pair = record (sure_entry (pair.0, pair.1.held)) { faults = pair.1.calls.faults }
 
--- The nodes for which journals were made, and the journals that were kept.
+-- The nodes for which journals were made, the journals that were kept, and how many were lost.
 pub record SureKeeper : Type 0 where
   pub made : List (List ℕ)
   pub kept : List (List ℕ × Held)
+  pub lost : ℕ
 
 -- The same, and which calls of which nodes' journals fail.
 pub record MemKeeper : Type 0 where
   pub fails : List (List ℕ × ℕ)
   pub made : List (List ℕ)
   pub kept : List (List ℕ × HeldWithCalls)
+  pub lost : ℕ

@@ -131,7 +131,7 @@ fn file_holds<F: Read + Seek>(file: &mut F, bytes: &[u8]) -> io::Result<bool> {
 }
 
 /// Makes journals over files `journals/NAME.journal`. It doesn't tell which may fail, which it made, nor what it
-/// was given to keep, which it drops.
+/// was given to keep, which it drops. Its `keep` takes no memory, so none is lost.
 #[derive(Drop)]
 pub struct FileJournals<'r, R: Files> {
     rt: &'r R,
@@ -163,7 +163,7 @@ where
 
     type Item = FileJournal<R::File>;
 
-    ghost seen = { λ s. record { may_fail = None; made = None; kept = None; faults = s.faults } };
+    ghost seen = { λ s. record { may_fail = None; made = None; kept = None; faults = s.faults; lost = 0 } };
 
     /// Makes the folder where it isn't there, and makes the file or empties it.
     fn make(&mut self, node: &str) -> Result<FileJournal<R::File>, JournalError> {

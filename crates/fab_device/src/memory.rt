@@ -3,9 +3,9 @@ ghost use Rattle.std.specs.Prelude.{◌≡◌, ◌+◌, ◌≤◌, ◌++◌, ◌
 ghost use Rattle.fab_base.specs.Faults.{opening_calls, HasCause};
 ghost use Rattle.fab_device.specs.Devices.{AppendAdds, IsFrontFrom, JournalCause, KeepsSure, StaysStopped, CountsCall, synced_of, never_fails};
 ghost use Rattle.std.specs.Option.{option_copied};
-ghost use Rattle.fab_device.specs.Kept.{CannotFail, mem_entry, all_under, last_under};
+ghost use Rattle.fab_device.specs.Kept.{CannotFail, mem_entry, all_under, last_under, one_more};
 
-use crate::shelf::{last_of, numbers_under};
+use crate::shelf::{last_of, numbers_under, put_under};
 use crate::stopping::StoppingCalls;
 use crate::sure::SureJournal;
 use crate::traits::{Journal, JournalError, Journals};
@@ -167,6 +167,7 @@ pub struct MemJournals {
     fails: Seq<(Text, u32)>,
     made: Vec<Text>,
     kept: Vec<(Text, MemJournal)>,
+    lost: u64,
 }
 
 impl Model for MemJournals {
@@ -174,20 +175,28 @@ impl Model for MemJournals {
 
     ghost Value = { MemKeeper };
 
-    ghost view = { λ s. record { fails = s.fails; made = s.made.items; kept = s.kept.items } };
+    ghost view = { λ s. record { fails = s.fails; made = s.made.items; kept = s.kept.items; lost = s.lost } };
 }
 
 impl MemJournals {
     /// None is made yet; of each node's journal the first call that is listed with its name fails, and all behind it.
     pub fn with_fails(alloc: Global, fails: Seq<(Text, u32)>) -> Result<MemJournals, NoMemory>
-        ensures { IfOk result (λ s. s ≡ record { fails = fails; made = []; kept = [] }) }
+        ensures { IfOk result (λ s. s ≡ record { fails = fails; made = []; kept = []; lost = 0 }) }
     {
         Ok(MemJournals {
             alloc,
             fails,
             made: Vec::new(alloc),
             kept: Vec::new(alloc),
+            lost: 0,
         })
+    }
+
+    /// How many it lost for want of memory.
+    pub fn lost(&self) -> u64
+        ensures { result ≡ self.now.lost }
+    {
+        self.lost
     }
 
     /// The last journal that was kept under this name.
@@ -203,7 +212,7 @@ impl Journals for MemJournals {
 
     type Item = MemJournal;
 
-    ghost seen = { λ s. record { may_fail = Some (map (λ pair. pair.0) s.fails); made = Some s.made; kept = Some (map mem_entry s.kept); faults = 0 } };
+    ghost seen = { λ s. record { may_fail = Some (map (λ pair. pair.0) s.fails); made = Some s.made; kept = Some (map mem_entry s.kept); faults = 0; lost = s.lost } };
 
     fn make(&mut self, node: &str) -> Result<MemJournal, JournalError>
         ensures content { IfOk result (λ journal. journal.held.content ≡ []) }
@@ -216,6 +225,7 @@ impl Journals for MemJournals {
         ensures made { OnOk result (self.new.made ≡ self.old.made ++ node.now ∷ []) }
         ensures unmade { OnErr result (self.new.made ≡ self.old.made) }
         ensures kept { self.new.kept ≡ self.old.kept }
+        ensures lost { self.new.lost ≡ self.old.lost }
         ensures fails { self.new.fails ≡ self.old.fails }
 
         // Of this node's journal the calls that are listed with its name fail.
@@ -231,11 +241,11 @@ impl Journals for MemJournals {
     fn keep(&mut self, node: &str, journal: MemJournal) -> Result<(), NoMemory>
         ensures kept { OnOk result (self.new.kept ≡ self.old.kept ++ (node.now, journal) ∷ []) }
         ensures err { OnErr result (self.new.kept ≡ self.old.kept) }
+        ensures lost { OnErr result (self.new.lost ≡ one_more self.old.lost) }
+        ensures same { OnOk result (self.new.lost ≡ self.old.lost) }
         ensures made { self.new.made ≡ self.old.made }
         ensures fails { self.new.fails ≡ self.old.fails }
     {
-        let name = Text::make(self.alloc, node)?;
-        self.kept.push((name, journal))?;
-        Ok(())
+        put_under(self.alloc, &mut self.kept, &mut self.lost, node, journal)
     }
 }

@@ -1,9 +1,9 @@
 //! A journal in memory that never fails.
 ghost use Rattle.std.specs.Prelude.{◌≡◌, ◌++◌, ◌∷◌, [], IfOk, OnOk, OnErr, IsErrOf};
 ghost use Rattle.std.specs.Option.{option_copied};
-ghost use Rattle.fab_device.specs.Kept.{last_under};
+ghost use Rattle.fab_device.specs.Kept.{last_under, one_more};
 
-use crate::shelf::last_of;
+use crate::shelf::{last_of, put_under};
 use crate::traits::{Journal, JournalError, Journals};
 use fab_base::{Failed, NoMemory, Seq, Text};
 use std::alloc::Global;
@@ -105,6 +105,7 @@ pub struct SureJournals {
     alloc: Global,
     made: Vec<Text>,
     kept: Vec<(Text, SureJournal)>,
+    lost: u64,
 }
 
 impl Model for SureJournals {
@@ -112,19 +113,27 @@ impl Model for SureJournals {
 
     ghost Value = { SureKeeper };
 
-    ghost view = { λ s. record { made = s.made.items; kept = s.kept.items } };
+    ghost view = { λ s. record { made = s.made.items; kept = s.kept.items; lost = s.lost } };
 }
 
 impl SureJournals {
     /// None is made yet.
     pub fn new(alloc: Global) -> Result<SureJournals, NoMemory>
-        ensures { IfOk result (λ s. s ≡ record { made = []; kept = [] }) }
+        ensures { IfOk result (λ s. s ≡ record { made = []; kept = []; lost = 0 }) }
     {
         Ok(SureJournals {
             alloc,
             made: Vec::new(alloc),
             kept: Vec::new(alloc),
+            lost: 0,
         })
+    }
+
+    /// How many it lost for want of memory.
+    pub fn lost(&self) -> u64
+        ensures { result ≡ self.now.lost }
+    {
+        self.lost
     }
 
     /// The last journal that was kept under this name.
@@ -141,7 +150,7 @@ impl Journals for SureJournals {
 
     type Item = SureJournal;
 
-    ghost seen = { λ s. record { may_fail = Some []; made = Some s.made; kept = Some (map sure_entry s.kept); faults = 0 } };
+    ghost seen = { λ s. record { may_fail = Some []; made = Some s.made; kept = Some (map sure_entry s.kept); faults = 0; lost = s.lost } };
 
     fn make(&mut self, node: &str) -> Result<SureJournal, JournalError>
         ensures content { IfOk result (λ journal. journal.content ≡ []) }
@@ -150,6 +159,7 @@ impl Journals for SureJournals {
         ensures made { OnOk result (self.new.made ≡ self.old.made ++ node.now ∷ []) }
         ensures unmade { OnErr result (self.new.made ≡ self.old.made) }
         ensures kept { self.new.kept ≡ self.old.kept }
+        ensures lost { self.new.lost ≡ self.old.lost }
     {
         let journal = SureJournal::new(self.alloc)?;
         let name = Text::make(self.alloc, node)?;
@@ -160,10 +170,10 @@ impl Journals for SureJournals {
     fn keep(&mut self, node: &str, journal: SureJournal) -> Result<(), NoMemory>
         ensures kept { OnOk result (self.new.kept ≡ self.old.kept ++ (node.now, journal) ∷ []) }
         ensures err { OnErr result (self.new.kept ≡ self.old.kept) }
+        ensures lost { OnErr result (self.new.lost ≡ one_more self.old.lost) }
+        ensures same { OnOk result (self.new.lost ≡ self.old.lost) }
         ensures made { self.new.made ≡ self.old.made }
     {
-        let name = Text::make(self.alloc, node)?;
-        self.kept.push((name, journal))?;
-        Ok(())
+        put_under(self.alloc, &mut self.kept, &mut self.lost, node, journal)
     }
 }

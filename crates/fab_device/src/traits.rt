@@ -1,7 +1,7 @@
 ghost use Rattle.std.specs.Prelude.{◌≡◌, ◌+◌, ◌≤◌, ℕ, Bool, IsTrue, List, [], length, take, IsOk, IfOk, OnOk, OnErr, IsErr, IsErrOf};
 ghost use Rattle.fab_base.specs.Faults.{HasCause};
 ghost use Rattle.fab_device.specs.Devices.{AppendAdds, IsFrontFrom, JournalCause, KeepsSure, StaysStopped};
-ghost use Rattle.fab_device.specs.Kept.{CannotFail, Makers, with_entry, with_name};
+ghost use Rattle.fab_device.specs.Kept.{CannotFail, Makers, one_more, with_entry, with_name};
 ghost use Rattle.fab_device.specs.declared.traits.JournalError.TheVariants.{Memory};
 
 use fab_base::{Failed, NoMemory, Seq};
@@ -131,13 +131,16 @@ pub trait Journals {
         ensures told { (seen self.new).may_fail ≡ (seen self.old).may_fail }
         ensures made { OnOk result ((seen self.new).made ≡ with_name (seen self.old).made node.now) }
         ensures unmade { OnErr result ((seen self.new).made ≡ (seen self.old).made) }
-        ensures kept { (seen self.new).kept ≡ (seen self.old).kept };
+        ensures kept { (seen self.new).kept ≡ (seen self.old).kept }
+        ensures lost { (seen self.new).lost ≡ (seen self.old).lost };
 
-    /// Takes a node's journal back.
+    /// Takes a node's journal back. One that it wants memory to keep is lost, and counted.
     fn keep(&mut self, node: &str, journal: Self::Item) -> Result<(), NoMemory>
         ensures kept { OnOk result ((seen self.new).kept ≡ with_entry (seen self.old).kept
             (record { node = node.now; content = Self.Item.content journal; synced = Self.Item.synced journal; faults = Self.Item.faults journal })) }
         ensures err { OnErr result ((seen self.new).kept ≡ (seen self.old).kept) }
+        ensures lost { OnErr result ((seen self.new).lost ≡ one_more (seen self.old).lost) }
+        ensures same { OnOk result ((seen self.new).lost ≡ (seen self.old).lost) }
         ensures faults { (seen self.new).faults ≡ (seen self.old).faults }
         ensures told { (seen self.new).may_fail ≡ (seen self.old).may_fail }
         ensures made { (seen self.new).made ≡ (seen self.old).made };

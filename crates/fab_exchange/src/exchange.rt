@@ -1,5 +1,5 @@
 //! All nodes of a bundle, with what is counted of their events.
-ghost use Rattle.std.specs.Prelude.{◌≡◌, [], ℕ, IfOk};
+ghost use Rattle.std.specs.Prelude.{◌≡◌, [], ℕ, IfOk, IfErr};
 ghost use Rattle.fab_core.specs.Cores.{setting, slot};
 ghost use Rattle.fab_core.specs.Moved.{faults_in};
 ghost use Rattle.fab_rights.specs.Computed.{is_node, nodes_in};
@@ -69,14 +69,19 @@ impl<J: Journal> Model for Exchange<J> {
 }
 
 impl<J: Journal + Drop> Exchange<J> {
-    /// All nodes before any event, where no journal has failed.
-    pub fn make(alloc: Global, core: Core<J>) -> Result<Exchange<J>, NoMemory>
+    /// All nodes before any event, where no journal has failed; without memory they are handed back.
+    pub fn make(alloc: Global, core: Core<J>) -> Result<Exchange<J>, Core<J>>
         requires start { core.moves ≡ [] }
         requires unfailed { (n : ℕ) → faults_in (slot core.journals n) ≡ 0 }
-        ensures { IfOk result (λ x. x ≡ core) }
+        ensures made { IfOk result (λ x. x ≡ core) }
+        ensures back { IfErr result (λ back. back ≡ core) }
     {
-        let nodes = nodes_of(alloc, core.rights())?;
-        let counts = counts_at_start(alloc)?;
+        let Ok(nodes) = nodes_of(alloc, core.rights()) else {
+            return Err(core);
+        };
+        let Ok(counts) = counts_at_start(alloc) else {
+            return Err(core);
+        };
         Ok(Exchange {
             core,
             nodes,

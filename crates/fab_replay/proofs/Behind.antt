@@ -1,5 +1,5 @@
 -- What became of the journals in some steps of a replay.
-use Rattle.std.specs.Prelude.{◌≡◌, ℕ, ◌==◌, Bool, true, false, List, Option, Some, None, Result, Ok, Err, IfOk}
+use Rattle.std.specs.Prelude.{◌≡◌, ℕ, ◌==◌, Bool, true, false, List, Option, Some, None, Result, Ok, Err, IfOk, OnErr}
 use Rattle.std.proofs.Common.{refl, sym, ◌∙◌, subst, inl, inr, true≢false}
 use Rattle.std.proofs.lemmas.Bool.{cases_eq, eq-eqb, ne_eqb, false≢true, false_from_ne_true}
 use Rattle.fab_base.specs.Faults.{Rose}
@@ -84,3 +84,16 @@ pub then_event : {E : Type 0} (event : Event) (result : Result Came E) (old mid 
     → IfOk result (λ came. AreBehind (fails_by event came) mid new) → IfOk result (λ came. AreBehind (fails_by event came) old new)
 then_event event (Ok came) old mid new gain h = then_all (fails_by event came) old mid new gain h
 then_event event (Err problem) old mid new gain h = h
+
+-- where nothing came of it
+pub none_behind : (js : List (Option JournalModel)) → AreBehind (λ n. false) js js
+none_behind js n = still (slot js n)
+
+pub none_cut : {E : Type 0} (event : Event) (problem : E) (old new : List (Option JournalModel)) → IsCaused (node_at event) (IsCut {E = E} (Err problem)) old new
+    → AreBehind (λ n. false) old new
+none_cut event problem old new h = whole_behind (node_at event) old new h
+
+pub then_none : {E : Type 0} (result : Result Came E) (old mid new : List (Option JournalModel)) → OnlyGainRoom old mid → OnErr result (AreBehind (λ n. false) mid new)
+    → OnErr result (AreBehind (λ n. false) old new)
+then_none (Ok came) old mid new gain h = tt
+then_none (Err problem) old mid new gain h = then_all (λ n. false) old mid new gain h

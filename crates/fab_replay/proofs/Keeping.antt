@@ -1,21 +1,22 @@
 -- What is kept of journals, one after the other.
-use Rattle.std.specs.Prelude.{◌≡◌, ◌<◌, ℕ, suc, Bool, false, IsTrue, List, [], ◌∷◌, ◌++◌, map, length, take, reverse, Contains, Option, Some, None}
+use Rattle.std.specs.Prelude.{◌≡◌, ◌⊎◌, ◌<◌, ◌≤◌, ◌-◌, ◌^◌, ℕ, zero, suc, Bool, true, false, IsTrue, List, [], ◌∷◌, ◌++◌, map, length, take, reverse, Contains, Option, Some, None, Result, Ok, Err, OnOk}
 use Rattle.std.specs.List.{AllByRecursion}
-use Rattle.std.proofs.Common.{refl, sym, ap, ◌∙◌, subst, arith, append_assoc, true≢false}
-use Rattle.std.proofs.lemmas.List.{map-append, length-append, append-nil, length-map, reverse-append}
+use Rattle.std.proofs.Common.{refl, sym, ap, ◌∙◌, subst, inl, inr, arith, append_assoc, true≢false}
+use Rattle.std.proofs.lemmas.List.{map-append, length-append, append-nil, length-map, reverse-append, take-map}
 use Rattle.std.proofs.Math.Seq.{take-append_seam, take-length}
 use Rattle.fab_base.specs.Faults.{Rose}
-use Rattle.fab_device.specs.Kept.{CannotFail, Entry, Makers, with_entry, with_name}
+use Rattle.fab_device.specs.Kept.{CannotFail, Entry, Makers, one_more, with_entry, with_name}
 use Rattle.fab_language.specs.Words.{node_text}
 use Rattle.fab_tree.specs.declared.resolved.Resolved.{Resolved}
 use Rattle.fab_node.specs.Standing.{GivenModel, JournalModel}
-use Rattle.fab_core.specs.Starts.{AreBack, IsLeft, honest_below}
+use Rattle.fab_core.specs.Starts.{AreBack, Empty, IsFresh, IsLeft, honest_below}
 use Rattle.fab_core.proofs.AtStart.{key_of}
-use Rattle.fab_core.specs.Honest.{AreFor, honest_up}
-use Rattle.fab_replay.specs.Kept.{IsEntryBehind, MakesAll, MakesFront, names_in, with_more}
-use Rattle.fab_replay.specs.Making.{HasMadeSome}
-use Rattle.fab_replay.specs.Running.{AreNew, IsNew, IsUnfailed, entries_of}
-use Rattle.fab_core.proofs.Honest.{IsPlace, for_long, honest_long, place_of}
+use Rattle.fab_core.specs.Honest.{AreFor, honest_in, honest_up}
+use Rattle.fab_replay.specs.Kept.{HandsBack, HidesNone, IsCutShort, IsEntryAt, IsEntryBehind, IsEntryFresh, lost_behind, unlost, with_more}
+use Rattle.fab_replay.specs.declared.replayed.Wanted.{Wanted}
+use Rattle.fab_replay.specs.Running.{AreNew, GivesBack, IsNew, IsUnfailed, entries_of, entry_of}
+use Rattle.fab_replay.proofs.Marks.{none_has}
+use Rattle.fab_core.proofs.Honest.{IsPlace, for_both, for_long, honest_long, place_of}
 
 -- ---- journals that were made
 
@@ -33,15 +34,18 @@ new_one told before name text j same is content synced faults sure = record {
 
 module _ {J : Type 0} (seen : J → JournalModel) (told : Option (List (List ℕ))) (r : Resolved) where
   -- one more
-  pub made_on : (n : ℕ) (ns all : List ℕ) (made : List J) (x : J) → IsNew told (node_text r n) (seen x)
-      → ((more : List JournalModel) → AreNew told r (n ∷ ns) more → AreNew told r all (map seen made ++ more))
-      → (more : List JournalModel) → AreNew told r ns more → AreNew told r all (map seen (made ++ x ∷ []) ++ more)
-  made_on n ns all made x new h more hs =
-      subst (AreNew told r all) (sym (ap (λ xs. xs ++ more) (map-append seen made (x ∷ [])) ∙ append_assoc (map seen made) (seen x ∷ []) more)) (h (seen x ∷ more) (new, hs))
+  pub new_on : (ns : List ℕ) (made : List J) (n : ℕ) (x : J) → AreNew told r ns (map seen made) → IsNew told (node_text r n) (seen x)
+      → AreNew told r (ns ++ n ∷ []) (map seen (made ++ x ∷ []))
+  new_on ns made n x h new =
+      subst (AreNew told r (ns ++ n ∷ [])) (sym (map-append seen made (x ∷ [])))
+      (for_both (λ m j. IsNew told (node_text r m) j) ns (n ∷ []) (map seen made) (seen x ∷ []) h (new, tt))
 
-  pub made_all : (ns all : List ℕ) (made : List J) → ns ≡ [] → ((more : List JournalModel) → AreNew told r ns more → AreNew told r all (map seen made ++ more))
-      → AreNew told r all (map seen made)
-  made_all ns all made e h = subst (AreNew told r all) (append-nil (map seen made)) (h [] (subst (λ xs. AreNew told r xs []) (sym e) tt))
+  -- none of them has failed
+  pub new_keys : (ns : List ℕ) (js : List J) → AreNew told r ns (map seen js) → AllByRecursion (λ (k : ℕ × Bool). k.0 ≡ 0) (map (λ j. key_of (seen j)) js)
+  new_keys [] [] h = tt
+  new_keys (n ∷ ns) (j ∷ js) h = (h.0.faults, new_keys ns js h.1)
+  new_keys [] (j ∷ js) h = absurd h
+  new_keys (n ∷ ns) [] h = absurd h
 
   -- with them a core may be made: they are empty, and one for each honest node
   pub new_empty : (ns : List ℕ) (js : List J) → AreNew told r ns (map seen js) → AllByRecursion (λ j. (seen j).content ≡ []) js
@@ -77,22 +81,6 @@ pub more_none : {T : Type 0} (k : Option (List T)) → k ≡ with_more k []
 more_none None = refl
 more_none (Some xs) = ap Some (sym (append-nil xs))
 
--- all that were made are a front of them
-pub all_front : (g : GivenModel) (old new : Makers) → MakesAll g old new → MakesFront g old new
-all_front g old new made = record { many = length (names_in g); made = made ∙ ap (with_more old.made) (sym (take-length (names_in g))) }
-
--- memory ran out behind the first so many
-pub some_made : (r : Resolved) (nodes : List ℕ) (old new : Makers) (done rest : List ℕ) → done ++ rest ≡ nodes → new.made ≡ with_more old.made (map (node_text r) done) → new.faults ≡ old.faults
-    → HasMadeSome r nodes old new
-some_made r nodes old new done rest parts made same = record {
-  many = length (map (node_text r) done);
-  made =
-      made
-      ∙ ap (with_more old.made)
-      (front_of (map (node_text r) done) (map (node_text r) rest) (map (node_text r) nodes) (sym (map-append (node_text r) done rest) ∙ ap (map (node_text r)) parts));
-  same = same;
-}
-
 -- one more was made
 pub named_one : (r : Resolved) (made : Option (List (List ℕ))) (done : List ℕ) (n : ℕ) (name : List ℕ) → name ≡ node_text r n
     → with_name (with_more made (map (node_text r) done)) name ≡ with_more made (map (node_text r) (done ++ n ∷ []))
@@ -116,6 +104,154 @@ kept_on seen r done n after rest items more j name all parts last named h =
     ∙ ap (λ js. done ++ entries_of r (n ∷ after) (map seen js)) (sym (ap reverse last ∙ reverse-append more (j ∷ [])))
     ∙ ap (λ ns. done ++ entries_of r ns (map seen (reverse items))) (sym parts)
     ∙ h
+
+-- ---- journals that are handed back
+
+-- as many nodes have entries as there are journals
+pub entries_front : (r : Resolved) (before behind : List ℕ) (js : List JournalModel) → length js ≡ length before → entries_of r (before ++ behind) js ≡ entries_of r before js
+entries_front r [] [] [] e = refl
+entries_front r [] (n ∷ ns) [] e = refl
+entries_front r [] behind (j ∷ js) e = absurd (omega (arith, e))
+entries_front r (n ∷ ns) behind (j ∷ js) e = ap (λ xs. entry_of r n j ∷ xs) (entries_front r ns behind js (omega (arith, e)))
+entries_front r (n ∷ ns) behind [] e = absurd (omega (arith, e))
+
+-- one journal more
+pub unlost_on : (losses : List Bool) (done : List Entry) (lost : Bool) (x : Entry) → length losses ≡ length done
+    → unlost (losses ++ lost ∷ []) (done ++ x ∷ []) ≡ unlost losses done ++ unlost (lost ∷ []) (x ∷ [])
+unlost_on [] [] lost x e = refl
+unlost_on (true ∷ losses) (y ∷ done) lost x e = unlost_on losses done lost x (omega (arith, e))
+unlost_on (false ∷ losses) (y ∷ done) lost x e = ap (λ xs. y ∷ xs) (unlost_on losses done lost x (omega (arith, e)))
+unlost_on [] (y ∷ done) lost x e = absurd (omega (arith, e))
+unlost_on (b ∷ losses) [] lost x e = absurd (omega (arith, e))
+
+pub lost_on : (losses : List Bool) (count : ℕ) (lost : Bool) → lost_behind count (losses ++ lost ∷ []) ≡ lost_behind (lost_behind count losses) (lost ∷ [])
+lost_on [] count lost = refl
+lost_on (true ∷ losses) count lost = lost_on losses (one_more count) lost
+lost_on (false ∷ losses) count lost = lost_on losses count lost
+
+pub one_longer : (losses : List Bool) (done : List Entry) (lost : Bool) (x : Entry) → length losses ≡ length done → length (losses ++ lost ∷ []) ≡ length (done ++ x ∷ [])
+one_longer losses done lost x long =
+    let a = length-append losses (lost ∷ []) in
+    let b = length-append done (x ∷ []) in
+    omega (arith, long, a, b)
+
+-- where none was lost and one more is kept
+pub still_none : {T E : Type 0} {now next : ℕ} (first : ℕ) (result : Result T E) (losses : List Bool) (done : List Entry) (x : Entry) → length losses ≡ length done → next ≡ now
+    → OnOk result ((unlost losses done ≡ done) × (now ≡ first)) → OnOk result ((unlost (losses ++ false ∷ []) (done ++ x ∷ []) ≡ done ++ x ∷ []) × (next ≡ first))
+still_none first (Err e) losses done x long same h = tt
+still_none first (Ok t) losses done x long same h = (unlost_on losses done false x long ∙ ap (λ xs. xs ++ x ∷ []) h.0, same ∙ h.1)
+
+-- such as are given back
+pub handed_back : {T E : Type 0} {result : Result T E} (P : ℕ → Entry → Type 0) (nodes : List ℕ) (entries those : List Entry) (old new : Makers) → AreFor P nodes entries
+    → those ≡ entries → GivesBack result those old new → HandsBack P nodes old new
+handed_back P nodes entries those old new are same back = record {
+  entries = entries;
+  each = are;
+  losses = back.losses;
+  long = back.long ∙ ap length same;
+  kept = back.kept ∙ ap (λ xs. with_more old.kept (unlost back.losses xs)) same;
+  lost = back.lost;
+}
+
+pub hands_from : (P : ℕ → Entry → Type 0) (nodes : List ℕ) (old mid new : Makers) → mid.kept ≡ old.kept → mid.lost ≡ old.lost → HandsBack P nodes mid new → HandsBack P nodes old new
+hands_from P nodes old mid new kept lost h = record {
+  entries = h.entries;
+  each = h.each;
+  losses = h.losses;
+  long = h.long;
+  kept = h.kept ∙ ap (λ k. with_more k (unlost h.losses h.entries)) kept;
+  lost = h.lost ∙ ap (λ n. lost_behind n h.losses) lost;
+}
+
+-- where none is lost
+pub all_kept : (P : ℕ → Entry → Type 0) (nodes : List ℕ) (entries : List Entry) (old new : Makers) → AreFor P nodes entries → new.kept ≡ with_more old.kept entries
+    → new.lost ≡ old.lost → HandsBack P nodes old new
+all_kept P nodes entries old new are kept lost = record {
+  entries = entries;
+  each = are;
+  losses = map (λ x. false) entries;
+  long = length-map entries (λ x. false);
+  kept = kept ∙ ap (with_more old.kept) (sym (whole entries));
+  lost = lost ∙ sym (same entries);
+}
+  where
+    whole : (xs : List Entry) → unlost (map (λ x. false) xs) xs ≡ xs
+    whole [] = refl
+    whole (x ∷ xs) = ap (λ ys. x ∷ ys) (whole xs)
+
+    same : (xs : List Entry) → lost_behind old.lost (map (λ x. false) xs) ≡ old.lost
+    same [] = refl
+    same (x ∷ xs) = same xs
+
+-- journals that have their headers or nothing
+pub fresh_entries : {J : Type 0} (seen : J → JournalModel) (g : GivenModel) (ns : List ℕ) (js : List J) → AreFor (λ n j. IsFresh n (seen j).content (seen j).synced) ns js
+    → AllByRecursion (λ (k : ℕ × Bool). k.0 ≡ 0) (map (λ j. key_of (seen j)) js) → AreFor (IsEntryFresh g) ns (entries_of g.program ns (map seen js))
+fresh_entries seen g [] [] h k = tt
+fresh_entries seen g (n ∷ ns) (j ∷ js) h k = (record { name = refl; fresh = h.0; unfailed = k.0 }, fresh_entries seen g ns js h.1 k.1)
+fresh_entries seen g [] (j ∷ js) h k = absurd h
+fresh_entries seen g (n ∷ ns) [] h k = absurd h
+
+-- and such as were just made
+pub new_entries : (told : Option (List (List ℕ))) (g : GivenModel) (ns : List ℕ) (js : List JournalModel) → AreNew told g.program ns js → AreFor (IsEntryFresh g) ns (entries_of g.program ns js)
+new_entries told g [] [] h = tt
+new_entries told g (n ∷ ns) (j ∷ js) h =
+    (record { name = refl; fresh = Empty (record { content_is = h.0.content; synced_is = h.0.synced }); unfailed = h.0.faults }, new_entries told g ns js h.1)
+new_entries told g [] (j ∷ js) h = absurd h
+new_entries told g (n ∷ ns) [] h = absurd h
+
+-- ---- where memory ran out no fault is hidden
+
+none_of : (P : ℕ → Entry → Type 0) → ((n : ℕ) (x : Entry) → P n x → x.faults ≡ 0) → (nodes : List ℕ) (xs : List Entry) → AreFor P nodes xs → AllByRecursion (λ x. x.faults ≡ 0) xs
+none_of P none [] [] h = tt
+none_of P none (n ∷ ns) (x ∷ xs) h = (none n x h.0, none_of P none ns xs h.1)
+none_of P none [] (x ∷ xs) h = absurd h
+none_of P none (n ∷ ns) [] h = absurd h
+
+unlost_none : (losses : List Bool) (xs : List Entry) → AllByRecursion (λ x. x.faults ≡ 0) xs → AllByRecursion (λ x. x.faults ≡ 0) (unlost losses xs)
+unlost_none [] xs h = h
+unlost_none (true ∷ losses) [] h = tt
+unlost_none (false ∷ losses) [] h = tt
+unlost_none (true ∷ losses) (x ∷ xs) h = unlost_none losses xs h.1
+unlost_none (false ∷ losses) (x ∷ xs) h = (h.0, unlost_none losses xs h.1)
+
+names_are : (g : GivenModel) (P : ℕ → Entry → Type 0) → ((n : ℕ) (x : Entry) → P n x → x.node ≡ node_text g.program n) → (nodes : List ℕ) (xs : List Entry) → AreFor P nodes xs
+    → map (λ (x : Entry). x.node) xs ≡ map (node_text g.program) nodes
+names_are g P named [] [] h = refl
+names_are g P named (n ∷ ns) (x ∷ xs) h = ap (λ t. t ∷ map (λ (x : Entry). x.node) xs) (named n x h.0) ∙ ap (λ ts. node_text g.program n ∷ ts) (names_are g P named ns xs h.1)
+names_are g P named [] (x ∷ xs) h = absurd h
+names_are g P named (n ∷ ns) [] h = absurd h
+
+-- a count below its last value that stays counts none
+pub rises : (count : ℕ) (losses : List Bool) → count < 2 ^ 64 - 1 → (count ≤ lost_behind count losses) × (lost_behind count losses ≡ count → (xs : List Entry) → unlost losses xs ≡ xs)
+rises count losses few = (above count losses (omega (arith, few)), λ same. whole losses same)
+  where
+    above : (n : ℕ) (ls : List Bool) → n ≤ 2 ^ 64 - 1 → n ≤ lost_behind n ls
+    above n [] most = omega arith
+    above n (true ∷ ls) most = let more = above (one_more n) ls (omega arith) in omega (arith, more, most)
+    above n (false ∷ ls) most = above n ls most
+
+    whole : (ls : List Bool) → lost_behind count ls ≡ count → (xs : List Entry) → unlost ls xs ≡ xs
+    whole [] same xs = refl
+    whole (true ∷ ls) same xs = absurd (let more = above (one_more count) ls (omega arith) in omega (arith, more, same, few))
+    whole (false ∷ ls) same [] = refl
+    whole (false ∷ ls) same (x ∷ xs) = ap (λ ys. x ∷ ys) (whole ls same xs)
+
+handed_none : (g : GivenModel) (P : ℕ → Entry → Type 0) (nodes : List ℕ) (old new : Makers) (had : List Entry) → ((n : ℕ) (x : Entry) → P n x → x.faults ≡ 0)
+    → ((n : ℕ) (x : Entry) → P n x → x.node ≡ node_text g.program n) → new.made ≡ with_more old.made (map (node_text g.program) nodes) → HandsBack P nodes old new
+    → old.kept ≡ Some had → HidesNone old new had
+handed_none g P nodes old new had none named made h was = (
+  unlost h.losses h.entries,
+  h.kept ∙ ap (λ k. with_more k (unlost h.losses h.entries)) was,
+  unlost_none h.losses h.entries (none_of P none nodes h.entries h.each),
+  λ same few. made ∙ ap (with_more old.made) (sym (names_are g P named nodes h.entries h.each) ∙ ap (map (λ (x : Entry). x.node)) (sym ((rises old.lost h.losses few).1 (sym h.lost ∙ same) h.entries))),
+)
+
+pub none_hidden : (g : GivenModel) (wanted : Wanted) (old new : Makers) (had : List Entry) → IsCutShort g wanted old new → old.kept ≡ Some had → HidesNone old new had
+none_hidden g wanted old new had (inl h) was =
+    handed_none g (IsEntryFresh g) (take h.many (honest_in g)) old new had (λ n x k. k.unfailed) (λ n x k. k.name)
+    (h.made ∙ ap (with_more old.made) (take-map (node_text g.program) h.many (honest_in g))) h.kept was
+none_hidden g wanted old new had (inr h) was =
+    handed_none g (IsEntryAt g h.0.moves) (honest_in g) old new had (λ n x k. k.sound (none_has h.0.moves n h.0.first)) (λ n x k. k.name) h.1 h.0.kept was
 
 -- ---- a count that rose
 
@@ -174,12 +310,6 @@ module _ {J : Type 0} (seen : J → JournalModel) (told : Option (List (List ℕ
   long : length (honest_up g node) ≡ length back.before
   long = honest_long g node ∙ sym back.place
 
-  keys_none : (ns : List ℕ) (js : List J) → AreNew told g.program ns (map seen js) → AllByRecursion (λ (k : ℕ × Bool). k.0 ≡ 0) (map (λ j. key_of (seen j)) js)
-  keys_none [] [] h = tt
-  keys_none (n ∷ ns) (j ∷ js) h = (h.0.faults, keys_none ns js h.1)
-  keys_none [] (j ∷ js) h = absurd h
-  keys_none (n ∷ ns) [] h = absurd h
-
   more : length place.rest ≡ length back.behind
   more =
       let all = for_long (λ n j. IsNew told (node_text g.program n) j) (honest_up g m) (map seen olds) new in
@@ -191,7 +321,7 @@ module _ {J : Type 0} (seen : J → JournalModel) (told : Option (List (List ℕ
 
   counts : AreFor (IsCount node) (honest_up g m) (map (λ j. key_of (seen j)) backs)
   counts =
-      let none = subst (AllByRecursion (λ (k : ℕ × Bool). k.0 ≡ 0)) back.old_is (keys_none (honest_up g m) olds new) in
+      let none = subst (AllByRecursion (λ (k : ℕ × Bool). k.0 ≡ 0)) back.old_is (new_keys seen told g.program (honest_up g m) olds new) in
       let all = counted node back.was back.now (honest_up g node) place.rest back.before back.behind long more (apart_below node (honest_up g node) place.front)
       (apart_above node place.rest place.others) none back.rose
       in

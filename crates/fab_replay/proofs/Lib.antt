@@ -16,5 +16,6 @@ pub mod Trusting
 pub mod Ends
 pub mod Starting
 pub mod Exact
+pub mod Stopping
 mod ReplaysExamples
 pub mod Isolating

@@ -21,6 +21,16 @@ first_has (x ∷ moves) n h = by x.marked h (first_has moves n)
     by true e later = let same : node_at x.event ≡ n = cc in ap (λ c. c || has_mark moves n) (eq-eqb (node_at x.event) n same)
     by false e later = later e
 
+-- where there is none, no node has one
+pub none_has : (moves : List Move) (n : ℕ) → first_mark moves ≡ None → has_mark moves n ≡ false
+none_has [] n h = refl
+none_has (x ∷ moves) n h = by x.marked h (none_has moves n)
+  where
+    by : (b : Bool) → option_map (λ (move : Move). node_at move.event) (cond b (Some x) (find (λ move. move.marked) moves)) ≡ None
+        → (first_mark moves ≡ None → has_mark moves n ≡ false) → ((b && (node_at x.event == n)) || has_mark moves n) ≡ false
+    by true e later = absurd (cc)
+    by false e later = later e
+
 -- events of a schedule have none
 pub first_unmarked : (events : List Event) → first_mark (moves_of events) ≡ None
 first_unmarked [] = refl

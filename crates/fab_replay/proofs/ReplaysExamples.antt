@@ -1,6 +1,6 @@
 -- Examples of replays, computed.
-use Rattle.std.specs.Prelude.{◌≡◌, ◌<◌, ◌==◌, ℕ, zero, suc, Bool, true, false, List, [], ◌∷◌, ◌++◌, map, take, Option, Some, None, Ok, Err, IfOk, codes, pos}
-use Rattle.std.proofs.Common.{refl, sym, ap, ◌∙◌, subst, arith, get_or, length, lit<, true≢false}
+use Rattle.std.specs.Prelude.{◌≡◌, ◌<◌, ◌==◌, ℕ, zero, suc, Bool, true, false, List, [], ◌∷◌, ◌++◌, map, take, Option, Some, None, Ok, Err, IfErr, IfOk, codes, pos}
+use Rattle.std.proofs.Common.{refl, sym, ap, ◌∙◌, subst, inl, arith, get_or, length, lit<, true≢false}
 use Rattle.std.specs.Fmt.{digits}
 use Rattle.std.proofs.lemmas.List.{length-take}
 use Rattle.std.proofs.lemmas.Bool.{eqb-true, false≢true, ne_eqb}
@@ -10,6 +10,7 @@ use Rattle.fab_base.specs.Principals.{ActsFor}
 use Rattle.fab_base.specs.Labels.{ActsForOne}
 use Rattle.fab_labelling.specs.Readers.{IsNode, principal_of}
 use Rattle.fab_language.specs.Flows.{delegations_of}
+use Rattle.fab_language.specs.Words.{node_text}
 use Rattle.fab_places.specs.Places.{ClassExcludes}
 use Rattle.fab_protocol.specs.Stores.{shelf_of}
 use Rattle.fab_rights.specs.Computed.{has_bit}
@@ -32,19 +33,21 @@ use Rattle.fab_world.specs.Workers.{kept_of}
 use Rattle.fab_integrity.proofs.Over.{none_is_due}
 use Rattle.fab_node.specs.Standing.{GivenModel, JournalModel}
 use Rattle.fab_core.specs.Cores.{CoreModel, marked, setting, unmarked, world_by}
-use Rattle.fab_core.specs.Starts.{given_by}
+use Rattle.fab_core.specs.Starts.{Empty, given_by}
 use Rattle.fab_core.specs.Honest.{AreFor, honest_in, honest_up}
 use Rattle.fab_command.specs.declared.command.Telling.{Telling}
 use Rattle.fab_command.specs.declared.command.Telling.TheVariants as telling
-use Rattle.fab_replay.specs.Courses.{HasRun, IsAtStart, IsCourse}
+use Rattle.fab_replay.specs.Courses.{HasRun, HasStopped, IsAtStart, IsCourse}
 use Rattle.fab_replay.specs.Integral.{IsExcluded, IsIntegral}
-use Rattle.fab_replay.specs.Kept.{IsEntryAt, IsEntryBehind, IsPossible, MakesAll, MakesFront, Unmade, Unwritten, has_mark, with_more}
+use Rattle.fab_replay.specs.Kept.{HandsBack, IsEntryAt, IsEntryBehind, IsEntryFresh, IsOnWay, IsPossible, IsStartShort, MakesAll, Unmade, Unwritten, has_mark, unlost, with_more}
 use Rattle.fab_replay.specs.Making.{HasNoJournal}
 use Rattle.fab_replay.specs.Replays.{IsRunOver, is_scheduled, StopsBefore, Tells, event_of, first_mark, moves_of, report_of}
 use Rattle.fab_replay.specs.Running.{IsMarked}
 use Rattle.fab_replay.specs.declared.replayed.Replayed.TheVariants as r
 use Rattle.fab_replay.specs.declared.replayed.Wanted.{Wanted}
 use Rattle.fab_replay.specs.declared.replayed.Wanted.TheVariants.{Report, Run}
+use Rattle.fab_replay.proofs.Keeping.{rises}
+use Rattle.fab_replay.proofs.Stopping.{not_begun}
 
 -- ---- events
 
@@ -270,23 +273,34 @@ not_without_its_store h = let e = h.held in cc
 -- ---- starts
 
 abbrev makers : Option (List (List ℕ)) → List (List ℕ) → ℕ → Makers
-makers told made faults = record { may_fail = told; made = Some made; kept = None; faults = faults }
+makers told made faults = record { may_fail = told; made = Some made; kept = None; faults = faults; lost = 0 }
 
 -- each node's name
 abbrev each : List ℕ
 each = codes "x"
 
+-- a journal in which nothing is yet, with this count of faults
+abbrev empty : ℕ → Entry
+empty faults = record { node = each; content = []; synced = 0; faults = faults }
+
+fresh_at : (n : ℕ) → node_text program n ≡ each → IsEntryFresh g n (empty 0)
+fresh_at n named = record { name = sym named; fresh = Empty (record { content_is = refl; synced_is = refl }); unfailed = refl }
+
+-- that of w, handed back to somebody who doesn't tell
+back_of_w : HandsBack (IsEntryFresh g) (0 ∷ []) (makers None [] 0) (makers None (each ∷ []) 1)
+back_of_w = record { entries = empty 0 ∷ []; each = (fresh_at 0 refl, tt); losses = false ∷ []; long = refl; kept = refl; lost = refl }
+
 -- where the journal of t can't be made, that of w was
 no_start_without_its_journal : HasNoJournal g (makers None [] 0) (makers None (each ∷ []) 1) 1
 unfolding honest_up
-no_start_without_its_journal = record { honest = refl; unmade = Unmade refl refl (omega arith); possible = λ cannot. cannot }
+no_start_without_its_journal = record { honest = refl; unmade = Unmade back_of_w refl (omega arith); possible = λ cannot. cannot }
 
 -- and no other
 none_behind_it : HasNoJournal g (makers None [] 0) (makers None (each ∷ each ∷ []) 1) 1 → ⊥
 unfolding honest_up
 none_behind_it h = elim h.unmade [
-  | Unmade kept made rose ↦ (let e : ◌≡◌ {A = Option (List (List ℕ))} (Some (each ∷ each ∷ [])) (Some (each ∷ [])) = made in cc)
-  | Unwritten kept made same ↦ omega (arith, same)
+  | Unmade back made rose ↦ (let e : ◌≡◌ {A = Option (List (List ℕ))} (Some (each ∷ each ∷ [])) (Some (each ∷ [])) = made in cc)
+  | Unwritten back made same ↦ omega (arith, same)
 ]
 
 -- a hostile node has no journal that could fail
@@ -311,12 +325,41 @@ none_missing : MakesAll g (makers None [] 0) (makers None (each ∷ []) 0) → �
 unfolding honest_up
 none_missing h = let e : ◌≡◌ {A = Option (List (List ℕ))} (Some (each ∷ [])) (Some (each ∷ each ∷ [])) = h in cc
 
--- nor where memory runs out
-some_of_a_set : MakesFront g (makers None [] 0) (makers None (each ∷ []) 0)
-unfolding honest_up
-some_of_a_set = record { many = 1; made = refl }
+-- ---- journals that are given back
 
-no_more_than_a_set : MakesFront g (makers None [] 0) (makers None (each ∷ each ∷ each ∷ []) 0) → ⊥
+abbrev keeper : List Entry → ℕ → Makers
+keeper kept lost = record { may_fail = None; made = None; kept = Some kept; faults = 0; lost = lost }
+
+-- one is kept, and the other is lost and counted
+one_is_lost : HandsBack (IsEntryFresh g) (0 ∷ 1 ∷ []) (keeper [] 0) (keeper (empty 0 ∷ []) 1)
+one_is_lost = record { entries = empty 0 ∷ empty 0 ∷ []; each = (fresh_at 0 refl, (fresh_at 1 refl, tt)); losses = true ∷ false ∷ []; long = refl; kept = refl; lost = refl }
+
+-- where none is counted, none is lost, and what is kept are the journals
+none_is_lost : (P : ℕ → Entry → Type 0) (nodes : List ℕ) (kept : List Entry) → HandsBack P nodes (keeper [] 0) (keeper kept 0) → AreFor P nodes kept
+none_is_lost P nodes kept h =
+    let whole : unlost h.losses h.entries ≡ h.entries = (rises 0 h.losses (omega arith)).1 (sym h.lost) h.entries in
+    let same : kept ≡ unlost h.losses h.entries = (let e : ◌≡◌ {A = Option (List Entry)} (Some kept) (Some (unlost h.losses h.entries)) = h.kept in cc) in
+    subst (AreFor P nodes) (sym (same ∙ whole)) h.each
+
+not_lost_in_silence : HandsBack (IsEntryFresh g) (0 ∷ 1 ∷ []) (keeper [] 0) (keeper (empty 0 ∷ []) 0) → ⊥
+not_lost_in_silence h = (none_is_lost (IsEntryFresh g) (0 ∷ 1 ∷ []) (empty 0 ∷ []) h).1
+
+-- and none has failed that is back before a run
+not_a_failed_one : HandsBack (IsEntryFresh g) (0 ∷ []) (keeper [] 0) (keeper (empty 1 ∷ []) 0) → ⊥
+not_a_failed_one h = let none : 1 ≡ 0 = (none_is_lost (IsEntryFresh g) (0 ∷ []) (empty 1 ∷ []) h).0.unfailed in omega (arith, none)
+
+-- ---- where memory runs out
+
+some_of_a_set : IsStartShort g (makers None [] 0) (makers None (each ∷ []) 0)
+unfolding honest_up
+some_of_a_set = record {
+  many = 1;
+  made = refl;
+  kept = record { entries = empty 0 ∷ []; each = (fresh_at 0 refl, tt); losses = false ∷ []; long = refl; kept = refl; lost = refl };
+  faults = refl;
+}
+
+no_more_than_a_set : IsStartShort g (makers None [] 0) (makers None (each ∷ each ∷ each ∷ []) 0) → ⊥
 unfolding honest_up
 no_more_than_a_set h =
     let e : ◌≡◌ {A = Option (List (List ℕ))} (Some (each ∷ each ∷ each ∷ [])) (Some (take h.many (each ∷ each ∷ []))) = h.made in
@@ -324,6 +367,13 @@ no_more_than_a_set h =
     let long = ap length same in
     let most = length-take h.many (each ∷ each ∷ []) in
     omega (arith, long, most)
+
+-- before its first event a schedule's run is on its way, and one that nodes make by themselves
+at_its_begin : IsOnWay g Report []
+at_its_begin = inl (0, refl)
+
+by_themselves : IsOnWay g (Run telling.Report) []
+by_themselves = refl
 
 -- ---- runs that nodes make by themselves: with no request, no post and no crash line nothing is due
 
@@ -419,16 +469,19 @@ not_of_another_bundle : HasRun (core_of crashing []) (core_of g []) → ⊥
 not_of_another_bundle h = let same : ◌≡◌ {A = ℕ} 0 1 = ap (λ (x : GivenModel). length x.program.crashes) h.given in omega (arith, same)
 
 -- who makes schedules' runs alone is asked nothing, and who always wants memory makes runs of its own
-by_hand_alone : IsCourse {E = ℕ} is_scheduled (λ first. ⊥) (λ first result. ⊥)
+by_hand_alone : IsCourse is_scheduled (λ first. ⊥) (λ first result. ⊥)
 by_hand_alone x makes = absurd (false≢true makes)
 
-wants_memory : IsCourse {E = ℕ} (λ wanted. true) (λ first. Unit {0}) (λ first result. result ≡ Err 0)
-wants_memory x makes first start = (tt, λ result is. subst (λ o. IfOk o (HasRun first)) (sym is) tt)
+wants_memory : IsCourse (λ wanted. true) (λ first. Unit {0}) (λ first result. result ≡ Err first)
+wants_memory x makes first start = (
+  tt,
+  λ result is. (subst (λ o. IfOk o (HasRun first)) (sym is) tt, subst (λ o. IfErr o (HasStopped first)) (sym is) (not_begun first start)),
+)
 
 -- who stays at the start doesn't, where a crash is due
-not_who_stays : IsCourse {E = ℕ} (λ wanted. true) (λ first. Unit {0}) (λ first result. result ≡ Ok first) → ⊥
-not_who_stays h = not_before_the_crash ((h telling.Report refl (core_of crashing []) (at_start crashing)).1 (Ok (core_of crashing [])) refl)
+not_who_stays : IsCourse (λ wanted. true) (λ first. Unit {0}) (λ first result. result ≡ Ok first) → ⊥
+not_who_stays h = not_before_the_crash ((h telling.Report refl (core_of crashing []) (at_start crashing)).1 (Ok (core_of crashing [])) refl).0
 
 -- and who goes on from no start is none
-not_without_a_start : IsCourse {E = ℕ} (λ wanted. true) (λ first. ⊥) (λ first result. result ≡ Err 0) → ⊥
+not_without_a_start : IsCourse (λ wanted. true) (λ first. ⊥) (λ first result. result ≡ Err first) → ⊥
 not_without_a_start h = (h telling.Summary refl (core_of g []) (at_start g)).0

@@ -14,7 +14,9 @@ use Rattle.fab_replay.specs.Replays.{StopsBefore, StopsIn, event_of, events_of, 
 use Rattle.fab_replay.specs.Running.{AreBehind, ComesBy, fails_by}
 use Rattle.fab_replay.specs.declared.running.Came.{Came}
 use Rattle.fab_replay.specs.declared.running.Came.TheVariants as c
+use Rattle.fab_replay.specs.Kept.{IsFrontRun}
 use Rattle.fab_replay.proofs.Behind.{still, then_behind}
+use Rattle.fab_replay.proofs.Keeping.{front_of}
 use Rattle.fab_replay.proofs.Moves.{attempts_step, moves_more}
 
 -- so many events came, all whole, and these are left
@@ -102,3 +104,12 @@ module _ (first now new : CoreModel) (left : List Scheduled) (x : Scheduled) (re
 
 pub came_through : (first now : CoreModel) (number : ℕ) → SoFar first now [] number → now.moves ≡ moves_of (events_of first.given.program)
 came_through first now number h = h.moves ∙ ap moves_of (sym (append-nil h.before) ∙ sym h.events)
+
+-- where memory ran out, a front of them came
+module _ (first now new : CoreModel) (rest : List Scheduled) (number : ℕ) (so : SoFar first now rest number) where
+  pub front_came : new.moves ≡ now.moves → IsFrontRun first.given new.moves
+  front_came same =
+      (length so.before, same ∙ so.moves ∙ ap moves_of (front_of so.before (map event_of rest) (events_of first.given.program) (sym so.events)))
+
+  pub front_behind : AreBehind (λ n. false) now.journals new.journals → AreBehind (λ n. false) first.journals new.journals
+  front_behind h n = then_behind false (slot first.journals n) (slot now.journals n) (slot new.journals n) (so.behind n) (h n)

@@ -1,28 +1,31 @@
 -- What is told where there is no core, and what one is made of.
-use Rattle.std.specs.Prelude.{◌≡◌, ℕ, IsTrue, List, [], ◌∷◌, ◌++◌, map, length, take, Contains, Option, Some, None}
+use Rattle.std.specs.Prelude.{◌≡◌, ℕ, IsTrue, List, [], ◌∷◌, ◌++◌, map, length, take, Bool, Contains, Option, Some, None, Result, Ok, Err, IfErr, OnOk}
 use Rattle.std.specs.List.{AllByRecursion}
-use Rattle.std.proofs.Common.{refl, sym, ap, ◌∙◌, subst, arith}
+use Rattle.std.proofs.Common.{refl, sym, ap, ◌∙◌, subst, inl, arith}
+use Rattle.std.proofs.lemmas.List.{length-map, take-map}
+use Rattle.std.proofs.Math.Seq.{take-length}
+use Rattle.fab_base.specs.Faults.{Rose}
 use Rattle.fab_device.specs.Kept.{CannotFail, Makers}
 use Rattle.fab_language.specs.Words.{node_text}
 use Rattle.fab_tree.specs.declared.resolved.Resolved.{Resolved}
 use Rattle.fab_world.specs.Machine.{Move}
 use Rattle.fab_node.specs.Standing.{GivenModel, IsGiven, IsJournalOf, JournalModel}
 use Rattle.fab_core.specs.Cores.{CoreModel, is_honest, slot, world_by}
-use Rattle.fab_core.specs.Starts.{AreBack, IsLeft, honest_below, journals_faults}
+use Rattle.fab_core.specs.Starts.{AreBack, IsFresh, IsLeft, honest_below, journals_faults}
 use Rattle.fab_core.specs.Telling.{IsJournalAt, those_in}
 use Rattle.fab_core.proofs.AtStart.{key_of}
 use Rattle.fab_core.specs.Honest.{AreFor, honest_in, honest_up}
-use Rattle.fab_core.proofs.Honest.{IsPlace, place_of}
-use Rattle.fab_replay.specs.Kept.{IsCutShort, IsEntryBehind, IsReplayed, KeepsSome, MakesAll, OfStart, Unkept, Unmade as CouldNotBeMade, Unwritten, names_in, with_more}
-use Rattle.fab_replay.specs.Making.{HasFailed, HasFailedAt, HasNoJournal, IsStartCut, IsStartShort, IsUnstarted, NoneKept, OfHeaders}
-use Rattle.fab_replay.specs.Running.{AreNew, AreUnfailed, HasMore, IsUnfailed, entries_of}
+use Rattle.fab_core.proofs.Honest.{IsPlace, for_long, place_of}
+use Rattle.fab_replay.specs.Kept.{HandsBack, IsEntryBehind, IsEntryFresh, IsReplayed, IsStartShort, Unmade as CouldNotBeMade, Unwritten, names_in, with_more}
+use Rattle.fab_replay.specs.Making.{HasFailedAt, HasMadeSome, HasNoCore, HasNoJournal, HaveMade, IsUnstarted}
+use Rattle.fab_replay.specs.Running.{AreNew, AreUnfailed, GivesBack, IsNew, IsUnfailed, entries_of}
 use Rattle.fab_replay.specs.declared.journals.Unstarted.{Unstarted}
 use Rattle.fab_replay.specs.declared.journals.Unstarted.TheVariants as u
 use Rattle.fab_replay.specs.declared.replayed.Replayed.TheVariants as r
 use Rattle.fab_replay.specs.declared.replayed.Wanted.{Wanted}
 use Rattle.fab_replay.proofs.Aligned.{StandsAt}
 use Rattle.fab_replay.proofs.Numbered.{at_place, honest_member, honest_within}
-use Rattle.fab_replay.proofs.Keeping.{all_front, apart_above, apart_below, back_entries, back_possible, behind_first, more_none, new_many, unfailed}
+use Rattle.fab_replay.proofs.Keeping.{apart_above, apart_below, back_entries, back_possible, behind_first, entries_front, fresh_entries, front_of, handed_back, hands_from, more_none, new_entries, new_keys, new_many, unfailed}
 
 -- ---- no journal has failed
 
@@ -64,9 +67,54 @@ among : (n : ℕ) (front rest : List ℕ) → Contains (front ++ n ∷ rest) n
 among n [] rest = (0, omega arith, refl)
 among n (x ∷ front) rest = behind_first x n (front ++ n ∷ rest) (among n front rest)
 
-module _ (g : GivenModel) (given : IsGiven g) (program : Resolved) (nodes : List ℕ) (old new : Makers) (is : program ≡ g.program) (are : nodes ≡ honest_in g) (kept : new.kept ≡ old.kept) where
-  no_journal : (node : ℕ) → HasFailedAt program nodes old new node → HasNoJournal g old new node
-  no_journal node h =
+-- the names of all nodes for which one is made
+pub names_of : (g : GivenModel) (made : Option (List (List ℕ))) (program : Resolved) (nodes : List ℕ) → program ≡ g.program → nodes ≡ honest_in g
+    → with_more made (map (node_text program) nodes) ≡ with_more made (names_in g)
+names_of g made program nodes is are = ap (λ (p : Resolved). with_more made (map (node_text p) nodes)) is ∙ ap (λ ns. with_more made (map (node_text g.program) ns)) are
+
+-- memory ran out before
+pub none_made : (g : GivenModel) (old : Makers) → IsStartShort g old old
+none_made g old = record {
+  many = 0;
+  made = more_none old.made;
+  kept = record { entries = []; each = tt; losses = []; long = refl; kept = more_none old.kept; lost = refl };
+  faults = refl;
+}
+
+-- or behind some, which are handed back
+module _ {J T E : Type 0} (seen : J → JournalModel) (g : GivenModel) (program : Resolved) (nodes : List ℕ) (is : program ≡ g.program) (are : nodes ≡ honest_in g)
+    (old mid new : Makers) (js : List J) {result : Result T E} (kept : mid.kept ≡ old.kept) (lost : mid.lost ≡ old.lost)
+    (made : new.made ≡ mid.made) (faults : new.faults ≡ mid.faults) (back : GivesBack result (entries_of program nodes (map seen js)) mid new) where
+  -- those of nodes that stand in front
+  module _ (before behind : List ℕ) (parts : nodes ≡ before ++ behind) (new_ones : AreNew old.may_fail program before (map seen js)) where
+    fresh_ones : AreNew old.may_fail g.program before (map seen js)
+    fresh_ones = subst (λ (p : Resolved). AreNew old.may_fail p before (map seen js)) is new_ones
+
+    those : entries_of program nodes (map seen js) ≡ entries_of g.program before (map seen js)
+    those =
+        ap (λ (p : Resolved). entries_of p nodes (map seen js)) is ∙ ap (λ ns. entries_of g.program ns (map seen js)) parts
+        ∙ entries_front g.program before behind (map seen js) (for_long (λ n j. IsNew old.may_fail (node_text g.program n) j) before (map seen js) fresh_ones)
+
+    front_back : HandsBack (IsEntryFresh g) before old new
+    front_back =
+        hands_from (IsEntryFresh g) before old mid new kept lost
+        (handed_back (IsEntryFresh g) before (entries_of g.program before (map seen js)) (entries_of program nodes (map seen js)) mid new
+        (new_entries old.may_fail g before (map seen js) fresh_ones) those back)
+
+  pub some_short : HasMadeSome program nodes old mid (map seen js) → IsStartShort g old new
+  some_short h =
+      let front : h.before ≡ take (length h.before) (honest_in g) = front_of h.before h.behind (honest_in g) (sym h.parts ∙ are) in
+      record {
+        many = length h.before;
+        made =
+            made ∙ h.made ∙ ap (λ (p : Resolved). with_more old.made (map (node_text p) h.before)) is
+            ∙ ap (with_more old.made) (ap (map (node_text g.program)) front ∙ sym (take-map (node_text g.program) (length h.before) (honest_in g)));
+        kept = subst (λ ns. HandsBack (IsEntryFresh g) ns old new) front (front_back h.before h.behind h.parts h.are);
+        faults = faults ∙ h.same;
+      }
+
+  pub no_journal : IsGiven g → (node : ℕ) → HasFailedAt program nodes old mid (map seen js) node → HasNoJournal g old new node
+  no_journal given node h =
       let parts : honest_in g ≡ h.before ++ node ∷ h.behind = sym are ∙ h.parts in
       let honest : IsTrue (is_honest g node) = honest_member g 64 node (subst (λ ns. Contains ns node) (sym parts) (among node h.before h.behind)) in
       let place : IsPlace g node 64 = place_of g node 64 honest (honest_within g given node honest) in
@@ -75,33 +123,11 @@ module _ (g : GivenModel) (given : IsGiven g) (program : Resolved) (nodes : List
       in
       record {
         honest = honest;
-        unmade = CouldNotBeMade kept (h.made ∙ ap (λ (p : Resolved). with_more old.made (map (node_text p) h.before)) is ∙ ap (λ ns. with_more old.made (map (node_text g.program) ns)) before) h.rose;
+        unmade = CouldNotBeMade (subst (λ ns. HandsBack (IsEntryFresh g) ns old new) before (front_back h.before (node ∷ h.behind) h.parts h.are))
+            (made ∙ h.made ∙ ap (λ (p : Resolved). with_more old.made (map (node_text p) h.before)) is ∙ ap (λ ns. with_more old.made (map (node_text g.program) ns)) before)
+            (subst (λ n. Rose old.faults n) (sym faults) h.rose);
         possible = λ cannot. h.possible (subst (λ (p : Resolved). CannotFail old.may_fail (node_text p node)) (sym is) cannot);
       }
-
-  pub unmade : (why : Unstarted) → HasFailed program nodes old new why → IsUnstarted g old new why
-  unmade (u.Failed node) h = no_journal node h
-  unmade u.Memory h = record {
-    kept = NoneKept kept;
-    made = record {
-      many = h.many;
-      made = h.made ∙ ap (λ (p : Resolved). with_more old.made (take h.many (map (node_text p) nodes))) is ∙ ap (λ ns. with_more old.made (take h.many (map (node_text g.program) ns))) are;
-    };
-    faults = h.same;
-  }
-
--- the names of all nodes for which one is made
-pub names_of : (g : GivenModel) (made : Option (List (List ℕ))) (program : Resolved) (nodes : List ℕ) → program ≡ g.program → nodes ≡ honest_in g
-    → with_more made (map (node_text program) nodes) ≡ with_more made (names_in g)
-names_of g made program nodes is are = ap (λ (p : Resolved). with_more made (map (node_text p) nodes)) is ∙ ap (λ ns. with_more made (map (node_text g.program) ns)) are
-
--- memory ran out before
-pub none_made : (g : GivenModel) (old : Makers) → IsUnstarted g old old u.Memory
-none_made g old = record { kept = NoneKept refl; made = record { many = 0; made = more_none old.made }; faults = refl }
-
--- or behind it
-pub all_made : (g : GivenModel) (old new : Makers) → new.kept ≡ old.kept → MakesAll g old new → new.faults ≡ old.faults → IsUnstarted g old new u.Memory
-all_made g old new kept made same = record { kept = NoneKept kept; made = all_front g old new made; faults = same }
 
 -- ---- a core of journals that were made
 
@@ -121,6 +147,9 @@ module _ {J : Type 0} (seen : J → JournalModel) (told : Option (List (List ℕ
       are_unfailed told core.given core.moves core.journals given at
       (subst (λ (x : GivenModel). AreFor (λ n j. IsUnfailed told (node_text x.program n) (Some j)) (honest_in x) (those_in core.journals)) (sym same) all)
 
+  those_of : (js : List J) → entries_of program nodes (map seen js) ≡ entries_of g.program (honest_in g) (map seen js)
+  those_of js = ap (λ (p : Resolved). entries_of p nodes (map seen js)) is ∙ ap (λ ns. entries_of g.program ns (map seen js)) are
+
   -- ---- a header that couldn't be written
 
   module _ (given : IsGiven g) (node : ℕ) (back : List J) (h : AreBack g node (map (λ j. key_of (seen j)) made) (map (λ j. key_of (seen j)) back))
@@ -128,47 +157,52 @@ module _ {J : Type 0} (seen : J → JournalModel) (told : Option (List (List ℕ
     are_left : AreFor (IsEntryBehind g node) (honest_in g) (entries_of g.program (honest_in g) (map seen back))
     are_left = back_entries seen told g node 64 (honest_within g given node h.honest) made back news h left
 
-    module _ (again : Resolved) (all : List ℕ) (old mid last : Makers) (same : again ≡ g.program) (alike : all ≡ honest_in g) (still : mid.kept ≡ old.kept)
-        (makes : MakesAll g old last) (count : last.faults ≡ old.faults) where
-      -- all were kept
-      pub unwritten : old.may_fail ≡ told → last.kept ≡ with_more mid.kept (entries_of again all (map seen back)) → HasNoJournal g old last node
-      unwritten tells kept = record {
-        honest = h.honest;
-        unmade = Unwritten (record {
-          entries = entries_of g.program (honest_in g) (map seen back);
-          each = are_left;
-          kept =
-              kept ∙ ap (λ k. with_more k (entries_of again all (map seen back))) still
-              ∙ ap (λ (p : Resolved). with_more old.kept (entries_of p all (map seen back))) same
-              ∙ ap (λ ns. with_more old.kept (entries_of g.program ns (map seen back))) alike;
-        }) makes count;
-        possible = λ cannot. back_possible seen told g node 64 (honest_within g given node h.honest) made back news h (subst (λ t. CannotFail t (node_text g.program node)) tells cannot);
+    -- they are handed back, and the fault is one that may be
+    pub unwritten : {T E : Type 0} {result : Result T E} (old last : Makers) → old.may_fail ≡ told → GivesBack result (entries_of program nodes (map seen back)) old last
+        → HasNoCore g old last (u.Failed node)
+    unwritten old last tells gives = (
+      h.honest,
+      handed_back (IsEntryBehind g node) (honest_in g) (entries_of g.program (honest_in g) (map seen back)) (entries_of program nodes (map seen back)) old last are_left (those_of back) gives,
+      λ cannot. back_possible seen told g node 64 (honest_within g given node h.honest) made back news h (subst (λ t. CannotFail t (node_text g.program node)) tells cannot),
+    )
+
+  -- ---- memory ran out
+
+  pub no_memory : {T E : Type 0} {result : Result T E} (back : List J) (old last : Makers) → AreFor (λ n j. IsFresh n (seen j).content (seen j).synced) (honest_in g) back
+      → map (λ j. key_of (seen j)) back ≡ map (λ j. key_of (seen j)) made → GivesBack result (entries_of program nodes (map seen back)) old last → HasNoCore g old last u.Memory
+  no_memory back old last fresh keys gives =
+      let none = subst (AllByRecursion (λ (k : ℕ × Bool). k.0 ≡ 0)) (sym keys) (new_keys seen told g.program (honest_in g) made news) in
+      handed_back (IsEntryFresh g) (honest_in g) (entries_of g.program (honest_in g) (map seen back)) (entries_of program nodes (map seen back)) old last
+      (fresh_entries seen g (honest_in g) back fresh none) (those_of back) gives
+
+-- there is no core of all that were made
+module _ (g : GivenModel) (old mid new : Makers) (begun : HaveMade g old mid) (made : new.made ≡ mid.made) (faults : new.faults ≡ mid.faults) where
+  pub unstarted : (why : Unstarted) → HasNoCore g mid new why → IsUnstarted g old new why
+  unstarted (u.Failed node) h = record {
+    honest = h.0;
+    unmade = Unwritten (hands_from (IsEntryBehind g node) (honest_in g) old mid new begun.kept begun.lost h.1) (made ∙ begun.made) (faults ∙ begun.faults);
+    possible = λ cannot. h.2 (subst (λ t. CannotFail t (node_text g.program node)) (sym begun.told) cannot);
+  }
+  unstarted u.Memory h =
+      let many = length-map (honest_in g) (node_text g.program) in
+      let whole : take (length (names_in g)) (honest_in g) ≡ honest_in g = ap (λ k. take k (honest_in g)) many ∙ take-length (honest_in g) in
+      record {
+        many = length (names_in g);
+        made = made ∙ begun.made ∙ ap (with_more old.made) (sym (take-length (names_in g)));
+        kept = subst (λ ns. HandsBack (IsEntryFresh g) ns old new) (sym whole) (hands_from (IsEntryFresh g) (honest_in g) old mid new begun.kept begun.lost h);
+        faults = faults ∙ begun.faults;
       }
 
-      -- or some of them
-      pub partly_kept : HasMore mid.kept last.kept (entries_of again all (map seen back)) → IsStartShort g old last
-      partly_kept kept = record {
-        kept = OfHeaders node h.honest (record {
-          entries = entries_of g.program (honest_in g) (map seen back);
-          many = kept.many;
-          each = are_left;
-          kept =
-              kept.kept ∙ ap (λ k. with_more k (take kept.many (entries_of again all (map seen back)))) still
-              ∙ ap (λ (p : Resolved). with_more old.kept (take kept.many (entries_of p all (map seen back)))) same
-              ∙ ap (λ ns. with_more old.kept (take kept.many (entries_of g.program ns (map seen back)))) alike;
-        });
-        made = all_front g old last makes;
-        faults = count;
-      }
+  pub all_unstarted : {T : Type 0} (result : Result T Unstarted) → IfErr result (HasNoCore g mid new) → IfErr result (IsUnstarted g old new)
+  all_unstarted (Ok core) h = tt
+  all_unstarted (Err why) h = unstarted why h
+
+-- or there is one, and nothing more came of the makers
+pub still_made : {T E : Type 0} (result : Result T E) (g : GivenModel) (old mid new : Makers) → HaveMade g old mid → OnOk result (new ≡ mid) → OnOk result (HaveMade g old new)
+still_made (Ok core) g old mid new h same = subst (HaveMade g old) (sym same) h
+still_made (Err why) g old mid new h same = tt
 
 -- ---- what a run comes to that has no start
 
 pub no_start : (g : GivenModel) (old new : Makers) (node : ℕ) (wanted : Wanted) → HasNoJournal g old new node → IsReplayed g wanted (r.JournalFault node None) old new
-no_start g old new node wanted h = (h.honest, h.unmade)
-
-pub cut_at_start : (g : GivenModel) (old new : Makers) (wanted : Wanted) → IsStartShort g old new → IsCutShort g wanted old new
-cut_at_start g old new wanted h = record { kept = by h.kept; made = h.made; faults = h.faults }
-  where
-    by : IsStartCut g old.kept new.kept → KeepsSome g wanted old.kept new.kept
-    by (NoneKept same) = Unkept same
-    by (OfHeaders node honest front) = OfStart node honest front
+no_start g old new node wanted h = (h.honest, inl h.unmade)

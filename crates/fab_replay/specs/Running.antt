@@ -1,18 +1,21 @@
 -- Steps of a replay: how far it came, and what became of the journals on the way.
-use Rattle.std.specs.Prelude.{◌≡◌, ◌<◌, ◌==◌, ℕ, Bool, true, false, IsTrue, List, [], ◌∷◌, ◌++◌, take, Option}
+use Rattle.std.specs.Prelude.{◌≡◌, ◌<◌, ◌==◌, ℕ, Bool, true, false, IsTrue, List, [], ◌∷◌, ◌++◌, length, Option, Some, None, Result, OnOk}
 use Rattle.fab_base.specs.Faults.{Rose}
-use Rattle.fab_device.specs.Kept.{CannotFail, Entry}
+use Rattle.fab_device.specs.Kept.{CannotFail, Entry, Makers}
 use Rattle.fab_language.specs.Words.{node_text}
 use Rattle.fab_eval.specs.declared.done.Done.{Done}
 use Rattle.fab_net.specs.declared.event.Event.{Event}
 use Rattle.fab_tree.specs.declared.resolved.Resolved.{Resolved}
 use Rattle.fab_world.specs.Machine.{Move, Enabled, enabled, form_of}
 use Rattle.fab_node.specs.Standing.{GivenModel, JournalModel}
-use Rattle.fab_core.specs.Cores.{EventHasDone, marked, setting, slot, unmarked, world_by}
+use Rattle.fab_core.specs.Cores.{EventHasDone, is_honest, marked, setting, slot, unmarked, world_by}
 use Rattle.fab_core.specs.Moved.{faults_in, node_at, sure_in}
 use Rattle.fab_core.specs.Honest.{AreFor}
-use Rattle.fab_replay.specs.Kept.{has_mark, with_more}
+use Rattle.fab_replay.specs.Kept.{IsCutOff, IsOfRun, has_mark, lost_behind, unlost, with_more}
 use Rattle.fab_replay.specs.Replays.{StopsBefore, StopsIn, events_of, moves_of}
+use Rattle.fab_replay.specs.declared.replayed.Replayed.{Replayed}
+use Rattle.fab_replay.specs.declared.replayed.Replayed.TheVariants.{JournalFault}
+use Rattle.fab_replay.specs.declared.replayed.Wanted.{Wanted}
 use Rattle.fab_replay.specs.declared.running.Came.{Came}
 use Rattle.fab_replay.specs.declared.running.Came.TheVariants as c
 use Rattle.fab_replay.specs.declared.running.Ran.{Ran}
@@ -91,6 +94,11 @@ failed_by (r.Cut node) n = node == n
 failed_by r.Through n = false
 failed_by (r.Barred number) n = false
 
+-- what a run that has ended is answered
+abbrev pub IsEnded : GivenModel → Wanted → Replayed → Makers → Makers → Type 0
+IsEnded g wanted (JournalFault node None) old new = IsTrue (is_honest g node) × IsCutOff g wanted (Some node) old new
+IsEnded g wanted answer old new = IsOfRun g wanted answer old new
+
 -- ---- entries
 
 -- the entry of a node's journal
@@ -103,10 +111,13 @@ entries_of r [] js = []
 entries_of r (n ∷ ns) [] = []
 entries_of r (n ∷ ns) (j ∷ js) = entry_of r n j ∷ entries_of r ns js
 
--- the first so many of these entries were kept
-pub record HasMore (old new : Option (List Entry)) (entries : List Entry) : Type 0 where
-  pub many : ℕ
-  pub kept : new ≡ with_more old (take many entries)
+-- each of these entries is kept, or lost and counted; with `Ok` none is lost
+pub record GivesBack {T E : Type 0} (result : Result T E) (entries : List Entry) (old new : Makers) : Type 0 where
+  pub losses : List Bool
+  pub long : length losses ≡ length entries
+  pub kept : new.kept ≡ with_more old.kept (unlost losses entries)
+  pub lost : new.lost ≡ lost_behind old.lost losses
+  pub none : OnOk result ((unlost losses entries ≡ entries) × (new.lost ≡ old.lost))
 
 -- a new journal of a node: nothing is in it, it hasn't failed, and it never does where that is told
 pub record IsNew (told : Option (List (List ℕ))) (name : List ℕ) (journal : JournalModel) : Type 0 where

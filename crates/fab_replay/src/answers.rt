@@ -113,7 +113,7 @@ pub(crate) fn answer<J: Journal>(
 }
 
 /// The node of the first event in which a journal failed.
-fn first_mark(log: &[Logged]) -> Option<u16>
+pub(crate) fn first_mark(log: &[Logged]) -> Option<u16>
     ensures { result ≡ option_map (λ x. node_in x.event) (find (λ x. x.marked) log.now) }
 {
     match log.iter().find(|x| x.marked) {
@@ -123,7 +123,7 @@ fn first_mark(log: &[Logged]) -> Option<u16>
 }
 
 /// What is answered to a run that nodes made by themselves.
-pub fn answer_of_run<J: Journal>(
+pub(crate) fn answer_of_run<J: Journal>(
     alloc: Global,
     core: &Core<J>,
     telling: Telling,

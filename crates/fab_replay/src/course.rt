@@ -4,6 +4,7 @@ ghost use Rattle.std.specs.Prelude.{◌≡◌, ◌≤◌, IfOk, IsTrue, OnErr};
 ghost use Rattle.fab_language.specs.Numbers.{resolved};
 ghost use Rattle.fab_settings.specs.Settings.{IsAcceptedWith};
 ghost use Rattle.fab_tree.specs.declared.start.Start.{Start};
+ghost use Rattle.fab_core.specs.Honest.{honest_in};
 ghost use Rattle.fab_core.specs.Starts.{given_by};
 ghost use Rattle.fab_replay.specs.Courses.{IsCourse};
 ghost use Rattle.fab_replay.specs.Kept.{IsCutShort, IsPossible, IsReplayed};
@@ -13,6 +14,7 @@ ghost use Rattle.fab_replay.specs.declared.replayed.Wanted.TheVariants as wants;
 use crate::answers::answer_of_run;
 use crate::beginning::started;
 use crate::ending::finished;
+use crate::honest::honest_nodes;
 use crate::journals::Unstarted;
 use crate::replayed::{Replayed, Wanted};
 use crate::whole::replay;
@@ -29,7 +31,6 @@ use std::sync::Arc;
 /// knows no more of either than that both are a `T`, since what threads do with it stands in a closure.
 pub trait Course<T> {
     ghost use Rattle.std.specs.Prelude.{Bool, Result};
-    ghost use Rattle.std.specs.declared.alloc.AllocError.{AllocError};
     ghost use Rattle.fab_replay.specs.declared.replayed.Wanted.{Wanted};
 
     /// What may be wanted of its runs.
@@ -39,9 +40,10 @@ pub trait Course<T> {
     ghost may: { Self → T → Type 0 };
 
     /// Whether it may come to this from there.
-    ghost comes: { Self → T → Result T AllocError → Type 0 };
+    ghost comes: { Self → T → Result T T → Type 0 };
 
-    fn come(&self, start: T) -> Result<T, NoMemory>
+    /// Goes on to the end. Without memory it hands back where it stopped.
+    fn come(&self, start: T) -> Result<T, T>
         requires { may self.now start }
         ensures { comes self.now start result };
 }
@@ -59,7 +61,7 @@ impl<T> Course<T> for ByHand {
 
     ghost comes = { λ course start end. end ≡ Ok start };
 
-    fn come(&self, start: T) -> Result<T, NoMemory> {
+    fn come(&self, start: T) -> Result<T, T> {
         Ok(start)
     }
 }
@@ -70,7 +72,7 @@ pub struct ByCall<F> {
     pub call: F,
 }
 
-impl<T, F: Fn(T) -> Result<T, NoMemory>> Course<T> for ByCall<F> {
+impl<T, F: Fn(T) -> Result<T, T>> Course<T> for ByCall<F> {
     ghost use Rattle.std.specs.Prelude.{true};
 
     ghost makes = { λ wanted. true };
@@ -79,7 +81,7 @@ impl<T, F: Fn(T) -> Result<T, NoMemory>> Course<T> for ByCall<F> {
 
     ghost comes = { λ course start end. F.post course.call start end };
 
-    fn come(&self, start: T) -> Result<T, NoMemory> {
+    fn come(&self, start: T) -> Result<T, T> {
         (self.call)(start)
     }
 }
@@ -90,6 +92,8 @@ fn by_themselves<C: Course<Core<M::Item>>, M: Journals>(
     course: &C,
     program: Arc<Resolved>,
     rights: Rights,
+    bundle: &Resolved,
+    nodes: &[u16],
     wanted: &Wanted,
     telling: Telling,
     journals: &mut M,
@@ -98,28 +102,34 @@ fn by_themselves<C: Course<Core<M::Item>>, M: Journals>(
     requires made { IsTrue (C.makes wanted.now) }
     requires course { IsCourse C.makes (C.may course.now) (C.comes course.now) }
     requires accepted { (s : Start) × (resolved s ≡ program.value) × IsAcceptedWith s rights }
+    requires bundle { bundle.now ≡ program.value }
+    requires nodes { nodes.now ≡ honest_in (given_by program.value rights) }
     ensures answer { IfOk result (λ answer. IsReplayed (given_by program.value rights) wanted.now answer (M.seen journals.old) (M.seen journals.new)) }
     ensures possible { IfOk result (IsPossible (M.seen journals.old).may_fail program.value) }
     ensures later { (M.seen journals.old).faults ≤ (M.seen journals.new).faults }
     ensures memory { OnErr result (IsCutShort (given_by program.value rights) wanted.now (M.seen journals.old) (M.seen journals.new)) }
     ensures told { (M.seen journals.new).may_fail ≡ (M.seen journals.old).may_fail }
 {
-    let core = match started(alloc, program, rights, journals) {
+    let core = match started(alloc, program, rights, bundle, nodes, journals) {
         Ok(core) => core,
         Err(Unstarted::Failed { node }) => {
             return Ok(Replayed::JournalFault { node, report: None });
         }
         Err(Unstarted::Memory) => return Err(AllocError),
     };
-    let core = course.come(core)?;
-    let answer = answer_of_run(alloc, &core, telling)?;
-    finished(alloc, core, wanted, answer, journals)
+    match course.come(core) {
+        Ok(core) => {
+            let answer = answer_of_run(alloc, &core, telling);
+            finished(core, bundle, nodes, wanted, answer, journals)
+        }
+        Err(core) => finished(core, bundle, nodes, wanted, Err(AllocError), journals),
+    }
 }
 
 /// A run of an accepted bundle, with what is wanted of it: of its schedule, or one that nodes make by themselves,
 /// as the course does. Each honest node has a journal, in which the run begins with its header. Behind the run each
-/// journal is given back, in the order of the nodes, before there is an answer; where a header couldn't be written,
-/// too. Where memory runs out in the midst of it, the first of them were given back.
+/// journal is given back, in the order of the nodes, before there is an answer; where a header couldn't be written or
+/// memory ran out, too. A journal's fault is told whether memory ran out or not.
 pub fn make_run<C: Course<Core<M::Item>>, M: Journals>(
     alloc: Global,
     course: &C,
@@ -138,12 +148,28 @@ pub fn make_run<C: Course<Core<M::Item>>, M: Journals>(
     ensures memory { OnErr result (IsCutShort (given_by program.value rights) wanted.now (M.seen journals.old) (M.seen journals.new)) }
     ensures told { (M.seen journals.new).may_fail ≡ (M.seen journals.old).may_fail }
 {
+    let nodes = honest_nodes(alloc, &program, &rights)?;
+    let bundle = program.clone()?;
     match wanted {
-        Wanted::Run(telling) => {
-            by_themselves(alloc, course, program, rights, wanted, *telling, journals)
-        }
+        Wanted::Run(telling) => by_themselves(
+            alloc,
+            course,
+            program,
+            rights,
+            &bundle,
+            nodes.as_slice(),
+            wanted,
+            *telling,
+            journals,
+        ),
         Wanted::Report | Wanted::View { .. } | Wanted::Trust { .. } => replay(
-            alloc, program, rights, wanted, journals,
+            alloc,
+            program,
+            rights,
+            &bundle,
+            nodes.as_slice(),
+            wanted,
+            journals,
         ),
     }
 }

@@ -1,6 +1,7 @@
 //! What holds of every replay. The function does nothing: its contract is what it is for.
 
 ghost use Rattle.std.specs.Prelude.{◌≡◌, ◌≤◌, ℕ, Bool, IsTrue, List, Some, None, length};
+ghost use Rattle.fab_device.specs.Kept.{Entry, Makers};
 ghost use Rattle.fab_rights.specs.Computed.{has_bit};
 ghost use Rattle.fab_listing.specs.Listing.{listing};
 ghost use Rattle.fab_replay.specs.Isolated.{IsIsolated, IsSeeing, public_in};
@@ -8,6 +9,7 @@ ghost use Rattle.fab_world.specs.Machine.{Move};
 ghost use Rattle.fab_world.specs.Serial.{IsRun};
 ghost use Rattle.fab_node.specs.Standing.{GivenModel};
 ghost use Rattle.fab_core.specs.Cores.{setting};
+ghost use Rattle.fab_replay.specs.Kept.{HidesNone, IsCutShort};
 ghost use Rattle.fab_replay.specs.Replays.{HasNoFault, Tells, events_of, first_mark, is_scheduled, moves_of, view_of};
 ghost use Rattle.fab_replay.specs.declared.replayed.Replayed.{Replayed};
 ghost use Rattle.fab_replay.specs.declared.replayed.Replayed.TheVariants.{JournalFault, NotEnabled};
@@ -33,4 +35,10 @@ pub fn runs_have_one_answer()
 pub fn views_are_public()
     ensures { (g : GivenModel) (moves : List Move) (nodes : ℕ) (sees shows : ℕ → Bool) → length g.program.nodes ≤ 64 → IsIsolated g moves → IsSeeing g nodes sees shows
         → view_of g nodes moves ≡ listing g.program (has_bit nodes) (public_in g nodes sees shows moves) }
+{}
+
+/// Where memory runs out in a run, no journal that is given back has failed, and unless a maker lost one, each that was
+/// made is given back: so no journal's fault is told as want of memory by a run.
+pub fn no_fault_is_hidden()
+    ensures { (g : GivenModel) (wanted : Wanted) (old new : Makers) (had : List Entry) → IsCutShort g wanted old new → old.kept ≡ Some had → HidesNone old new had }
 {}

@@ -18,16 +18,11 @@ mod trust;
 mod view;
 mod whole;
 
-pub use answers::answer_of_run;
-pub use beginning::started;
 pub use course::{ByCall, ByHand, Course, make_run};
-pub use ending::finished;
 pub use honest::honest_nodes;
 pub use integral::is_integral;
 pub use isolated::is_isolated;
-pub use journals::Unstarted;
-pub use laws::{replays_are_exact, runs_have_one_answer, views_are_public};
+pub use laws::{no_fault_is_hidden, replays_are_exact, runs_have_one_answer, views_are_public};
 pub use replayed::{Replayed, Wanted};
 pub use trust::{first_unkept, is_trusted, trust_in};
 pub use view::view_into;
-pub use whole::replay;

@@ -1,11 +1,12 @@
 //! The events of a schedule, one after the other.
 
-ghost use Rattle.std.specs.Prelude.{◌≡◌, ◌<◌, ◌≤◌, [], IsTrue, IfOk, length};
+ghost use Rattle.std.specs.Prelude.{◌≡◌, ◌<◌, ◌≤◌, [], false, IsTrue, IfOk, OnErr, length};
 ghost use Rattle.std.specs.Option.{option_copied};
 ghost use Rattle.fab_world.specs.Machine.{is_running};
 ghost use Rattle.fab_world.specs.Serial.{attempts};
 ghost use Rattle.fab_world.specs.Workers.{Evaluating};
 ghost use Rattle.fab_core.specs.Cores.{HasDone, setting, world};
+ghost use Rattle.fab_replay.specs.Kept.{IsFrontRun};
 ghost use Rattle.fab_replay.specs.Running.{AreBehind, ComesBy, ComesTo, ComesWith, MayCome, failed_by, fails_by};
 
 use crate::events::{event_of, node_at};
@@ -77,6 +78,8 @@ fn enact<J: Journal>(
     ensures given { core.new.given ≡ core.old.given }
     ensures came { IfOk result (ComesBy core.old.given event core.old.moves core.new.moves) }
     ensures journals { IfOk result (λ came. AreBehind (fails_by event came) core.old.journals core.new.journals) }
+    ensures memory { OnErr result (core.new.moves ≡ core.old.moves) }
+    ensures still { OnErr result (AreBehind (λ n. false) core.old.journals core.new.journals) }
 {
     match core.apply(event, done)? {
         Applied::Whole => Ok(Came::Whole),
@@ -90,6 +93,8 @@ fn next<J: Journal>(alloc: Global, core: &mut Core<J>, event: Event) -> Result<C
     ensures given { core.new.given ≡ core.old.given }
     ensures came { IfOk result (ComesBy core.old.given event core.old.moves core.new.moves) }
     ensures journals { IfOk result (λ came. AreBehind (fails_by event came) core.old.journals core.new.journals) }
+    ensures memory { OnErr result (core.new.moves ≡ core.old.moves) }
+    ensures still { OnErr result (AreBehind (λ n. false) core.old.journals core.new.journals) }
 {
     let done = done_for(alloc, core, event)?;
     let over = done.as_ref();
@@ -112,6 +117,8 @@ pub(crate) fn run<J: Journal>(
     ensures given { core.new.given ≡ core.old.given }
     ensures ran { IfOk result (ComesTo core.old.given core.new.moves) }
     ensures journals { IfOk result (λ ran. AreBehind (failed_by ran) core.old.journals core.new.journals) }
+    ensures memory { OnErr result (IsFrontRun core.old.given core.new.moves) }
+    ensures still { OnErr result (AreBehind (λ n. false) core.old.journals core.new.journals) }
 {
     let mut number = 0;
     let mut rest = program.schedule.as_slice();

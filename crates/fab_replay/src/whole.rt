@@ -1,13 +1,14 @@
 //! A whole replay.
 
-ghost use Rattle.std.specs.Prelude.{◌≡◌, ◌≤◌, [], IfOk, IsTrue, OnErr};
+ghost use Rattle.std.specs.Prelude.{◌≡◌, ◌≤◌, [], None, IfOk, IsTrue, OnErr};
 ghost use Rattle.fab_language.specs.Numbers.{resolved};
 ghost use Rattle.fab_settings.specs.Settings.{IsAcceptedWith};
 ghost use Rattle.fab_tree.specs.declared.start.Start.{Start};
+ghost use Rattle.fab_core.specs.Honest.{honest_in};
 ghost use Rattle.fab_core.specs.Starts.{given_by};
-ghost use Rattle.fab_replay.specs.Kept.{IsCutShort, IsOfRun, IsPossible, IsReplayed, KeepsSome};
+ghost use Rattle.fab_replay.specs.Kept.{IsCutOff, IsCutShort, IsPossible, IsReplayed};
 ghost use Rattle.fab_replay.specs.Replays.{IsReady, is_scheduled};
-ghost use Rattle.fab_replay.specs.Running.{AreUnfailed};
+ghost use Rattle.fab_replay.specs.Running.{AreUnfailed, IsEnded};
 
 use crate::answers::answer;
 use crate::beginning::started;
@@ -27,42 +28,52 @@ use std::sync::Arc;
 fn over<M: Journals>(
     alloc: Global,
     core: Core<M::Item>,
+    program: &Resolved,
+    nodes: &[u16],
     wanted: &Wanted,
     journals: &mut M,
 ) -> Result<Replayed, NoMemory>
     requires moves { core.moves ≡ [] }
+    requires program { program.now ≡ core.given.program }
+    requires nodes { nodes.now ≡ honest_in core.given }
     requires scheduled { IsTrue (is_scheduled wanted.now) }
     requires ready { IsReady core.given wanted.now }
     requires unfailed { AreUnfailed (M.seen journals.old).may_fail core.given core.journals }
-    ensures answer { IfOk result (λ answer. IsOfRun core.given wanted.now answer (M.seen journals.old) (M.seen journals.new)) }
+    ensures answer { IfOk result (λ answer. IsEnded core.given wanted.now answer (M.seen journals.old) (M.seen journals.new)) }
     ensures possible { IfOk result (IsPossible (M.seen journals.old).may_fail core.given.program) }
-    ensures memory { OnErr result (KeepsSome core.given wanted.now (M.seen journals.old).kept (M.seen journals.new).kept) }
+    ensures memory { OnErr result (IsCutOff core.given wanted.now None (M.seen journals.old) (M.seen journals.new)) }
     ensures made { (M.seen journals.new).made ≡ (M.seen journals.old).made }
     ensures faults { (M.seen journals.new).faults ≡ (M.seen journals.old).faults }
     ensures told { (M.seen journals.new).may_fail ≡ (M.seen journals.old).may_fail }
 {
     let mut core = core;
     core.is_a_run();
-    let program = core.start().clone()?;
-    let ran = run(alloc, &mut core, &program)?;
-    let answer = answer(alloc, &core, &program, wanted, ran)?;
-    finished(alloc, core, wanted, answer, journals)
+    match run(alloc, &mut core, program) {
+        Ok(ran) => {
+            let answer = answer(alloc, &core, program, wanted, ran);
+            finished(core, program, nodes, wanted, answer, journals)
+        }
+        Err(AllocError) => finished(core, program, nodes, wanted, Err(AllocError), journals),
+    }
 }
 
 /// The replay of a bundle's schedule. Each honest node has a journal, in which the run begins with its
 /// header; crash lines are ignored. The events come in order, up to the first that may not come or in
 /// which a journal fails. Then each journal is given back, in the order of the nodes, before there is an
-/// answer; where a header couldn't be written, too. Where memory runs out in the midst of it, the first of
-/// them were given back.
-pub fn replay<M: Journals>(
+/// answer; where a header couldn't be written or memory ran out, too.
+pub(crate) fn replay<M: Journals>(
     alloc: Global,
     program: Arc<Resolved>,
     rights: Rights,
+    bundle: &Resolved,
+    nodes: &[u16],
     wanted: &Wanted,
     journals: &mut M,
 ) -> Result<Replayed, NoMemory>
     requires scheduled { IsTrue (is_scheduled wanted.now) }
     requires accepted { (s : Start) × (resolved s ≡ program.value) × IsAcceptedWith s rights }
+    requires bundle { bundle.now ≡ program.value }
+    requires nodes { nodes.now ≡ honest_in (given_by program.value rights) }
     requires ready { IsReady (given_by program.value rights) wanted.now }
     ensures answer { IfOk result (λ answer. IsReplayed (given_by program.value rights) wanted.now answer (M.seen journals.old) (M.seen journals.new)) }
     ensures possible { IfOk result (IsPossible (M.seen journals.old).may_fail program.value) }
@@ -70,8 +81,8 @@ pub fn replay<M: Journals>(
     ensures memory { OnErr result (IsCutShort (given_by program.value rights) wanted.now (M.seen journals.old) (M.seen journals.new)) }
     ensures told { (M.seen journals.new).may_fail ≡ (M.seen journals.old).may_fail }
 {
-    match started(alloc, program, rights, journals) {
-        Ok(core) => over(alloc, core, wanted, journals),
+    match started(alloc, program, rights, bundle, nodes, journals) {
+        Ok(core) => over(alloc, core, bundle, nodes, wanted, journals),
         Err(Unstarted::Failed { node }) => Ok(Replayed::JournalFault { node, report: None }),
         Err(Unstarted::Memory) => Err(AllocError),
     }

@@ -11,7 +11,7 @@ use Rattle.fab_front.specs.declared.status.Status.TheVariants as status
 use Rattle.fab_front.specs.Refused.{syntax, limit, misnamed as name_refused, unknown, mislabelled}
 use Rattle.fab_answers.specs.Says.{Says, refused, formatted, checked, evaluated, flow}
 use Rattle.fab_inferred.specs.Infers.{Infers, misnamed, no_least, no_solution, solved}
-use Rattle.fab_reply.specs.Reply.{Replies, usage, said, replayed, barred, unrobust, inferred, Answers, one_reply, interrupted, ran, in_run, before, sound, faulty, RepliesWith, Ends}
+use Rattle.fab_reply.specs.Reply.{Replies, usage, said, replayed, barred, unrobust, inferred, Answers, one_reply, interrupted, ran, in_run, without_text, sound, faulty, RepliesWith, Ends}
 
 -- ---- statuses of replies
 
@@ -56,7 +56,7 @@ of_replies (inferred x) = of_infers x
 pub of_answers : {command : Option Command} {text reply : List ℕ} {s : Status} → Answers command text s reply → IsOfReply s
 of_answers (one_reply r) = of_replies r.is
 of_answers (interrupted (in_run w g h k)) = IsFault
-of_answers (interrupted (before u w g h k)) = IsFault
+of_answers (interrupted (without_text u w g h k)) = IsFault
 of_answers (ran (sound g h k)) = IsOk
 of_answers (ran (faulty g h k)) = IsFault
 

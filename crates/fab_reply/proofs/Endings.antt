@@ -10,7 +10,7 @@ use Rattle.fab_front.specs.declared.status.Status.TheVariants.{Ok, Usage, ReadFa
 use Rattle.fab_front.specs.declared.texts.Outcome.TheVariants as outcome
 use Rattle.fab_front.specs.Front.{IsFront, IsTooLong}
 use Rattle.fab_front.specs.Lines.{line, what_word}
-use Rattle.fab_reply.specs.Reply.{Answers, one_reply, interrupted, ran, in_run, before, sound, faulty, IsNoRefusal, Interrupted, IsComplete, IsJournalFault, Ran, Replies, usage, said, replayed, barred, unrobust, inferred}
+use Rattle.fab_reply.specs.Reply.{Answers, one_reply, interrupted, ran, in_run, without_text, sound, faulty, IsNoRefusal, Interrupted, IsComplete, IsJournalFault, Ran, Replies, usage, said, replayed, barred, unrobust, inferred}
 use Rattle.fab_reply.specs.Reply.{AreCut, cut_short, untouched, AreLeft, JournalsAre, RepliesInPart, IsReply, IsInput, unasked, read, RepliesWith, Ends, ComesTo, SpeaksOfText}
 use Rattle.fab_front.specs.Refused.{syntax, limit, misnamed as name_refused, unknown, mislabelled}
 use Rattle.fab_answers.specs.Says.{MakesRuns, Says, refused, formatted, checked, evaluated, flow}
@@ -18,7 +18,11 @@ use Rattle.fab_answers.proofs.Saying.{limit_said}
 use Rattle.fab_inferred.specs.Infers.{Infers, misnamed, no_least, no_solution, solved}
 use Rattle.fab_front.proofs.Accepting.{short}
 use Rattle.fab_front.proofs.Fronts.{one_of_long}
+use Rattle.fab_node.specs.Standing.{GivenModel}
+use Rattle.fab_replay.specs.Kept.{IsCutShort}
+use Rattle.fab_replay.specs.declared.replayed.Wanted.{Wanted}
 use Rattle.fab_reply.specs.Headline.{Headline, IsPartFor, IsWholeFor}
+use Rattle.fab_reply.specs.Replays.{given_of}
 use Rattle.fab_reply.proofs.Replaying.{done_headline, fault_headline, no_fault, replay_unfailed}
 use Rattle.fab_reply.proofs.Replying.{no_reply, said_reply, usage_reply}
 use Rattle.fab_reply.proofs.Wishes.{runs_by}
@@ -64,11 +68,11 @@ told l l' (read t) r = read_reply l l' t.taken t.whole r
 -- an interrupted run has the status of a journal's fault
 is_fault : {command : Option Command} {text reply : List ℕ} {status : Status} → Interrupted command text status reply → IsJournalFault status
 is_fault (in_run w g h k) = tt
-is_fault (before u w g h k) = tt
+is_fault (without_text u w g h k) = tt
 
 fault_refuses_not : {command : Option Command} {text reply : List ℕ} {status : Status} → Interrupted command text status reply → IsNoRefusal status
 fault_refuses_not (in_run w g h k) = tt
-fault_refuses_not (before u w g h k) = tt
+fault_refuses_not (without_text u w g h k) = tt
 
 -- ---- runs that nodes make by themselves
 
@@ -168,7 +172,7 @@ module _ (command : Option Command) (l l' w w' : Option (List ℕ)) (old new : M
     where
       long_front : {command : Option Command} {text reply : List ℕ} {status : Status} → length text ≡ 4194305 → Interrupted command text status reply → ⊥
       long_front many (in_run v g h k) = let few = short g in omega (arith, many, few)
-      long_front many (before u v g h k) = let few = short g in omega (arith, many, few)
+      long_front many (without_text u v g h k) = let few = short g in omega (arith, many, few)
 
       go : {command : Option Command} {text reply : List ℕ} → IsInput command l l' text → Answers command text status reply → IsAtEnd l'
       go (unasked k) (one_reply r) = absurd (speaks_no_usage s (r.only _ _ usage).0)
@@ -304,7 +308,7 @@ module _ (command : Option Command) (l l' w w' : Option (List ℕ)) (old new : M
   of_run : {asked : Option Command} {text reply : List ℕ} {status : Status} {node : ℕ} → Answers asked text status reply → status ≡ JournalFault node → MakesRuns asked
   of_run (one_reply r) h = absurd (no_journal_fault r.is h)
   of_run (interrupted (in_run {command = c} {wanted = u} {s = z} w g k m)) h = runs_by z c u w
-  of_run (interrupted (before {command = c} u {s = z} w g k m)) h = runs_by z c u w
+  of_run (interrupted (without_text {command = c} u {s = z} w g k m)) h = runs_by z c u w
   of_run (ran (sound g k m)) h = tt
   of_run (ran (faulty g k m)) h = tt
 
@@ -408,9 +412,13 @@ module _ (command : Option Command) (l l' w w' : Option (List ℕ)) (old new : M
   part_unfailed : RepliesInPart command l l' w w' old new → new.faults ≡ old.faults
   part_unfailed e = are_unfailed command e.text e.reply e.status e.journals (inl e.some)
 
+  short_unfailed : (g : GivenModel) (wanted : Wanted) → IsCutShort g wanted old new → new.faults ≡ old.faults
+  short_unfailed g wanted (inl start) = start.faults
+  short_unfailed g wanted (inr (run, made, same)) = same
+
   cut_unfailed : AreCut command l l' old new → new.faults ≡ old.faults
   cut_unfailed (untouched same) = ap (λ (m : Makers). m.faults) same
-  cut_unfailed (cut_short is input x) = x.is.faults
+  cut_unfailed (cut_short is input x) = short_unfailed (given_of x.start x.rights) x.wanted x.is
 
   -- no journal's making failed, unless that is told
   pub makers_unfailed : (status : Status) → Ends command status l l' w w' old new → (IsJournalFault status → ⊥) → new.faults ≡ old.faults

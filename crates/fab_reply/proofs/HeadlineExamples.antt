@@ -12,7 +12,7 @@ use Rattle.fab_core.specs.Cores.{marked, setting, unmarked}
 use Rattle.fab_command.specs.declared.command.Command.TheVariants.{Check, Replay, Run}
 use Rattle.fab_command.specs.declared.command.Telling.{Telling}
 use Rattle.fab_command.specs.declared.command.Telling.TheVariants as telling
-use Rattle.fab_replay.specs.Replays.{IsRunOver, events_of, first_mark, moves_of, report_of, summary_of_run}
+use Rattle.fab_replay.specs.Replays.{IsRunOver, events_of, moves_of, summary_of_run}
 use Rattle.fab_replay.specs.declared.replayed.Replayed.TheVariants as replays
 use Rattle.fab_front.specs.declared.texts.Outcome.TheVariants as outcome
 use Rattle.fab_front.specs.declared.status.Status.TheVariants as status

@@ -1,6 +1,5 @@
 -- What a run comes to, as a reply to a text, and that the headline holds of its report.
-use Rattle.std.proofs.Common.{◌≡◌, ◌≢◌, ◌⊎◌, inl, inr, ℕ, IsTrue, List, [], length, Option, Some, None, Result, Ok as Fine, Err, OnErr, refl, sym, ap, ◌∙◌, subst, append-nil, arith}
-use Rattle.std.proofs.lemmas.List.{take_all}
+use Rattle.std.proofs.Common.{◌≡◌, ◌≢◌, ◌⊎◌, inl, inr, ℕ, IsTrue, List, [], Option, Some, None, Result, Ok as Fine, Err, OnErr, refl, sym, ◌∙◌, subst, append-nil, arith}
 use Rattle.std.specs.Io.KnownBytes.{Appends, Keeps}
 use Rattle.fab_command.specs.declared.command.Command.{Command}
 use Rattle.fab_command.specs.declared.command.Telling.{Telling}
@@ -15,7 +14,7 @@ use Rattle.fab_replay.specs.declared.replayed.Replayed.{Replayed}
 use Rattle.fab_replay.specs.declared.replayed.Replayed.TheVariants as replays
 use Rattle.fab_replay.specs.declared.replayed.Wanted.{Wanted}
 use Rattle.fab_replay.specs.declared.replayed.Wanted.TheVariants.{Report, Run as ByNodes, Trust as Trusted, View as Viewed}
-use Rattle.fab_replay.specs.Kept.{IsCutShort, IsOfRun, IsPossible, IsReplayed, OfRun, with_more}
+use Rattle.fab_replay.specs.Kept.{IsCutShort, IsOfRun, IsPossible, IsReplayed}
 use Rattle.fab_front.specs.declared.texts.Outcome.TheVariants as outcome
 use Rattle.fab_front.specs.declared.status.Status.{Status}
 use Rattle.fab_front.specs.declared.status.Status.TheVariants.{Ok, JournalFault}
@@ -26,8 +25,8 @@ use Rattle.fab_replay.specs.Replays.{IsFaulty, is_scheduled, text_of as text_by}
 use Rattle.fab_reply.specs.Headline.{Headline, IsPartFor, IsWholeFor}
 use Rattle.fab_front.specs.Reading.{ReadsText}
 use Rattle.fab_reply.specs.Replays.{Wants, given_of}
-use Rattle.fab_reply.specs.Reply.{Answers, one_reply, interrupted, ran, in_run, before, sound, faulty, AreCut, cut_short, untouched, AreLeft, IsCut, cut, unmade, IsInput, read, IsJournalFault, IsNotEnabled, IsReplay, status_of, text_of}
-use Rattle.fab_replay.proofs.Keeping.{all_front}
+use Rattle.fab_reply.specs.Reply.{Answers, one_reply, interrupted, ran, in_run, without_text, sound, faulty, AreCut, cut_short, untouched, AreLeft, IsCut, cut, unmade, IsInput, read, IsJournalFault, IsNotEnabled, IsReplay, status_of, text_of}
+use Rattle.fab_replay.proofs.Ends.{stopped_short}
 use Rattle.fab_reply.proofs.Replying.{barred_reply, replay_reply}
 use Rattle.fab_reply.proofs.Wishes.{part_for, whole_for, wished}
 
@@ -46,7 +45,7 @@ module _ {text : List ℕ} {start : Start} (f : IsFront text (outcome.Bundle sta
       one_reply (barred_reply f rights accepted command wanted wants event (record { moves = h.moves; run = h.run; told = h.told; scheduled = s }))
   replay_answered command wanted wants s (replays.JournalFault node (Some reply)) old new (h, made, e) =
       interrupted (in_run wants f.is accepted (record { moves = h.moves; run = h.run; told = h.told; scheduled = s }))
-  replay_answered command wanted wants s (replays.JournalFault node None) old new h = interrupted (before wanted wants f.is accepted h.0)
+  replay_answered command wanted wants s (replays.JournalFault node None) old new h = interrupted (without_text wanted wants f.is accepted h.0)
 
   -- so does one that the nodes make by themselves
   run_answered : (x : Telling) (answer : Replayed) (old new : Makers) → IsReplayed (given_of start rights) (ByNodes x) answer old new
@@ -54,7 +53,7 @@ module _ {text : List ℕ} {start : Start} (f : IsFront text (outcome.Bundle sta
   run_answered x (replays.Done reply) old new (h, made, e) = ran (sound f accepted (record { moves = h.moves; run = h.run; told = h.told }))
   run_answered x (replays.NotEnabled event) old new (h, made, e) = absurd h.told
   run_answered x (replays.JournalFault node (Some reply)) old new (h, made, e) = ran (faulty f accepted (record { moves = h.moves; run = h.run; told = h.told }))
-  run_answered x (replays.JournalFault node None) old new h = interrupted (before (ByNodes x) refl f.is accepted h.0)
+  run_answered x (replays.JournalFault node None) old new h = interrupted (without_text (ByNodes x) refl f.is accepted h.0)
 
   pub answered : (command : Command) (wanted : Wanted) → Wants start command wanted → (answer : Replayed) (old new : Makers)
       → IsReplayed (given_of start rights) wanted answer old new → Answers (Some command) text (status_of answer) (text_of answer)
@@ -107,18 +106,7 @@ module _ {text : List ℕ} {start : Start} (f : IsFront text (outcome.Bundle sta
   pub cut_answer : (answer : Replayed) (old new : Makers) → IsReplayed (given_of start rights) wanted answer old new
       → IsNotEnabled answer → new.may_fail ≡ old.may_fail → IsCut command text old new
   cut_answer (replays.NotEnabled event) old new (h, made, e) is same =
-      cut_replay old new
-      (record {
-        kept = OfRun h.moves (replays.NotEnabled event) h.run h.told
-            (record {
-              entries = h.kept.entries;
-              many = length h.kept.entries;
-              each = h.kept.each;
-              kept = h.kept.kept ∙ ap (with_more old.kept) (sym (take_all (length h.kept.entries) h.kept.entries (omega arith)));
-            });
-        made = all_front (given_of start rights) old new made;
-        faults = e;
-      }) same
+      cut_replay old new (inr (stopped_short (given_of start rights) wanted event old new h, made, e)) same
   cut_answer (replays.Done reply) old new h is same = absurd is
   cut_answer (replays.JournalFault node report) old new h is same = absurd is
 

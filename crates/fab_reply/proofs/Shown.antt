@@ -7,9 +7,7 @@ use Rattle.fab_rights.specs.Computed.{has_bit}
 use Rattle.fab_command.specs.declared.command.Command.{Command}
 use Rattle.fab_command.specs.declared.command.Command.TheVariants.{Trust}
 use Rattle.fab_world.specs.Machine.{Move}
-use Rattle.fab_world.specs.Serial.{held_map}
 use Rattle.fab_node.specs.Standing.{GivenModel}
-use Rattle.fab_core.specs.Cores.{setting, world_by}
 use Rattle.fab_replay.specs.Replays.{text_of}
 use Rattle.fab_replay.specs.declared.replayed.Wanted.{Wanted}
 use Rattle.fab_replay.specs.declared.replayed.Wanted.TheVariants.{Report, Run as ByNodes, Trust as Trusted, View as Viewed}

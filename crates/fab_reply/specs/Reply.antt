@@ -49,13 +49,13 @@ pub data Replies : Option Command → List ℕ → Status → List ℕ → Type 
       → Replies (Some (Trust names)) text (Robust x.at x.source x.principal) (robust_line (resolved s) x.at x.source x.principal)
   inferred : {text reply : List ℕ} {status : Status} → Infers text status reply → Replies (Some Infer) text status reply
 
--- Interrupted command text status written: a node's journal failed. In the schedule's run that is what is wanted of the run as it stands; before
--- there is a run nothing is written.
+-- Interrupted command text status written: a node's journal failed. In the schedule's run that is what is wanted of the run as it stands; or
+-- nothing is written, before there is a run or where there is no memory for its text.
 pub data Interrupted : Option Command → List ℕ → Status → List ℕ → Type 0 where
   in_run : {command : Command} {wanted : Wanted} {text reply : List ℕ} {s : Start} {rights : Rights} {node : ℕ}
       → Wants s command wanted → Front text (outcome.Bundle s) → IsAcceptedWith s rights
       → ReplaysTo s rights wanted (replays.JournalFault node (Some reply)) → Interrupted (Some command) text (JournalFault node) reply
-  before : {command : Command} (wanted : Wanted) {text : List ℕ} {s : Start} {rights : Rights} {node : ℕ}
+  without_text : {command : Command} (wanted : Wanted) {text : List ℕ} {s : Start} {rights : Rights} {node : ℕ}
       → Wants s command wanted → Front text (outcome.Bundle s) → IsAcceptedWith s rights → IsTrue (is_honest (given_of s rights) node)
       → Interrupted (Some command) text (JournalFault node) []
 
@@ -129,7 +129,7 @@ JournalsAre (Some (View names)) text old new status reply = AreLeft (View names)
 JournalsAre (Some (Trust names)) text old new status reply = AreLeft (Trust names) text old new status reply
 JournalsAre command text old new status reply = new ≡ old
 
--- Memory ran out: of the journals of a run the first were kept, perhaps none, and their makers haven't failed.
+-- Memory ran out in a run, or before there was one: no journal has failed, and each is given back or counted as lost.
 pub record IsCutReplay (command : Command) (text : List ℕ) (old new : Makers) : Type 0 where
   pub start : Start
   pub rights : Rights

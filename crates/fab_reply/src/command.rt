@@ -184,8 +184,8 @@ pub fn answer<C: Course<Core<M::Item>>, S: Source, K: Sink, M: Journals>(
     ensures write_fault { result ≡ WriteFault → Rose (K.faults sink.old) (K.faults sink.new) }
     ensures write_fault_front { result ≡ WriteFault → RepliesInPart asked (S.left source.old) (S.left source.new) (K.written sink.old) (K.written sink.new) (M.seen journals.old) (M.seen journals.new) }
 
-    // With `Memory` nothing is written, and nothing came of the journals, or the first of those of a run, or of a start that failed, were kept;
-    // or a front of the reply to what was read is written.
+    // With `Memory` nothing is written, and nothing came of the journals, or a run was cut short in which none failed, and each is given back or
+    // counted as lost; or some front of the reply to what was read is written, perhaps none of it, over the journals as its run left them.
     ensures memory { result ≡ Memory → (Keeps (K.written sink.old) (K.written sink.new) × AreCut asked (S.left source.old) (S.left source.new) (M.seen journals.old) (M.seen journals.new)) ⊎ RepliesInPart asked (S.left source.old) (S.left source.new) (K.written sink.old) (K.written sink.new) (M.seen journals.old) (M.seen journals.new) }
     ensures source_faults { S.faults source.old ≤ S.faults source.new }
     ensures sink_faults { K.faults sink.old ≤ K.faults sink.new }
@@ -196,7 +196,7 @@ pub fn answer<C: Course<Core<M::Item>>, S: Source, K: Sink, M: Journals>(
 
     // With `Ok` of a command that makes a run, and where a journal failed in its run, the text that it wants of that
     // run was written, for `replay` the report and for `run` what it tells, and the headline holds of the run, integrity, trusted replay and isolation.
-    // Where a journal failed before there was a run, nothing was written.
+    // Where a journal failed before there was a run, or there was no memory for the run's text, nothing was written.
     ensures headline { MakesRuns asked → result ≡ Done → Headline asked (IsWholeFor asked) (S.left source.old) (S.left source.new) (K.written sink.old) (K.written sink.new) }
     ensures headline_of_a_part { (node : ℕ) → result ≡ JournalFault node
         → Keeps (K.written sink.old) (K.written sink.new) ⊎ Headline asked (IsPartFor asked node) (S.left source.old) (S.left source.new) (K.written sink.old) (K.written sink.new) }

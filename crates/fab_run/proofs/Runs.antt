@@ -7,7 +7,7 @@ use Rattle.fab_node.specs.Standing.{JournalModel}
 use Rattle.fab_core.specs.Cores.{CoreModel, setting, slot}
 use Rattle.fab_exchange.specs.Exchanges as exchange
 use Rattle.fab_exchange.specs.Turns.{AreAsSure, AreOver}
-use Rattle.fab_replay.specs.Courses.{HasRun}
+use Rattle.fab_replay.specs.Courses.{HasRun, HasStopped}
 use Rattle.fab_replay.specs.Running.{AreMarked}
 
 -- a mark stands exactly where a journal failed
@@ -24,3 +24,8 @@ has_run first last same sure lined over marked = record {
   marked = are_marked last.moves last.journals marked;
   sure = sure;
 }
+
+pub has_stopped : (first last : CoreModel) → last.given ≡ first.given → AreAsSure first.journals last.journals
+    → KeepsLines (setting last.given) (lines_of last.given.program) last.moves
+    → ((n : ℕ) → exchange.IsMarked (exchange.has_mark last.moves n) (slot last.journals n)) → HasStopped first last
+has_stopped first last same sure lined marked = record { given = same; lined = lined; marked = are_marked last.moves last.journals marked; sure = sure }

@@ -1,10 +1,10 @@
 //! Runs in which a journal fails: the other nodes go on.
 
 use crate::run_tests::{COMMITTED, EVENTS, PREPARE, TRANSFER, words_of};
+use crate::tests::asked;
 use fab_base::{NoMemory, Seq, SureSink, SureSource, Text};
 use fab_device::MemJournals;
 use fab_gates::OpenGate;
-use fab_top::fab;
 use std::alloc::Global;
 use std::process::Abort;
 use std::sync::Wait;
@@ -57,7 +57,7 @@ fn run_with_fault<R: Abort + Threads + Wait + Sync>(
     let mut fails = Seq::new(alloc);
     fails.push((Text::make(alloc, node)?, call))?;
     let mut journals = MemJournals::with_fails(alloc, fails)?;
-    let status = fab(
+    let status = asked(
         rt,
         alloc,
         &words,

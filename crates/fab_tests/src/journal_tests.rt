@@ -3,12 +3,12 @@
 use crate::replay_tests::{
     COMMITTED, COUNT, DOWN, OPEN, TRANSFER, events_between, lines_between, report_to,
 };
-use crate::tests::words_of;
+use crate::tests::{asked, words_of};
 use fab_base::{NoMemory, Seq, SureSink, SureSource, Text};
-use fab_device::{JournalError, Journals, MemJournals, SureJournal, SureJournals};
+use fab_device::{JournalError, Journals, MemJournal, MemJournals, SureJournal, SureJournals};
 use fab_gates::OpenGate;
-use fab_top::{Status, fab};
-use std::alloc::Global;
+use fab_top::Status;
+use std::alloc::{AllocError, Global};
 use std::process::Abort;
 use std::sync::Wait;
 use std::test::Fail;
@@ -54,7 +54,7 @@ fn replay_with_fault(
     let mut fails = Seq::new(alloc);
     fails.push((Text::make(alloc, node)?, call))?;
     let mut journals = MemJournals::with_fails(alloc, fails)?;
-    let status = fab(
+    let status = asked(
         rt,
         alloc,
         &words,
@@ -258,7 +258,7 @@ fn journals_are_kept(rt: HostRuntime) -> Result<(), Fail> {
     let mut source = SureSource::new(Seq::from_slice(alloc, text.as_str().as_bytes())?);
     let mut sink = SureSink::new(alloc)?;
     let mut journals = SureJournals::new(alloc)?;
-    fab(
+    asked(
         &rt,
         alloc,
         &words,
@@ -293,7 +293,7 @@ impl Journals for Refusing {
 
     type Item = SureJournal;
 
-    ghost seen = { λ s. record { may_fail = None; made = None; kept = None; faults = s.faults } };
+    ghost seen = { λ s. record { may_fail = None; made = None; kept = None; faults = s.faults; lost = 0 } };
 
     fn make(&mut self, node: &str) -> Result<SureJournal, JournalError> {
         if node == self.node {
@@ -311,8 +311,8 @@ impl Journals for Refusing {
     }
 }
 
-/// Where a node's journal can't be made, it is this node's fault, nothing is written, none behind it is made, and none
-/// is kept. Where each can, each is made once, and kept.
+/// Where a node's journal can't be made, it is this node's fault, nothing is written, none behind it is made, and those
+/// before it are kept. Where each can, each is made once, and kept.
 #[test]
 fn journals_cannot_be_made(rt: HostRuntime) -> Result<(), Fail> {
     let alloc = rt.alloc();
@@ -329,7 +329,7 @@ fn journals_cannot_be_made(rt: HostRuntime) -> Result<(), Fail> {
             kept: 0,
             faults: 0,
         };
-        let status = fab(
+        let status = asked(
             &rt,
             alloc,
             &words,
@@ -339,14 +339,76 @@ fn journals_cannot_be_made(rt: HostRuntime) -> Result<(), Fail> {
             &OpenGate,
         );
         assert_eq!(&rt; journals.made, node);
+        assert_eq!(&rt; journals.kept, u32::from(node));
         if node == 2 {
             assert_eq!(&rt; status, Status::Ok);
-            assert_eq!(&rt; journals.kept, 2);
         } else {
             assert_eq!(&rt; status, Status::JournalFault { node });
             assert_eq!(&rt; sink.bytes(), b"".as_slice());
-            assert_eq!(&rt; journals.kept, 0);
         }
+    }
+    Ok(())
+}
+
+/// A maker of journals that wants memory to keep any.
+#[derive(Drop)]
+struct Losing {
+    makers: MemJournals,
+    lost: u64,
+}
+
+impl Journals for Losing {
+    ghost use Rattle.std.specs.Prelude.{None};
+
+    type Item = MemJournal;
+
+    ghost seen = { λ s. record { may_fail = None; made = None; kept = None; faults = 0; lost = s.lost } };
+
+    fn make(&mut self, node: &str) -> Result<MemJournal, JournalError> {
+        self.makers.make(node)
+    }
+
+    fn keep(&mut self, _node: &str, journal: MemJournal) -> Result<(), NoMemory> {
+        drop(journal);
+        self.lost = self.lost.saturating_add(1);
+        Err(AllocError)
+    }
+}
+
+/// Where the maker loses each journal, it is offered all the same, and a journal's fault in the run or at a header is
+/// told, without a text; where none fails, want of memory is.
+#[test]
+fn journals_are_lost(rt: HostRuntime) -> Result<(), Fail> {
+    let alloc = rt.alloc();
+    let schedule = events_between(alloc, 0, COUNT)?;
+    let text = format!(in alloc; "{TRANSFER}{schedule}}}}}")?;
+    let faults = [
+        ("w1", 3, Status::JournalFault { node: 0 }),
+        ("s1", 1, Status::JournalFault { node: 1 }),
+        ("none", 1, Status::Memory),
+    ];
+    for (name, call, wanted) in faults {
+        let words = words_of(alloc, "replay")?;
+        let mut source = SureSource::new(Seq::from_slice(alloc, text.as_str().as_bytes())?);
+        let mut sink = SureSink::new(alloc)?;
+        let mut fails = Seq::new(alloc);
+        fails.push((Text::make(alloc, name)?, call))?;
+        let mut journals = Losing {
+            makers: MemJournals::with_fails(alloc, fails)?,
+            lost: 0,
+        };
+        let status = asked(
+            &rt,
+            alloc,
+            &words,
+            &mut source,
+            &mut sink,
+            &mut journals,
+            &OpenGate,
+        );
+        assert_eq!(&rt; status, wanted);
+        assert_eq!(&rt; sink.bytes(), b"".as_slice());
+        assert_eq!(&rt; journals.lost, 2);
     }
     Ok(())
 }

@@ -1,9 +1,9 @@
 //! Runs and their reports.
 
+use crate::tests::asked;
 use fab_base::{NoMemory, Seq, SureSink, SureSource};
 use fab_device::SureJournals;
 use fab_gates::{Gate, OpenGate};
-use fab_top::fab;
 use std::alloc::Global;
 use std::process::Abort;
 use std::sync::Wait;
@@ -63,7 +63,7 @@ pub(crate) fn report_with<R: Abort + Threads + Wait + Sync, G: Gate + Sync>(
     let mut source = SureSource::new(Seq::from_slice(alloc, text.as_bytes())?);
     let mut sink = SureSink::new(alloc)?;
     let mut journals = SureJournals::new(alloc)?;
-    let status = fab(
+    let status = asked(
         rt,
         alloc,
         &words,

@@ -1,10 +1,10 @@
 //! Runs whose report can't be written whole.
 
 use crate::run_tests::{COMMITTED, EVENTS, PREPARE, TRANSFER, words_of};
+use crate::tests::asked;
 use fab_base::{MemSink, Seq, SureSource};
 use fab_device::SureJournals;
 use fab_gates::OpenGate;
-use fab_top::fab;
 use std::test::Fail;
 
 /// The sink's first calls fail in turn: status 3, and a front of the report is written; a sink that fails later than
@@ -23,7 +23,7 @@ fn sinks_fail(rt: HostRuntime) -> Result<(), Fail> {
         fails.push(call)?;
         let mut sink = MemSink::with_fails(alloc, fails)?;
         let mut journals = SureJournals::new(alloc)?;
-        let status = fab(
+        let status = asked(
             &rt,
             alloc,
             &words,

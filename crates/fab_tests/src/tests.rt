@@ -4,8 +4,8 @@ ghost use Rattle.std.specs.Prelude.{Some};
 use fab_base::{
     Failed, MemSink, MemSource, NoMemory, Seq, Sink, SinkError, Source, SureSink, SureSource, What,
 };
-use fab_device::SureJournals;
-use fab_gates::OpenGate;
+use fab_device::{Journals, SureJournals};
+use fab_gates::{Gate, OpenGate};
 use fab_top::{Status, fab};
 use std::alloc::Global;
 use std::process::Abort;
@@ -14,6 +14,19 @@ use std::test::Fail;
 use std::thread::Threads;
 
 const SMALLEST: &str = "worker w1;store s1;run{}";
+
+/// What `fab` comes to. It has no contract, so that no test is proved over the clauses of `fab`, of which none asks for one.
+pub(crate) fn asked<R: Threads + Wait + Sync, S: Source, K: Sink, M: Journals, G: Gate + Sync>(
+    rt: &R,
+    alloc: Global,
+    words: &[String],
+    source: &mut S,
+    sink: &mut K,
+    journals: &mut M,
+    gate: &G,
+) -> Status {
+    fab(rt, alloc, words, source, sink, journals, gate)
+}
 
 /// The words of a command line.
 pub(crate) fn words_of(alloc: Global, words: &str) -> Result<Vec<String>, NoMemory> {
@@ -33,7 +46,7 @@ fn other_words(rt: HostRuntime) -> Result<(), Fail> {
     let mut source = MemSource::with_fails(alloc, text, Seq::from_slice(alloc, &[1])?)?;
     let mut sink = SureSink::new(alloc)?;
     let mut journals = SureJournals::new(alloc)?;
-    let status = fab(
+    let status = asked(
         &rt,
         alloc,
         &words,
@@ -55,7 +68,7 @@ fn second_read_fails(rt: HostRuntime) -> Result<(), Fail> {
     let mut source = MemSource::with_fails(alloc, text, Seq::from_slice(alloc, &[2])?)?;
     let mut sink = SureSink::new(alloc)?;
     let mut journals = SureJournals::new(alloc)?;
-    let status = fab(
+    let status = asked(
         &rt,
         alloc,
         &words,
@@ -105,7 +118,7 @@ fn pieces_of_65_536_bytes(rt: HostRuntime) -> Result<(), Fail> {
     };
     let mut sink = SureSink::new(alloc)?;
     let mut journals = SureJournals::new(alloc)?;
-    let status = fab(
+    let status = asked(
         &rt,
         alloc,
         &words,
@@ -169,7 +182,7 @@ fn expect_front(
         faults: 0,
     };
     let mut journals = SureJournals::new(alloc)?;
-    let status = fab(
+    let status = asked(
         rt,
         alloc,
         &words,
@@ -217,7 +230,7 @@ fn a_refusal_is_not_written(rt: HostRuntime) -> Result<(), Fail> {
     let mut source = SureSource::new(Seq::from_slice(alloc, b"run")?);
     let mut sink = MemSink::with_fails(alloc, Seq::from_slice(alloc, &[1])?)?;
     let mut journals = SureJournals::new(alloc)?;
-    let status = fab(
+    let status = asked(
         &rt,
         alloc,
         &words,
@@ -259,7 +272,7 @@ fn nothing_is_taken(rt: HostRuntime) -> Result<(), Fail> {
     let mut source = SureSource::new(Seq::from_slice(alloc, SMALLEST.as_bytes())?);
     let mut sink = Full { faults: 0 };
     let mut journals = SureJournals::new(alloc)?;
-    let status = fab(
+    let status = asked(
         &rt,
         alloc,
         &words,

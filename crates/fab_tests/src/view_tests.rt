@@ -1,11 +1,10 @@
 //! Views and trusted replays that can't be written whole, or whose run a journal's fault ends.
 
 use crate::replay_tests::{COUNT, TRANSFER, events_between};
-use crate::tests::{expect_fronts, words_of};
+use crate::tests::{asked, expect_fronts, words_of};
 use fab_base::{NoMemory, Seq, SureSink, SureSource, Text};
 use fab_device::MemJournals;
 use fab_gates::OpenGate;
-use fab_top::fab;
 use std::alloc::Global;
 use std::test::Fail;
 
@@ -44,7 +43,7 @@ fn view_to_a_fault(rt: HostRuntime) -> Result<(), Fail> {
         let mut fails = Seq::new(alloc);
         fails.push((Text::make(alloc, "w1")?, call))?;
         let mut journals = MemJournals::with_fails(alloc, fails)?;
-        let found = fab(
+        let found = asked(
             &rt,
             alloc,
             &words,
@@ -87,7 +86,7 @@ fn trust_to_a_fault(rt: HostRuntime) -> Result<(), Fail> {
         let mut fails = Seq::new(alloc);
         fails.push((Text::make(alloc, node)?, call))?;
         let mut journals = MemJournals::with_fails(alloc, fails)?;
-        let found = fab(
+        let found = asked(
             &rt,
             alloc,
             &words,

@@ -1,5 +1,5 @@
 //! One thread alone: it takes the turns that are left.
-ghost use Rattle.std.specs.Prelude.{◌≡◌, ℕ, ◌+◌, IfOk};
+ghost use Rattle.std.specs.Prelude.{◌≡◌, ℕ, ◌+◌, IfOk, IfErr};
 ghost use Rattle.fab_threads.specs.Counts.{OnOver, acted_turn};
 
 use crate::evaluating::evaluate_at;
@@ -38,23 +38,29 @@ fn turn_alone<X: Turning, G: Gate>(
     }
 }
 
-/// Takes turns until all is over, of one node after the other, of each until nothing of it is due. How many events came.
+/// Takes turns until all is over, of one node after the other, of each until nothing of it is due. How many events came. Without memory what
+/// takes turns is handed back.
 pub(crate) fn finish<X: Turning, R: Wait, G: Gate>(
     rt: &R,
     alloc: Global,
     held: X,
     gate: &G,
-) -> Result<(X, u64), NoMemory>
+) -> Result<(X, u64), X>
     ensures given { IfOk result (λ r. X.given r.0 ≡ X.given held) }
     ensures sure { IfOk result (λ r. (n : ℕ) → X.sure r.0 n ≡ X.sure held n) }
     ensures counted { IfOk result (λ r. X.events r.0 ≡ X.events held + r.1) }
     ensures over { IfOk result (λ r. X.over r.0) }
+    ensures back_given { IfErr result (λ back. X.given back ≡ X.given held) }
+    ensures back_sure { IfErr result (λ back. (n : ℕ) → X.sure back n ≡ X.sure held n) }
 {
     let mut held = held;
     let mut own = 0_u64;
     let mut node = 0;
     for _ in rt.forever() {
-        match turn_alone(alloc, &mut held, gate, node)? {
+        let Ok(turn) = turn_alone(alloc, &mut held, gate, node) else {
+            return Err(held);
+        };
+        match turn {
             Turn::Acted => {
                 let _events = held.len();
                 own += 1;

@@ -1,5 +1,5 @@
 //! The threads, what each gives back, and the run when they have returned.
-ghost use Rattle.std.specs.Prelude.{◌≡◌, ◌+◌, ◌^◌, ◌<◌, ℕ, [], sum, length, vec_len, IfNone, IfOk, IfSome};
+ghost use Rattle.std.specs.Prelude.{◌≡◌, ◌+◌, ◌^◌, ◌<◌, ◌≤◌, ℕ, [], sum, length, vec_capacity, vec_len, IfErr, IfNone, IfOk, IfSome, OnOk};
 ghost use Rattle.fab_exchange.specs.Turns.{AreAsSure, AreOver};
 ghost use Rattle.fab_threads.specs.Counts.{IsReady};
 
@@ -151,7 +151,45 @@ fn work<X: Turning, N: RunName, R: Wait, G: Gate>(
     ran_with(share, count)
 }
 
-/// The threads, under a name.
+/// A thread's beginning for each of these nodes, with a part each of the shares, which all have.
+fn workers_of<N: RunName>(
+    alloc: Global,
+    nodes: &[u16],
+    all: &mut Share<N>,
+) -> Result<Vec<Worker<N>>, NoMemory>
+    requires parts { all.old.parts ≡ length nodes.now + 1 }
+    requires nothing { all.old.amount ≡ 0 }
+    ensures parts { OnOk result (all.new.parts ≡ 1) }
+    ensures nothing { all.new.amount ≡ 0 }
+    ensures many { IfOk result (λ workers. vec_len workers ≡ length nodes.now) }
+{
+    let mut workers = Vec::new(alloc);
+    for place in 0..nodes.len() {
+        let share = all.split_off(1, 0);
+        workers.push(worker_of(nodes[place], share))?;
+    }
+    Ok(workers)
+}
+
+/// What the threads counted, whose parts all have again. The vector has a place for each.
+fn counts_of<N: RunName>(rans: Vec<Ran<N>>, all: &mut Share<N>, places: Vec<u64>) -> Vec<u64>
+    requires parts { all.old.parts ≡ 1 }
+    requires nothing { all.old.amount ≡ 0 }
+    requires none { vec_len places ≡ 0 }
+    requires room { vec_len rans ≤ vec_capacity places }
+    ensures parts { all.new.parts ≡ vec_len rans + 1 }
+    ensures amount { all.new.amount ≡ sum result.items }
+    ensures many { vec_len result ≡ vec_len rans }
+{
+    let mut counts = places;
+    for Ran { share, count } in rans {
+        all.merge(share);
+        counts.push_reserved(count);
+    }
+    counts
+}
+
+/// The threads, under a name. Without memory what takes turns is handed back, once all of them have returned.
 fn run_named<X: Turning + Send, N: RunName + Send + Sync, R: Threads + Wait + Sync, G: Gate + Sync>(
     rt: &R,
     alloc: Global,
@@ -159,7 +197,7 @@ fn run_named<X: Turning + Send, N: RunName + Send + Sync, R: Threads + Wait + Sy
     nodes: &[u16],
     gate: &G,
     blank: Blank,
-) -> Result<(X, Vec<u64>), NoMemory>
+) -> Result<(X, Vec<u64>), X>
     requires given { X.given held ≡ N.given }
     requires sure { (n : ℕ) → X.sure held n ≡ N.sure n }
     requires empty { X.events held ≡ 0 }
@@ -170,49 +208,59 @@ fn run_named<X: Turning + Send, N: RunName + Send + Sync, R: Threads + Wait + Sy
     ensures sure { IfOk result (λ r. (n : ℕ) → X.sure r.0 n ≡ N.sure n) }
     ensures threads { IfOk result (λ r. vec_len r.1 ≡ length nodes.now) }
     ensures counted { IfOk result (λ r. X.events r.0 ≡ sum r.1.items) }
+    ensures back_given { IfErr result (λ back. X.given back ≡ N.given) }
+    ensures back_sure { IfErr result (λ back. (n : ℕ) → X.sure back n ≡ N.sure n) }
 {
     let (book, mut all) = blank.open::<N>();
-    let mut workers = Vec::new(alloc);
-    for place in 0..nodes.len() {
-        let share = all.split_off(1, 0);
-        workers.push(worker_of(nodes[place], share))?;
+    let Ok(workers) = workers_of(alloc, nodes, &mut all) else {
+        return Err(held);
+    };
+    let Ok(bells) = Bells::make(alloc) else {
+        return Err(held);
+    };
+    let mut places = Vec::new(alloc);
+    if places.reserve(nodes.len()).is_err() {
+        return Err(held);
     }
-    let bells = Bells::make(alloc)?;
     let shared = Mutex::new(Shared::new(held, book));
-    let rans = thread::map_vec(rt, workers, &|w| work(rt, alloc, &shared, &bells, gate, w))?;
-    let mut counts = Vec::new(alloc);
-    for Ran { share, count } in rans {
-        all.merge(share);
-        counts.push(count)?;
-    }
+    let Ok(rans) = thread::map_vec(rt, workers, &|w| work(rt, alloc, &shared, &bells, gate, w)) else {
+        return Err(shared.into_inner().into_held());
+    };
+    let counts = counts_of(rans, &mut all, places);
     let held = shared.into_inner().close(&mut all);
     Ok((held, counts))
 }
 
 /// Runs an exchange until it is over: a thread for each of these nodes, and what they leave by the calling thread. The counts of all
-/// threads and of the calling one add up to the events of the run.
+/// threads and of the calling one add up to the events of the run. Without memory the exchange is handed back as it then is.
 pub fn run_threads<J: Journal + Drop + Send, R: Threads + Wait + Sync, G: Gate + Sync>(
     rt: &R,
     alloc: Global,
     exchange: Exchange<J>,
     nodes: &[u16],
     gate: &G,
-) -> Result<Finished<J>, NoMemory>
+) -> Result<Finished<J>, Exchange<J>>
     requires { exchange.moves ≡ [] }
     ensures given { IfOk result (λ x. x.exchange.given ≡ exchange.given) }
     ensures sure { IfOk result (λ x. AreAsSure exchange.journals x.exchange.journals) }
     ensures over { IfOk result (λ x. AreOver x.exchange.given x.exchange.moves) }
     ensures threads { IfOk result (λ x. vec_len x.counts ≡ length nodes.now) }
     ensures counted { IfOk result (λ x. length x.exchange.moves ≡ sum x.counts.items + x.own) }
+    ensures back_given { IfErr result (λ back. back.given ≡ exchange.given) }
+    ensures back_sure { IfErr result (λ back. AreAsSure exchange.journals back.journals) }
 {
     let blank = Blank::new(nodes.len() as u64 + 1);
-    let (exchange, counts) = run_named::<Exchange<J>, Brand, R, G>(
-        rt, alloc, exchange, nodes, gate, blank,
-    )?;
-    let (exchange, own) = finish(rt, alloc, exchange, gate)?;
-    Ok(Finished {
-        exchange,
-        counts,
-        own,
-    })
+    let run = run_named::<Exchange<J>, Brand, R, G>(rt, alloc, exchange, nodes, gate, blank);
+    let (exchange, counts) = match run {
+        Ok(run) => run,
+        Err(back) => return Err(back),
+    };
+    match finish(rt, alloc, exchange, gate) {
+        Ok((exchange, own)) => Ok(Finished {
+            exchange,
+            counts,
+            own,
+        }),
+        Err(back) => Err(back),
+    }
 }

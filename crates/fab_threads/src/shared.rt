@@ -83,6 +83,15 @@ impl<X: Turning, N: RunName> Shared<X, N> {
         given
     }
 
+    /// What is held, of the named start still, whatever came of it.
+    pub fn into_held(self) -> X
+        ensures given { X.given result ≡ N.given }
+        ensures sure { (n : ℕ) → X.sure result n ≡ N.sure n }
+    {
+        let Shared { held, .. } = self;
+        held
+    }
+
     /// What is held, of the named start still, with as many events as a share with every part counts.
     pub fn close(self, all: &mut Share<N>) -> X
         requires { all.old.parts ≡ N.parts }
@@ -95,6 +104,7 @@ impl<X: Turning, N: RunName> Shared<X, N> {
         book.audit(all);
         held
     }
+
     /// A turn of a node, and what its thread does behind it.
     pub fn turn(&mut self, node: u16, mine: &mut Share<N>) -> (Result<Turn, NoMemory>, Aside)
         requires part { 0 < mine.old.parts }

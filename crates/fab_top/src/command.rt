@@ -77,8 +77,8 @@ pub fn plain<S: Source, K: Sink, M: Journals>(
     ensures write_fault { result ≡ WriteFault → Rose (K.faults sink.old) (K.faults sink.new) }
     ensures write_fault_front { IsReplied (asked_by words.now) → result ≡ WriteFault → RepliesInPart (command_in (asked_by words.now)) (input_of (asked_by words.now) (S.left source.old)) (rest_of (asked_by words.now) (S.left source.new)) (K.written sink.old) (K.written sink.new) (M.seen journals.old) (M.seen journals.new) }
 
-    // With `Memory` nothing is written, and nothing came of the journals, or the first of those of a run, or of a start that failed, were kept;
-    // or a front of the reply to what was read is written.
+    // With `Memory` nothing is written, and nothing came of the journals, or a run was cut short in which none failed, and each is given back or
+    // counted as lost; or some front of the reply to what was read is written, perhaps none of it, over the journals as its run left them.
     ensures memory { IsReplied (asked_by words.now) → result ≡ Memory → (Keeps (K.written sink.old) (K.written sink.new) × AreCut (command_in (asked_by words.now)) (input_of (asked_by words.now) (S.left source.old)) (rest_of (asked_by words.now) (S.left source.new)) (M.seen journals.old) (M.seen journals.new)) ⊎ RepliesInPart (command_in (asked_by words.now)) (input_of (asked_by words.now) (S.left source.old)) (rest_of (asked_by words.now) (S.left source.new)) (K.written sink.old) (K.written sink.new) (M.seen journals.old) (M.seen journals.new) }
     ensures source_faults { S.faults source.old ≤ S.faults source.new }
     ensures sink_faults { K.faults sink.old ≤ K.faults sink.new }
@@ -89,7 +89,7 @@ pub fn plain<S: Source, K: Sink, M: Journals>(
 
     // With `Ok` of a command that makes a run, and where a journal failed in its run, the text that it wants of that
     // run was written, for `replay` the report, and the headline holds of the run, integrity, trusted replay and isolation.
-    // Where a journal failed before there was a run, nothing was written.
+    // Where a journal failed before there was a run, or there was no memory for the run's text, nothing was written.
     ensures headline { MakesRuns (command_in (asked_by words.now)) → result ≡ Done → Headline (command_in (asked_by words.now)) (IsWholeFor (command_in (asked_by words.now))) (input_of (asked_by words.now) (S.left source.old)) (rest_of (asked_by words.now) (S.left source.new)) (K.written sink.old) (K.written sink.new) }
     ensures headline_of_a_part { (node : ℕ) → result ≡ JournalFault node
         → Keeps (K.written sink.old) (K.written sink.new) ⊎ Headline (command_in (asked_by words.now)) (IsPartFor (command_in (asked_by words.now)) node) (input_of (asked_by words.now) (S.left source.old)) (rest_of (asked_by words.now) (S.left source.new)) (K.written sink.old) (K.written sink.new) }
@@ -159,8 +159,8 @@ pub fn fab<R: Threads + Wait + Sync, S: Source, K: Sink, M: Journals, G: Gate + 
     ensures write_fault { result ≡ WriteFault → Rose (K.faults sink.old) (K.faults sink.new) }
     ensures write_fault_front { IsReplied (asked_by words.now) → result ≡ WriteFault → RepliesInPart (command_in (asked_by words.now)) (input_of (asked_by words.now) (S.left source.old)) (rest_of (asked_by words.now) (S.left source.new)) (K.written sink.old) (K.written sink.new) (M.seen journals.old) (M.seen journals.new) }
 
-    // With `Memory` nothing is written, and nothing came of the journals, or the first of those of a run, or of a start that failed, were kept;
-    // or a front of the reply to what was read is written.
+    // With `Memory` nothing is written, and nothing came of the journals, or a run was cut short in which none failed, and each is given back or
+    // counted as lost; or some front of the reply to what was read is written, perhaps none of it, over the journals as its run left them.
     ensures memory { IsReplied (asked_by words.now) → result ≡ Memory → (Keeps (K.written sink.old) (K.written sink.new) × AreCut (command_in (asked_by words.now)) (input_of (asked_by words.now) (S.left source.old)) (rest_of (asked_by words.now) (S.left source.new)) (M.seen journals.old) (M.seen journals.new)) ⊎ RepliesInPart (command_in (asked_by words.now)) (input_of (asked_by words.now) (S.left source.old)) (rest_of (asked_by words.now) (S.left source.new)) (K.written sink.old) (K.written sink.new) (M.seen journals.old) (M.seen journals.new) }
     ensures source_faults { S.faults source.old ≤ S.faults source.new }
     ensures sink_faults { K.faults sink.old ≤ K.faults sink.new }
@@ -171,7 +171,7 @@ pub fn fab<R: Threads + Wait + Sync, S: Source, K: Sink, M: Journals, G: Gate + 
 
     // With `Ok` of a command that makes a run, and where a journal failed in its run, the text that it wants of that
     // run was written, for `replay` and `run` the report and for `drill` the summary, and the headline holds of the run, integrity, trusted replay and isolation.
-    // Where a journal failed before there was a run, nothing was written.
+    // Where a journal failed before there was a run, or there was no memory for the run's text, nothing was written.
     ensures headline { MakesRuns (command_in (asked_by words.now)) → result ≡ Done → Headline (command_in (asked_by words.now)) (IsWholeFor (command_in (asked_by words.now))) (input_of (asked_by words.now) (S.left source.old)) (rest_of (asked_by words.now) (S.left source.new)) (K.written sink.old) (K.written sink.new) }
     ensures headline_of_a_part { (node : ℕ) → result ≡ JournalFault node
         → Keeps (K.written sink.old) (K.written sink.new) ⊎ Headline (command_in (asked_by words.now)) (IsPartFor (command_in (asked_by words.now)) node) (input_of (asked_by words.now) (S.left source.old)) (rest_of (asked_by words.now) (S.left source.new)) (K.written sink.old) (K.written sink.new) }

@@ -1,35 +1,46 @@
-use Rattle.std.proofs.Common.{◌∙◌}
+use Rattle.std.specs.Prelude.{IfOk, Some, None}
+use Rattle.std.proofs.Common.{sym, subst}
+use Rattle.fab_replay.specs.Replays.{IsTold}
 use Rattle.fab_replay.specs.Running.{seen_by}
-use Rattle.fab_replay.proofs.Ends.{cut_short, ended, is_possible}
-use Rattle.fab_replay.proofs.Numbered.{honest_alike}
-use Rattle.fab_replay.proofs.Viewing.{any_err}
+use Rattle.fab_replay.proofs.Ends.{cut_off, ended, first_possible, is_possible, untold}
+use Rattle.fab_replay.proofs.Marks.{first_of_log}
 use Rattle.fab_replay.proofs.ending.finished.Goals as goal
 
 pub returns-clause-answer : goal.returns-clause-answer
 returns-clause-answer g c =
-    let M = g.M.Journals in
     let J = g.M.Item.Journal in
-    let core = c.args.core in
-    ended (seen_by J.content J.synced J.room J.faults J.sure) core c.deref-2.result.now c.as_slice.result.now c.into_journals.result c.is_a_run.ensures.given c.journals_are.ensures
-    c.requires.marked (c.deref-2.ensures ∙ c.in_ok-program.ensures.cases ∙ c.start-2.ensures)
-    (c.as_slice.ensures ∙ c.in_ok-nodes.ensures ∙ honest_alike core.given c.deref.result.now c.rights.result.now (c.deref.ensures ∙ c.start.ensures) c.rights.ensures) c.into_journals.ensures
-    c.args.wanted.now c.args.answer (M.seen c.args.journals.now) (M.seen c.keep_all.new.journals) c.is_a_run.ensures.run c.requires.answer.told
-    c.requires.sure c.is_integral.ensures c.is_isolated.ensures c.is_trusted.ensures c.in_ok-keep_all.ensures.kept
+    let M = g.M.Journals in
+    let told = subst (λ r. IfOk r (IsTold c.args.core.given c.args.wanted.now c.args.core.moves)) c.in-Ok.is c.requires.answer in
+    ended (seen_by J.content J.synced J.room J.faults J.sure) c.args.core c.args.program.now c.args.nodes.now c.into_journals.result c.is_a_run.ensures.given c.journals_are.ensures c.requires.marked
+    c.requires.program c.requires.nodes c.into_journals.ensures c.args.wanted.now (M.seen c.args.journals.now) (M.seen c.keep_all-kept.new.journals) c.is_a_run.ensures.run
+    c.requires.sure c.is_integral.ensures c.is_isolated.ensures c.is_trusted.ensures c.keep_all-kept.result c.keep_all-kept.ensures.back (sym c.if-is_ok.ensures.value) c.in-Ok.answer told.told
 
 pub returns-clause-possible : goal.returns-clause-possible
 returns-clause-possible g c =
     let M = g.M.Journals in
-    let core = c.args.core in
-    is_possible core.given core.moves core.journals c.requires.marked (M.seen c.args.journals.now).may_fail c.requires.sure c.args.wanted.now c.args.answer c.requires.answer.told
+    let told = subst (λ r. IfOk r (IsTold c.args.core.given c.args.wanted.now c.args.core.moves)) c.in-Ok.is c.requires.answer in
+    is_possible c.args.core.given c.args.core.moves c.args.core.journals c.requires.marked (M.seen c.args.journals.now).may_fail c.requires.sure c.args.wanted.now c.in-Ok.answer told.told
 
-pub returns-in_err-keep_all-clause-memory : goal.returns-in_err-keep_all-clause-memory
-returns-in_err-keep_all-clause-memory g c =
-    let M = g.M.Journals in
+pub returns-in-Some-clause-answer : goal.returns-in-Some-clause-answer
+returns-in-Some-clause-answer g c =
     let J = g.M.Item.Journal in
-    let core = c.args.core in
-    any_err c.from_residual-in_err-keep_all.result
-    (cut_short (seen_by J.content J.synced J.room J.faults J.sure) core c.deref-2.result.now c.as_slice.result.now c.into_journals.result c.is_a_run.ensures.given c.journals_are.ensures
-    c.requires.marked (c.deref-2.ensures ∙ c.in_ok-program.ensures.cases ∙ c.start-2.ensures)
-    (c.as_slice.ensures ∙ c.in_ok-nodes.ensures ∙ honest_alike core.given c.deref.result.now c.rights.result.now (c.deref.ensures ∙ c.start.ensures) c.rights.ensures) c.into_journals.ensures
-    c.args.wanted.now c.args.answer (M.seen c.args.journals.now) (M.seen c.keep_all.new.journals) c.is_a_run.ensures.run c.requires.answer.told
-    c.in_err-keep_all.ensures.part)
+    let M = g.M.Journals in
+    untold (seen_by J.content J.synced J.room J.faults J.sure) c.args.core c.args.program.now c.args.nodes.now c.into_journals.result c.is_a_run.ensures.given c.journals_are.ensures c.requires.marked
+    c.requires.program c.requires.nodes c.into_journals.ensures c.args.wanted.now (M.seen c.args.journals.now) (M.seen c.keep_all-kept.new.journals) c.is_a_run.ensures.run
+    c.keep_all-kept.ensures.back c.requires.on_way c.in-Some.node
+    (first_of_log c.args.core.given c.args.core.moves c.log.result.now c.first_mark-mark.result (Some c.in-Some.node) c.log.ensures c.first_mark-mark.ensures c.in-Some.is)
+
+pub returns-in-Some-clause-possible : goal.returns-in-Some-clause-possible
+returns-in-Some-clause-possible g c =
+    let M = g.M.Journals in
+    first_possible c.args.core.given c.args.core.moves c.args.core.journals c.requires.marked (M.seen c.args.journals.now).may_fail c.requires.sure c.in-Some.node
+    (first_of_log c.args.core.given c.args.core.moves c.log.result.now c.first_mark-mark.result (Some c.in-Some.node) c.log.ensures c.first_mark-mark.ensures c.in-Some.is)
+
+pub returns-2-clause-memory : goal.returns-2-clause-memory
+returns-2-clause-memory g c =
+    let J = g.M.Item.Journal in
+    let M = g.M.Journals in
+    cut_off (seen_by J.content J.synced J.room J.faults J.sure) c.args.core c.args.program.now c.args.nodes.now c.into_journals.result c.is_a_run.ensures.given c.journals_are.ensures c.requires.marked
+    c.requires.program c.requires.nodes c.into_journals.ensures c.args.wanted.now (M.seen c.args.journals.now) (M.seen c.keep_all-kept.new.journals) c.is_a_run.ensures.run
+    c.keep_all-kept.ensures.back c.requires.on_way None
+    (first_of_log c.args.core.given c.args.core.moves c.log.result.now c.first_mark-mark.result None c.log.ensures c.first_mark-mark.ensures c.in-None.is)

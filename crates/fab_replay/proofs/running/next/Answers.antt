@@ -1,6 +1,6 @@
 use Rattle.std.proofs.Common.{◌≡◌, true, rules}
 use Rattle.std.specs.Option.{option_copied}
-use Rattle.fab_replay.proofs.Behind.{then_event}
+use Rattle.fab_replay.proofs.Behind.{then_event, then_none}
 use Rattle.fab_replay.proofs.Steps.{came_after, still_may, still_with}
 use Rattle.fab_replay.proofs.running.next.Goals as goal
 
@@ -21,3 +21,7 @@ returns-clause-came g c =
 pub returns-clause-journals : goal.returns-clause-journals
 returns-clause-journals g c =
     then_event c.args.event c.enact.result c.args.core.now.journals c.enabled.new.self.journals c.enact.new.core.journals c.enabled.ensures.journals c.enact.ensures.journals
+
+pub returns-clause-still : goal.returns-clause-still
+returns-clause-still g c =
+    then_none c.enact.result c.args.core.now.journals c.enabled.new.self.journals c.enact.new.core.journals c.enabled.ensures.journals c.enact.ensures.still

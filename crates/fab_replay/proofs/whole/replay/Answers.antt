@@ -1,13 +1,13 @@
-use Rattle.std.proofs.Common.{None, sym, subst}
+use Rattle.std.proofs.Common.{None, sym, subst, inl}
 use Rattle.fab_device.specs.Kept.{CannotFail}
 use Rattle.fab_language.specs.Words.{node_text}
 use Rattle.fab_core.specs.Starts.{given_by}
-use Rattle.fab_replay.specs.Kept.{IsReplayed}
-use Rattle.fab_replay.specs.Making.{HasNoJournal, IsStartShort}
+use Rattle.fab_replay.specs.Kept.{IsReplayed, IsStartShort}
+use Rattle.fab_replay.specs.Making.{HasNoJournal}
 use Rattle.fab_replay.specs.Running.{AreUnfailed}
 use Rattle.fab_replay.specs.declared.replayed.Replayed.TheVariants as r
 use Rattle.fab_replay.proofs.Ends.{ran_short, ran_to}
-use Rattle.fab_replay.proofs.Starting.{cut_at_start, no_start}
+use Rattle.fab_replay.proofs.Starting.{no_start}
 use Rattle.fab_replay.proofs.whole.replay.Goals as goal
 
 pub returns-in-Err-Failed-clause-answer : goal.returns-in-Err-Failed-clause-answer
@@ -33,10 +33,8 @@ pub returns-in-Err-Memory-clause-memory : goal.returns-in-Err-Memory-clause-memo
 returns-in-Err-Memory-clause-memory g c =
     let M = g.M.Journals in
     let given = given_by c.args.program.value c.args.rights in
-    let old = M.seen c.args.journals.now in
-    let new = M.seen c.started.new.journals in
-    let h : IsStartShort given old new = rw c.in-Err-Memory.field-0-is at c.in-Err-Memory.ensures.failed in
-    cut_at_start given old new c.args.wanted.now h
+    let h : IsStartShort given (M.seen c.args.journals.now) (M.seen c.started.new.journals) = rw c.in-Err-Memory.field-0-is at c.in-Err-Memory.ensures.failed in
+    inl h
 
 pub over-requires-clause-unfailed : goal.over-requires-clause-unfailed
 over-requires-clause-unfailed g c κs within =
@@ -45,13 +43,11 @@ over-requires-clause-unfailed g c κs within =
 pub returns-in-Ok-clause-answer : goal.returns-in-Ok-clause-answer
 returns-in-Ok-clause-answer g c =
     let M = g.M.Journals in
-    ran_to (given_by c.args.program.value c.args.rights) c.in-Ok.core.given c.in-Ok.ensures.given c.args.wanted.now c.over.result (M.seen c.args.journals.now) (M.seen c.started.new.journals)
-    (M.seen c.over.new.journals) (record { told = c.in-Ok.ensures.told; made = c.in-Ok.ensures.made; kept = c.in-Ok.ensures.kept; same = c.in-Ok.ensures.same }) c.over.ensures.made
-    c.over.ensures.faults c.over.ensures.answer
+    ran_to (given_by c.args.program.value c.args.rights) c.in-Ok.core.given c.in-Ok.ensures.given c.args.wanted.now (M.seen c.args.journals.now) (M.seen c.started.new.journals)
+    (M.seen c.over.new.journals) c.in-Ok.ensures.made c.over.ensures.made c.over.ensures.faults c.over.result c.over.ensures.answer
 
 pub returns-in-Ok-clause-memory : goal.returns-in-Ok-clause-memory
 returns-in-Ok-clause-memory g c =
     let M = g.M.Journals in
-    ran_short (given_by c.args.program.value c.args.rights) c.in-Ok.core.given c.in-Ok.ensures.given c.args.wanted.now c.over.result (M.seen c.args.journals.now) (M.seen c.started.new.journals)
-    (M.seen c.over.new.journals) (record { told = c.in-Ok.ensures.told; made = c.in-Ok.ensures.made; kept = c.in-Ok.ensures.kept; same = c.in-Ok.ensures.same }) c.over.ensures.made
-    c.over.ensures.faults c.over.ensures.memory
+    ran_short (given_by c.args.program.value c.args.rights) c.in-Ok.core.given c.in-Ok.ensures.given c.args.wanted.now (M.seen c.args.journals.now) (M.seen c.started.new.journals)
+    (M.seen c.over.new.journals) c.in-Ok.ensures.made c.over.ensures.made c.over.ensures.faults c.over.result c.over.ensures.memory

@@ -1,13 +1,30 @@
-use Rattle.std.proofs.Common.{◌≡◌, sym, subst}
+use Rattle.std.proofs.Common.{sym, subst}
 use Rattle.fab_core.specs.Cores.{CoreModel}
-use Rattle.fab_replay.specs.Courses.{HasRun}
-use Rattle.fab_run.proofs.Runs.{has_run}
+use Rattle.fab_replay.specs.Courses.{HasRun, HasStopped}
+use Rattle.fab_replay.proofs.Stopping.{not_begun}
+use Rattle.fab_run.proofs.Runs.{has_run, has_stopped}
 use Rattle.fab_run.proofs.running.by_threads.Goals as goal
 
-pub returns : goal.returns
-returns g c =
-    let first : CoreModel = c.in_ok-exchange.exchange in
-    let last : CoreModel = c.in_ok-finished.finished.exchange in
-    let told = c.in_ok-finished.ensures in
+pub returns-in_default-clause-back : goal.returns-in_default-clause-back
+returns-in_default-clause-back g c = not_begun c.args.core (record { moves = c.requires.start; unfailed = c.requires.unfailed })
+
+pub returns-in-Err-clause-back : goal.returns-in-Err-clause-back
+returns-in-Err-clause-back g c =
+    subst (λ (x : CoreModel). HasStopped c.args.core x) (sym c.in-Err.ensures.back) (not_begun c.args.core (record { moves = c.requires.start; unfailed = c.requires.unfailed }))
+
+pub returns-in-Ok-run_threads-clause-run : goal.returns-in-Ok-run_threads-clause-run
+returns-in-Ok-run_threads-clause-run g c =
+    let first : CoreModel = c.in-Ok-make.exchange in
+    let last : CoreModel = c.in-Ok-run_threads.finished.exchange in
+    let told = c.in-Ok-run_threads.ensures in
     let ran : HasRun first last = has_run first last told.given told.sure c.marks.ensures.lined told.over c.marks.ensures.marked in
-    subst (λ (x : CoreModel). HasRun x c.into_core.result) c.in_ok-exchange.ensures (subst (λ (x : CoreModel). HasRun first x) (sym c.into_core.ensures) ran)
+    subst (λ (x : CoreModel). HasRun x c.into_core.result) c.in-Ok-make.ensures.made (subst (λ (x : CoreModel). HasRun first x) (sym c.into_core.ensures) ran)
+
+pub returns-clause-back : goal.returns-clause-back
+returns-clause-back g c =
+    let first : CoreModel = c.in-Ok-make.exchange in
+    let last : CoreModel = c.in-Err-run_threads.exchange in
+    let told = c.in-Err-run_threads.ensures in
+    let ran : HasStopped first last = has_stopped first last told.back_given told.back_sure c.marks-in-Err-run_threads.ensures.lined c.marks-in-Err-run_threads.ensures.marked in
+    subst (λ (x : CoreModel). HasStopped x c.into_core-in-Err-run_threads.result) c.in-Ok-make.ensures.made
+    (subst (λ (x : CoreModel). HasStopped first x) (sym c.into_core-in-Err-run_threads.ensures) ran)

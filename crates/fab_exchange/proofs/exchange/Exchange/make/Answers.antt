@@ -5,4 +5,4 @@ use Rattle.fab_exchange.proofs.exchange.Exchange.make.Goals as goal
 
 pub invariant_of-result : goal.invariant_of-result
 invariant_of-result g c =
-    start_is c.args.core c.in_ok-nodes.nodes.items c.in_ok-counts.counts.items c.requires.start c.requires.unfailed (c.in_ok-nodes.ensures ∙ ap nodes_in c.rights.ensures) c.in_ok-counts.ensures
+    start_is c.args.core c.in-Ok.nodes.items c.in-Ok-counts_at_start.counts.items c.requires.start c.requires.unfailed (c.in-Ok.ensures ∙ ap nodes_in c.rights.ensures) c.in-Ok-counts_at_start.ensures
