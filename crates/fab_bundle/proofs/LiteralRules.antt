@@ -16,7 +16,7 @@ use Rattle.fab_tree.specs.Runs.{IsNegated, negative, least, IsLiteral, number, n
 use Rattle.fab_reading.specs.Reading.{Lacks, Starts, Read, Refused, Deep, Stops, SameHead, Follows, any, begins_name, begins_numeral, begins_negated, begins_literal}
 use Rattle.fab_bundle.specs.Firsts.{numeral_begins, negated_begins, literal_begins}
 use Rattle.fab_reading.proofs.ItemRules.{same_starts}
-use Rattle.fab_reading.proofs.Rules.{Then, Sign, HasText, Going, start, turn, leaf, token_of, same_sign, never, here}
+use Rattle.fab_reading.proofs.Rules.{HasText, Going, start, turn, behind_mark, leaf, token_of, never, here}
 
 -- ---- numbers
 
@@ -70,14 +70,14 @@ null_only e (root (name g)) = absurd (cc)
 pub null_read : {room : ℕ} {a b : List Token} → Is m.Null a b → Read IsLiteral any room a literals.Null b
 null_read {room = room} (is e) = leaf refl (ap (λ x. room_by x room) e) (λ more. null (is e)) (λ more v after d. null_only e d)
 
-negated_back : {a c : List Token} {v : Literal} {b : List Token} → Is m.Minus a c → IsLiteral a v b → (x : Unit {0} × ℤ) × (v ≡ literals.Int x.1) × Then (Sign m.Minus) IsNegated a x b
-negated_back (is e) (number (numeral g h)) = absurd (cc)
-negated_back i (negated {b = d} {n = n} j p) = ((tt, n), refl, record { mid = d; first = j; second = p })
-negated_back (is e) (null (is g)) = absurd (cc)
-negated_back (is e) (root (name g)) = absurd (cc)
+negated_back : {t : Token} {a : List Token} {v : Literal} {b : List Token} → t.kind ≡ k.Fixed m.Minus → IsLiteral (t ∷ a) v b → (x : ℤ) × (v ≡ literals.Int x) × IsNegated a x b
+negated_back e (number (numeral g h)) = absurd (cc)
+negated_back e (negated {n = n} (is g) p) = (n, refl, p)
+negated_back e (null (is g)) = absurd (cc)
+negated_back e (root (name g)) = absurd (cc)
 
-pub negated_start : {room : ℕ} (a : List Token) {c : List Token} → Is m.Minus a c → Going IsLiteral any room a (Then (Sign m.Minus) IsNegated) (λ v. literals.Int v.1) room a
-negated_start {room = room} a i = turn (λ v. literals.Int v.1) (start IsLiteral any room a) (λ more v after p. negated p.first p.second) (λ more v after same p h. negated_back (same_sign a more i same).1 p)
+pub negated_start : {room : ℕ} {a c : List Token} → Is m.Minus a c → Going IsLiteral any room a IsNegated literals.Int room c
+negated_start i = behind_mark (λ at. literals.Int) i refl (λ t e more v after p. negated (is e) p) (λ t e more u after d h. negated_back e d)
 
 named_back : {a : List Token} {v : Literal} {b : List Token} → Starts begins_name a → IsLiteral a v b → (y : Name) × (v ≡ literals.Root y) × IsName a y b
 named_back s (number (numeral g h)) = absurd (never (subst (λ x. IsTrue (begins_name x)) g s))

@@ -1,5 +1,5 @@
 -- A whole text, part by part, and where it is refused.
-use Rattle.std.proofs.Common.{◌≡◌, ℕ, ◌+◌, ◌-◌, ◌<◌, Bool, None, Some, option_and_then, IsSome, IsTrue, List, [], ◌∷◌, ◌++◌, length, refl, sym, ap, ◌∙◌, subst, append_assoc, append-nil, length-append, arith}
+use Rattle.std.proofs.Common.{◌≡◌, ℕ, ◌-◌, ◌<◌, Bool, None, Some, option_and_then, IsSome, IsTrue, List, [], ◌∷◌, ◌++◌, length, refl, sym, ap, ◌∙◌, subst, append_assoc, append-nil, length-append, arith}
 use Rattle.fab_base.specs.declared.limit.What.{What}
 use Rattle.fab_base.specs.declared.token.Mark.{Mark}
 use Rattle.fab_base.specs.declared.token.Mark.TheVariants as m
@@ -15,90 +15,19 @@ use Rattle.fab_tree.specs.declared.start.Session.{Session}
 use Rattle.fab_tree.specs.declared.start.Start.{Start}
 use Rattle.fab_tree.specs.Depth.{room_after, room_by, KeepsDepth}
 use Rattle.fab_tree.specs.Limits.{first_passed}
-use Rattle.fab_tree.specs.Lists.{Is, Repeated, no_more, one_more}
+use Rattle.fab_tree.specs.Lists.{Repeated, no_more, one_more}
 use Rattle.fab_tree.specs.Programs.{IsProgram, program}
 use Rattle.fab_tree.specs.Runs.{IsRoot, IsSession, session, IsPost, post, IsCrash, crash, IsCache, no_cache, cache, IsSchedule, no_schedule, schedule}
 use Rattle.fab_tree.specs.Syntax.{IsStart, IsText, start}
 use Rattle.fab_reading.specs.Reading.{BeginsWith, SameHead, Follows, Read, Refused, Deep, any, nothing, begins_root, begins_session, behind_list}
-use Rattle.fab_reading.proofs.ListRules.{repeated_text}
-use Rattle.fab_parser.specs.Pieces.{after_program}
-use Rattle.fab_bundle.specs.Pieces.{begins_post, begins_crash, after_crashes, after_cache}
+use Rattle.fab_bundle.specs.Pieces.{begins_post, begins_crash, after_crashes}
 use Rattle.fab_bundle.specs.Texts.{BadNext, BadToken, BadBracket, TooMany}
-use Rattle.fab_reading.proofs.Rules.{Then, End, Sign, HasText, Going, turn, sign, part, ending, end_text, sign_text, then_text, extra, any_follows, sign_follows, begins_at, room_append, opened, closed, followed}
+use Rattle.fab_reading.proofs.Rules.{Then, Sign, HasText, Going, part, ending, extra, any_follows, sign_follows, begins_at, room_append, followed}
 use Rattle.fab_reading.proofs.Rules as rules
-use Rattle.fab_bundle.proofs.PostRules.{cache_text}
-use Rattle.fab_bundle.proofs.EventRules.{schedule_text}
+use Rattle.fab_parser.proofs.Chains.{chain}
 
 pub program_text : HasText IsProgram
 program_text = ([], record { nodes = []; delegations = []; labels = []; classes = []; methods = [] }, λ after. program no_more no_more no_more no_more no_more)
-
--- ---- program "run" "{" {root} {session} {post} {crash} [cache] [schedule] "}"
-
-abbrev pub StartTree10 : Type 0
-StartTree10 = Unit {0}
-
-abbrev pub StartRest10 : List Token → StartTree10 → List Token → Type 0
-StartRest10 = End
-
-abbrev pub StartTree9 : Type 0
-StartTree9 = Unit {0} × StartTree10
-
-abbrev pub StartRest9 : List Token → StartTree9 → List Token → Type 0
-StartRest9 = Then (Sign m.RightBrace) StartRest10
-
-abbrev pub StartTree8 : Type 0
-StartTree8 = (List Event) × StartTree9
-
-abbrev pub StartRest8 : List Token → StartTree8 → List Token → Type 0
-StartRest8 = Then IsSchedule StartRest9
-
-abbrev pub StartTree7 : Type 0
-StartTree7 = ℕ × StartTree8
-
-abbrev pub StartRest7 : List Token → StartTree7 → List Token → Type 0
-StartRest7 = Then IsCache StartRest8
-
-abbrev pub StartTree6 : Type 0
-StartTree6 = (List CrashLine) × StartTree7
-
-abbrev pub StartRest6 : List Token → StartTree6 → List Token → Type 0
-StartRest6 = Then (Repeated IsCrash) StartRest7
-
-abbrev pub StartTree5 : Type 0
-StartTree5 = (List PostLine) × StartTree6
-
-abbrev pub StartRest5 : List Token → StartTree5 → List Token → Type 0
-StartRest5 = Then (Repeated IsPost) StartRest6
-
-abbrev pub StartTree4 : Type 0
-StartTree4 = (List Session) × StartTree5
-
-abbrev pub StartRest4 : List Token → StartTree4 → List Token → Type 0
-StartRest4 = Then (Repeated IsSession) StartRest5
-
-abbrev pub StartTree3 : Type 0
-StartTree3 = (List Root) × StartTree4
-
-abbrev pub StartRest3 : List Token → StartTree3 → List Token → Type 0
-StartRest3 = Then (Repeated IsRoot) StartRest4
-
-abbrev pub StartTree2 : Type 0
-StartTree2 = Unit {0} × StartTree3
-
-abbrev pub StartRest2 : List Token → StartTree2 → List Token → Type 0
-StartRest2 = Then (Sign m.LeftBrace) StartRest3
-
-abbrev pub StartTree1 : Type 0
-StartTree1 = Unit {0} × StartTree2
-
-abbrev pub StartRest1 : List Token → StartTree1 → List Token → Type 0
-StartRest1 = Then (Sign m.Run) StartRest2
-
-abbrev pub StartTree0 : Type 0
-StartTree0 = Program × StartTree1
-
-abbrev pub StartRest0 : List Token → StartTree0 → List Token → Type 0
-StartRest0 = Then IsProgram StartRest1
 
 -- ---- what may follow each part of a run
 
@@ -127,150 +56,64 @@ module _ (may : Kind → Bool) (brace : IsTrue (may (k.Fixed m.RightBrace))) (sc
   optional_schedule no_schedule f = f
   optional_schedule {a = a} (schedule i j p l) f = led may scheduled a (begins_at i)
 
-  pub schedule_follows : (more : List Token) (v : StartTree8) (after : List Token) → StartRest8 more v after → Follows may more
-  schedule_follows more v after q = optional_schedule q.first (sign_follows m.RightBrace may brace q.second.first)
+  schedule_follows : (more : List Token) (v : List Event × Unit {0}) (after : List Token) → Then IsSchedule (Sign m.RightBrace) more v after → Follows may more
+  schedule_follows more v after q = optional_schedule q.first (sign_follows m.RightBrace may brace q.second)
 
   module _ (cached : IsTrue (may (k.Fixed m.Cache))) where
     optional_cache : {a : List Token} {v : ℕ} {b : List Token} → IsCache a v b → Follows may b → Follows may a
     optional_cache no_cache f = f
     optional_cache {a = a} (cache i j p) f = led may cached a (begins_at i)
 
-    pub cache_follows : (more : List Token) (v : StartTree7) (after : List Token) → StartRest7 more v after → Follows may more
+    cache_follows : (more : List Token) (v : ℕ × (List Event × Unit {0})) (after : List Token) → Then IsCache (Then IsSchedule (Sign m.RightBrace)) more v after → Follows may more
     cache_follows more v after q = optional_cache q.first (schedule_follows q.mid v.1 after q.second)
 
     module _ (crashed : IsTrue (may (k.Fixed m.Crash))) where
-      pub crashes_follow : (more : List Token) (v : StartTree6) (after : List Token) → StartRest6 more v after → Follows may more
+      crashes_follow : (more : List Token) (v : List CrashLine × (ℕ × (List Event × Unit {0}))) (after : List Token) → Then (Repeated IsCrash) (Then IsCache (Then IsSchedule (Sign m.RightBrace))) more v after → Follows may more
       crashes_follow more v after q = list_follows may crash_led crashed more v.0 q.mid q.first (cache_follows q.mid v.1 after q.second)
 
       module _ (posted : IsTrue (may (k.Fixed m.Post))) where
-        pub posts_follow : (more : List Token) (v : StartTree5) (after : List Token) → StartRest5 more v after → Follows may more
+        posts_follow : (more : List Token) (v : List PostLine × (List CrashLine × (ℕ × (List Event × Unit {0})))) (after : List Token) → Then (Repeated IsPost) (Then (Repeated IsCrash) (Then IsCache (Then IsSchedule (Sign m.RightBrace)))) more v after → Follows may more
         posts_follow more v after q = list_follows may post_led posted more v.0 q.mid q.first (crashes_follow q.mid v.1 after q.second)
 
-        pub sessions_follow : IsTrue (may (k.Fixed m.Session)) → (more : List Token) (v : StartTree4) (after : List Token) → StartRest4 more v after → Follows may more
+        sessions_follow : IsTrue (may (k.Fixed m.Session)) → (more : List Token) (v : List Session × (List PostLine × (List CrashLine × (ℕ × (List Event × Unit {0}))))) (after : List Token) → Then (Repeated IsSession) (Then (Repeated IsPost) (Then (Repeated IsCrash) (Then IsCache (Then IsSchedule (Sign m.RightBrace))))) more v after → Follows may more
         sessions_follow h more v after q = list_follows may session_led h more v.0 q.mid q.first (posts_follow q.mid v.1 after q.second)
 
-pub behind_roots : (more : List Token) (v : StartTree4) (after : List Token) → StartRest4 more v after → Follows (behind_list begins_root any) more
-behind_roots = sessions_follow (behind_list begins_root any) refl refl refl refl refl refl
+pub behind_roots : (more : List Token) (v : List Session × (List PostLine × (List CrashLine × (ℕ × (List Event × Unit {0}))))) (after : List Token) → Then (Repeated IsSession) (Then (Repeated IsPost) (Then (Repeated IsCrash) (Then IsCache (Then IsSchedule (Sign m.RightBrace))))) more v after → Follows any after → Follows (behind_list begins_root any) more
+behind_roots more v after q h = sessions_follow (behind_list begins_root any) refl refl refl refl refl refl more v after q
 
-pub behind_sessions : (more : List Token) (v : StartTree5) (after : List Token) → StartRest5 more v after → Follows (behind_list begins_session any) more
-behind_sessions = posts_follow (behind_list begins_session any) refl refl refl refl refl
+pub behind_sessions : (more : List Token) (v : List PostLine × (List CrashLine × (ℕ × (List Event × Unit {0})))) (after : List Token) → Then (Repeated IsPost) (Then (Repeated IsCrash) (Then IsCache (Then IsSchedule (Sign m.RightBrace)))) more v after → Follows any after → Follows (behind_list begins_session any) more
+behind_sessions more v after q h = posts_follow (behind_list begins_session any) refl refl refl refl refl more v after q
 
-pub behind_posts : (more : List Token) (v : StartTree6) (after : List Token) → StartRest6 more v after → Follows (behind_list begins_post any) more
-behind_posts = crashes_follow (behind_list begins_post any) refl refl refl refl
+pub behind_posts : (more : List Token) (v : List CrashLine × (ℕ × (List Event × Unit {0}))) (after : List Token) → Then (Repeated IsCrash) (Then IsCache (Then IsSchedule (Sign m.RightBrace))) more v after → Follows any after → Follows (behind_list begins_post any) more
+behind_posts more v after q h = crashes_follow (behind_list begins_post any) refl refl refl refl more v after q
 
-pub behind_crashes : (more : List Token) (v : StartTree7) (after : List Token) → StartRest7 more v after → Follows (behind_list begins_crash any) more
-behind_crashes = cache_follows (behind_list begins_crash any) refl refl refl
+pub behind_crashes : (more : List Token) (v : ℕ × (List Event × Unit {0})) (after : List Token) → Then IsCache (Then IsSchedule (Sign m.RightBrace)) more v after → Follows any after → Follows (behind_list begins_crash any) more
+behind_crashes more v after q h = cache_follows (behind_list begins_crash any) refl refl refl more v after q
 
-pub behind_cache : (more : List Token) (v : StartTree8) (after : List Token) → StartRest8 more v after → Follows after_crashes more
-behind_cache = schedule_follows after_crashes refl refl
+pub behind_cache : (more : List Token) (v : List Event × Unit {0}) (after : List Token) → Then IsSchedule (Sign m.RightBrace) more v after → Follows any after → Follows after_crashes more
+behind_cache more v after q h = schedule_follows after_crashes refl refl more v after q
 
--- ---- the parts
+-- ---- start = program "run" "{" {root} {session} {post} {crash} [cache] [schedule] "}"
 
--- what the parts make
-abbrev pub start_of : StartTree0 → Start
+abbrev pub StartParts : Type 0
+StartParts = Program × (Unit {0} × (Unit {0} × (List Root × (List Session × (List PostLine × (List CrashLine × (ℕ × (List Event × Unit {0}))))))))
+
+abbrev pub start_of : StartParts → Start
 start_of v = record { program = v.0; roots = v.1.1.1.0; sessions = v.1.1.1.1.0; posts = v.1.1.1.1.1.0; crashes = v.1.1.1.1.1.1.0; cache = v.1.1.1.1.1.1.1.0; schedule = v.1.1.1.1.1.1.1.1.0 }
 
-pub start_text_10 : HasText StartRest10
-start_text_10 = end_text
+abbrev pub StartChain : List Token → StartParts → List Token → Type 0
+StartChain = Then IsProgram (Then (Sign m.Run) (Then (Sign m.LeftBrace) (Then (Repeated IsRoot) (Then (Repeated IsSession) (Then (Repeated IsPost) (Then (Repeated IsCrash) (Then IsCache (Then IsSchedule (Sign m.RightBrace)))))))))
 
-pub start_text_9 : HasText StartRest9
-start_text_9 = sign_text m.RightBrace start_text_10
+start_back : (a : List Token) (v : Start) (b : List Token) → IsStart a v b → (x : StartParts) × (v ≡ start_of x) × StartChain a x b
+start_back a v b (start {p = p} {rs = rs} {ss = ss} {ps = ps} {cs = cs} {n = n} {es = es} q0 q1 q2 q3 q4 q5 q6 q7 q8 q9) = ((p, (tt, (tt, (rs, (ss, (ps, (cs, (n, (es, tt))))))))), refl, followed _ q0 (followed _ q1 (followed _ q2 (followed _ q3 (followed _ q4 (followed _ q5 (followed _ q6 (followed _ q7 (followed _ q8 q9)))))))))
 
-pub start_text_8 : HasText StartRest8
-start_text_8 = then_text schedule_text start_text_9
-
-pub start_text_7 : HasText StartRest7
-start_text_7 = then_text cache_text start_text_8
-
-pub start_text_6 : HasText StartRest6
-start_text_6 = then_text repeated_text start_text_7
-
-pub start_text_5 : HasText StartRest5
-start_text_5 = then_text repeated_text start_text_6
-
-pub start_text_4 : HasText StartRest4
-start_text_4 = then_text repeated_text start_text_5
-
-pub start_text_3 : HasText StartRest3
-start_text_3 = then_text repeated_text start_text_4
-
-pub start_text_2 : HasText StartRest2
-start_text_2 = sign_text m.LeftBrace start_text_3
-
-pub start_text_1 : HasText StartRest1
-start_text_1 = sign_text m.Run start_text_2
-
-start_back : {a : List Token} {v : Start} {b : List Token} → IsStart a v b → (x : StartTree0) × (v ≡ start_of x) × StartRest0 a x b
-start_back (start {p = p0} {rs = p3} {ss = p4} {ps = p5} {cs = p6} {n = p7} {es = p8} q0 q1 q2 q3 q4 q5 q6 q7 q8 q9) = ((p0, (tt, (tt, (p3, (p4, (p5, (p6, (p7, (p8, (tt, tt)))))))))), refl, followed _ q0 (followed _ q1 (followed _ q2 (followed _ q3 (followed _ q4 (followed _ q5 (followed _ q6 (followed _ q7 (followed _ q8 (followed _ q9 refl))))))))))
-
-pub start_0 : {room : ℕ} (a : List Token) → Going IsStart any room a StartRest0 start_of room a
-start_0 {room = room} a =
-    turn start_of (rules.start IsStart any room a)
+pub start_start : {room : ℕ} (a : List Token) → Going IsStart any room a StartChain start_of room a
+start_start =
+    chain start_of
     (λ more v after p. let p1 = p.second in let p2 = p1.second in let p3 = p2.second in let p4 = p3.second in let p5 = p4.second in
-    let p6 = p5.second in let p7 = p6.second in let p8 = p7.second in let p9 = p8.second in
-    subst (λ x. IsStart more (start_of v) x) p9.second
-    (start p.first p1.first p2.first p3.first p4.first p5.first p6.first p7.first p8.first p9.first))
-    (λ more v after same p h. start_back p)
-
-pub start_1 : {room : ℕ} {a0 a1 : List Token} {x0 : Program} → Read IsProgram after_program room a0 x0 a1 → Going IsStart any room a0 StartRest1 (λ v. start_of (x0, v)) room a1
-start_1 h0 = part (start_0 _) h0 (λ more v after q h. sign_follows m.Run after_program refl q.first)
-
-pub start_2 : {room : ℕ} {a0 a1 a2 : List Token} {x0 : Program} → Read IsProgram after_program room a0 x0 a1 → Is m.Run a1 a2 → Going IsStart any room a0 StartRest2 (λ v. start_of (x0, (tt, v))) room a2
-start_2 h0 h1 = sign (start_1 h0) h1 refl
-
-pub start_3 : {room inner : ℕ} {a0 a1 a2 a3 : List Token} {x0 : Program} → Read IsProgram after_program room a0 x0 a1 → Is m.Run a1 a2 → (Is m.LeftBrace a2 a3 × (room ≡ inner + 1)) → Going IsStart any room a0 StartRest3 (λ v. start_of (x0, (tt, (tt, v)))) inner a3
-start_3 h0 h1 h2 = sign (start_2 h0 h1) h2.0 (opened m.LeftBrace (λ r. refl) h2.1)
-
-pub start_4 : {room inner : ℕ} {a0 a1 a2 a3 a4 : List Token} {x0 : Program} {x3 : List Root} → Read IsProgram after_program room a0 x0 a1 → Is m.Run a1 a2 → (Is m.LeftBrace a2 a3 × (room ≡ inner + 1)) → Read (Repeated IsRoot) (behind_list begins_root any) inner a3 x3 a4 → Going IsStart any room a0 StartRest4 (λ v. start_of (x0, (tt, (tt, (x3, v))))) inner a4
-start_4 h0 h1 h2 h3 = part (start_3 h0 h1 h2) h3 (λ more v after q h. behind_roots more v after q)
-
-pub start_5 : {room inner : ℕ} {a0 a1 a2 a3 a4 a5 : List Token} {x0 : Program} {x3 : List Root} {x4 : List Session}
-    → Read IsProgram after_program room a0 x0 a1 → Is m.Run a1 a2 → (Is m.LeftBrace a2 a3 × (room ≡ inner + 1))
-    → Read (Repeated IsRoot) (behind_list begins_root any) inner a3 x3 a4 → Read (Repeated IsSession) (behind_list begins_session any) inner a4 x4 a5
-    → Going IsStart any room a0 StartRest5 (λ v. start_of (x0, (tt, (tt, (x3, (x4, v)))))) inner a5
-start_5 h0 h1 h2 h3 h4 = part (start_4 h0 h1 h2 h3) h4 (λ more v after q h. behind_sessions more v after q)
-
-pub start_6 : {room inner : ℕ} {a0 a1 a2 a3 a4 a5 a6 : List Token} {x0 : Program} {x3 : List Root} {x4 : List Session} {x5 : List PostLine}
-    → Read IsProgram after_program room a0 x0 a1 → Is m.Run a1 a2 → (Is m.LeftBrace a2 a3 × (room ≡ inner + 1))
-    → Read (Repeated IsRoot) (behind_list begins_root any) inner a3 x3 a4 → Read (Repeated IsSession) (behind_list begins_session any) inner a4 x4 a5
-    → Read (Repeated IsPost) (behind_list begins_post any) inner a5 x5 a6
-    → Going IsStart any room a0 StartRest6 (λ v. start_of (x0, (tt, (tt, (x3, (x4, (x5, v))))))) inner a6
-start_6 h0 h1 h2 h3 h4 h5 = part (start_5 h0 h1 h2 h3 h4) h5 (λ more v after q h. behind_posts more v after q)
-
-pub start_7 : {room inner : ℕ} {a0 a1 a2 a3 a4 a5 a6 a7 : List Token} {x0 : Program} {x3 : List Root} {x4 : List Session} {x5 : List PostLine}
-    {x6 : List CrashLine}
-    → Read IsProgram after_program room a0 x0 a1 → Is m.Run a1 a2 → (Is m.LeftBrace a2 a3 × (room ≡ inner + 1))
-    → Read (Repeated IsRoot) (behind_list begins_root any) inner a3 x3 a4 → Read (Repeated IsSession) (behind_list begins_session any) inner a4 x4 a5
-    → Read (Repeated IsPost) (behind_list begins_post any) inner a5 x5 a6 → Read (Repeated IsCrash) (behind_list begins_crash any) inner a6 x6 a7
-    → Going IsStart any room a0 StartRest7 (λ v. start_of (x0, (tt, (tt, (x3, (x4, (x5, (x6, v)))))))) inner a7
-start_7 h0 h1 h2 h3 h4 h5 h6 = part (start_6 h0 h1 h2 h3 h4 h5) h6 (λ more v after q h. behind_crashes more v after q)
-
-pub start_8 : {room inner : ℕ} {a0 a1 a2 a3 a4 a5 a6 a7 a8 : List Token} {x0 : Program} {x3 : List Root} {x4 : List Session} {x5 : List PostLine}
-    {x6 : List CrashLine} {x7 : ℕ}
-    → Read IsProgram after_program room a0 x0 a1 → Is m.Run a1 a2 → (Is m.LeftBrace a2 a3 × (room ≡ inner + 1))
-    → Read (Repeated IsRoot) (behind_list begins_root any) inner a3 x3 a4 → Read (Repeated IsSession) (behind_list begins_session any) inner a4 x4 a5
-    → Read (Repeated IsPost) (behind_list begins_post any) inner a5 x5 a6 → Read (Repeated IsCrash) (behind_list begins_crash any) inner a6 x6 a7
-    → Read IsCache after_crashes inner a7 x7 a8
-    → Going IsStart any room a0 StartRest8 (λ v. start_of (x0, (tt, (tt, (x3, (x4, (x5, (x6, (x7, v))))))))) inner a8
-start_8 h0 h1 h2 h3 h4 h5 h6 h7 = part (start_7 h0 h1 h2 h3 h4 h5 h6) h7 (λ more v after q h. behind_cache more v after q)
-
-pub start_9 : {room inner : ℕ} {a0 a1 a2 a3 a4 a5 a6 a7 a8 a9 : List Token} {x0 : Program} {x3 : List Root} {x4 : List Session} {x5 : List PostLine}
-    {x6 : List CrashLine} {x7 : ℕ} {x8 : List Event}
-    → Read IsProgram after_program room a0 x0 a1 → Is m.Run a1 a2 → (Is m.LeftBrace a2 a3 × (room ≡ inner + 1))
-    → Read (Repeated IsRoot) (behind_list begins_root any) inner a3 x3 a4 → Read (Repeated IsSession) (behind_list begins_session any) inner a4 x4 a5
-    → Read (Repeated IsPost) (behind_list begins_post any) inner a5 x5 a6 → Read (Repeated IsCrash) (behind_list begins_crash any) inner a6 x6 a7
-    → Read IsCache after_crashes inner a7 x7 a8 → Read IsSchedule after_cache inner a8 x8 a9
-    → Going IsStart any room a0 StartRest9 (λ v. start_of (x0, (tt, (tt, (x3, (x4, (x5, (x6, (x7, (x8, v)))))))))) inner a9
-start_9 h0 h1 h2 h3 h4 h5 h6 h7 h8 = part (start_8 h0 h1 h2 h3 h4 h5 h6 h7) h8 (λ more v after q h. sign_follows m.RightBrace after_cache refl q.first)
-
-pub start_10 : {room inner : ℕ} {a0 a1 a2 a3 a4 a5 a6 a7 a8 a9 a10 : List Token} {x0 : Program} {x3 : List Root} {x4 : List Session}
-    {x5 : List PostLine} {x6 : List CrashLine} {x7 : ℕ} {x8 : List Event}
-    → Read IsProgram after_program room a0 x0 a1 → Is m.Run a1 a2 → (Is m.LeftBrace a2 a3 × (room ≡ inner + 1))
-    → Read (Repeated IsRoot) (behind_list begins_root any) inner a3 x3 a4 → Read (Repeated IsSession) (behind_list begins_session any) inner a4 x4 a5
-    → Read (Repeated IsPost) (behind_list begins_post any) inner a5 x5 a6 → Read (Repeated IsCrash) (behind_list begins_crash any) inner a6 x6 a7
-    → Read IsCache after_crashes inner a7 x7 a8 → Read IsSchedule after_cache inner a8 x8 a9 → Is m.RightBrace a9 a10
-    → Going IsStart any room a0 StartRest10 (λ v. start_of (x0, (tt, (tt, (x3, (x4, (x5, (x6, (x7, (x8, (tt, v))))))))))) room a10
-start_10 h0 h1 h2 h3 h4 h5 h6 h7 h8 h9 = sign (start_9 h0 h1 h2 h3 h4 h5 h6 h7 h8) h9 (closed m.RightBrace _ (λ r. refl) h2.1)
+    let p6 = p5.second in let p7 = p6.second in let p8 = p7.second in
+    start p.first p1.first p2.first p3.first p4.first p5.first p6.first p7.first p8.first p8.second)
+    start_back
 
 -- ---- where a text is refused
 

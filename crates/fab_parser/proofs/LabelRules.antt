@@ -15,8 +15,9 @@ use Rattle.fab_tree.specs.Declarations.{IsAspect, readers, writers, IsPolicy, po
 use Rattle.fab_reading.specs.Reading.{Lacks, BeginsWith, Starts, Read, Refused, Stops, CannotRead, any, behind_items, behind_names, begins_name, is_semicolon}
 use Rattle.fab_reading.specs.declared.refusal.Refusal.{Refusal}
 use Rattle.fab_reading.specs.declared.refusal.Refusal.TheVariants as refusal
-use Rattle.fab_reading.proofs.Rules.{Then, End, Sign, HasText, Going, start, turn, here, never, token_of, followed}
+use Rattle.fab_reading.proofs.Rules.{Then, Sign, HasText, Going, here, never, token_of, followed}
 use Rattle.fab_reading.proofs.TokenRules.{mark_read}
+use Rattle.fab_parser.proofs.Chains.{chain}
 
 -- ---- aspect = "->" | "<-"
 
@@ -69,37 +70,38 @@ aspect_stops room a (refusal.Deep left) r x = absurd x
 
 -- ---- policy = name aspect [name {"," name}]
 
-abbrev pub PolicyParts : Type 0
-PolicyParts = Name × (Aspect × (List Name × Unit {0}))
+abbrev pub policy_of : Name × (Aspect × List Name) → PolicyText
+policy_of v = record { owner = v.0; aspect = v.1.0; others = v.1.1 }
 
-abbrev pub policy_of : PolicyParts → PolicyText
-policy_of v = record { owner = v.0; aspect = v.1.0; others = v.1.1.0 }
+abbrev pub PolicyChain : List Token → Name × (Aspect × List Name) → List Token → Type 0
+PolicyChain = Then IsName (Then IsAspect (Separated m.Comma IsName))
 
-abbrev pub PolicyRule : List Token → PolicyParts → List Token → Type 0
-PolicyRule = Then IsName (Then IsAspect (Then (Separated m.Comma IsName) End))
+policy_back : (a : List Token) (v : PolicyText) (b : List Token) → IsPolicy a v b → (w : Name × (Aspect × List Name)) × (v ≡ policy_of w) × PolicyChain a w b
+policy_back a v b (policy {x = x} {y = y} {zs = zs} p q r) = ((x, (y, zs)), refl, followed _ p (followed _ q r))
 
-policy_back : {a : List Token} {v : PolicyText} {b : List Token} → IsPolicy a v b → (x : PolicyParts) × (v ≡ policy_of x) × PolicyRule a x b
-policy_back (policy {x = x} {y = y} {zs = zs} p q r) = ((x, (y, (zs, tt))), refl, followed _ p (followed _ q (followed _ r refl)))
-
-pub policy_start : {room : ℕ} (a : List Token) → Going IsPolicy behind_names room a PolicyRule policy_of room a
-policy_start {room = room} a = turn policy_of (start IsPolicy behind_names room a) (λ more v after p. subst (λ x. IsPolicy more (policy_of v) x) p.second.second.second (policy p.first p.second.first p.second.second.first)) (λ more v after same p h. policy_back p)
+pub policy_start : {room : ℕ} (a : List Token) → Going IsPolicy behind_names room a PolicyChain policy_of room a
+policy_start = chain policy_of (λ more v after p. policy p.first p.second.first p.second.second) policy_back
 
 -- ---- label = "label" name "=" "{" [policy {";" policy}] "}" ";"
 
 abbrev pub LabelParts : Type 0
-LabelParts = Unit {0} × (Name × (Unit {0} × (Unit {0} × (List PolicyText × (Unit {0} × (Unit {0} × Unit {0}))))))
+LabelParts = Unit {0} × (Name × (Unit {0} × (Unit {0} × (List PolicyText × (Unit {0} × Unit {0})))))
 
 abbrev pub label_of : LabelParts → LabelText
 label_of v = record { name = v.1.0; policies = v.1.1.1.1.0 }
 
-abbrev pub LabelRule : List Token → LabelParts → List Token → Type 0
-LabelRule = Then (Sign m.Label) (Then IsName (Then (Sign m.Equal) (Then (Sign m.LeftBrace) (Then (Separated m.Semicolon IsPolicy) (Then (Sign m.RightBrace) (Then (Sign m.Semicolon) End))))))
+abbrev pub LabelChain : List Token → LabelParts → List Token → Type 0
+LabelChain = Then (Sign m.Label) (Then IsName (Then (Sign m.Equal) (Then (Sign m.LeftBrace) (Then (Separated m.Semicolon IsPolicy) (Then (Sign m.RightBrace) (Sign m.Semicolon))))))
 
-label_back : {a : List Token} {v : LabelText} {b : List Token} → IsLabel a v b → (x : LabelParts) × (v ≡ label_of x) × LabelRule a x b
-label_back (label {x = x} {ys = ys} p q r s t u w) = ((tt, (x, (tt, (tt, (ys, (tt, (tt, tt))))))), refl, followed _ p (followed _ q (followed _ r (followed _ s (followed _ t (followed _ u (followed _ w refl)))))))
+label_back : (a : List Token) (v : LabelText) (b : List Token) → IsLabel a v b → (w : LabelParts) × (v ≡ label_of w) × LabelChain a w b
+label_back a v b (label {x = x} {ys = ys} p q r s t u l) = ((tt, (x, (tt, (tt, (ys, (tt, tt)))))), refl, followed _ p (followed _ q (followed _ r (followed _ s (followed _ t (followed _ u l))))))
 
-pub label_start : {room : ℕ} (a : List Token) → Going IsLabel any room a LabelRule label_of room a
-label_start {room = room} a = turn label_of (start IsLabel any room a) (λ more v after p. let q = p.second in let r = q.second in let s = r.second in let t = s.second in let u = t.second in let w = u.second in subst (λ x. IsLabel more (label_of v) x) w.second (label p.first q.first r.first s.first t.first u.first w.first)) (λ more v after same p h. label_back p)
+pub label_start : {room : ℕ} (a : List Token) → Going IsLabel any room a LabelChain label_of room a
+label_start =
+    chain label_of
+    (λ more v after p. let p1 = p.second in let p2 = p1.second in let p3 = p2.second in let p4 = p3.second in let p5 = p4.second in
+    label p.first p1.first p2.first p3.first p4.first p5.first p5.second)
+    label_back
 
 abbrev pub behind_policies : Kind → Bool
 behind_policies = behind_items begins_name is_semicolon behind_names

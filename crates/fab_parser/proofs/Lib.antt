@@ -1,3 +1,4 @@
+pub mod Chains
 pub mod ClassRules
 pub mod DelegationRules
 pub mod LabelRules

@@ -15,7 +15,8 @@ use Rattle.fab_reading.specs.Reading.{Lacks, BeginsWith, Starts, Read, Refused, 
 use Rattle.fab_reading.specs.declared.refusal.Refusal.{Refusal}
 use Rattle.fab_reading.specs.declared.refusal.Refusal.TheVariants as refusal
 use Rattle.fab_reading.proofs.TokenRules.{mark_read}
-use Rattle.fab_reading.proofs.Rules.{Then, End, Sign, HasText, Going, start, turn, here, never, token_of, same_sign, lacks_too}
+use Rattle.fab_reading.proofs.Rules.{Then, Sign, HasText, Going, start, turn, behind_mark, followed, here, never, token_of, lacks_too}
+use Rattle.fab_parser.proofs.Chains.{chain}
 
 -- ---- machine = "worker" | "store"
 
@@ -78,14 +79,14 @@ role_principal e (hostile (is g) p) = absurd (cc)
 pub principal_read : {room : ℕ} {a b : List Token} → Is m.Principal a b → Read IsRole any room a r.Principal b
 principal_read i = mark_read m.Principal i refl (λ x y. principal) (λ x v y. role_principal)
 
-hostile_back : {a c : List Token} {v : Role} {b : List Token} → Is m.Hostile a c → IsRole a v b → (x : Unit {0} × Role) × (v ≡ x.1) × Then (Sign m.Hostile) (IsMachine true) a x b
-hostile_back (is e) (principal (is g)) = absurd (cc)
-hostile_back (is e) (honest (worker (is g))) = absurd (cc)
-hostile_back (is e) (honest (store (is g))) = absurd (cc)
-hostile_back i (hostile {b = m} {x = x} j p) = ((tt, x), refl, record { mid = m; first = j; second = p })
+hostile_back : {t : Token} {a : List Token} {v : Role} {b : List Token} → t.kind ≡ k.Fixed m.Hostile → IsRole (t ∷ a) v b → (x : Role) × (v ≡ x) × IsMachine true a x b
+hostile_back e (principal (is g)) = absurd (cc)
+hostile_back e (honest (worker (is g))) = absurd (cc)
+hostile_back e (honest (store (is g))) = absurd (cc)
+hostile_back e (hostile {x = x} (is g) p) = (x, refl, p)
 
-pub hostile_start : {room : ℕ} (a : List Token) {c : List Token} → Is m.Hostile a c → Going IsRole any room a (Then (Sign m.Hostile) (IsMachine true)) (λ v. v.1) room a
-hostile_start {room = room} a i = turn (λ v. v.1) (start IsRole any room a) (λ more v after p. hostile p.first p.second) (λ more v after same p h. hostile_back (same_sign a more i same).1 p)
+pub hostile_start : {room : ℕ} {a c : List Token} → Is m.Hostile a c → Going IsRole any room a (IsMachine true) (λ v. v) room c
+hostile_start i = behind_mark (λ at v. v) i refl (λ t e more v after p. hostile (is e) p) (λ t e more u after d h. hostile_back e d)
 
 honest_back : {a : List Token} {v : Role} {b : List Token} → Lacks m.Principal a → Lacks m.Hostile a → IsRole a v b → (x : Role) × (v ≡ x) × IsMachine false a x b
 honest_back p h (principal i) = absurd (p _ i)
@@ -97,17 +98,11 @@ honest_start {room = room} a p h = turn (λ v. v) (start IsRole any room a) (λ 
 
 -- ---- node = role name ";"
 
-abbrev pub NodeParts : Type 0
-NodeParts = Role × (Name × (Unit {0} × Unit {0}))
-
-abbrev pub node_of : NodeParts → Node
+abbrev pub node_of : Role × (Name × Unit {0}) → Node
 node_of v = record { role = v.0; name = v.1.0 }
 
-abbrev pub Parts : List Token → NodeParts → List Token → Type 0
-Parts = Then IsRole (Then IsName (Then (Sign m.Semicolon) End))
+node_back : (a : List Token) (v : Node) (b : List Token) → IsNode a v b → (w : Role × (Name × Unit {0})) × (v ≡ node_of w) × Then IsRole (Then IsName (Sign m.Semicolon)) a w b
+node_back a v b (node {x = x} {y = y} p q r) = ((x, (y, tt)), refl, followed _ p (followed _ q r))
 
-node_back : {a : List Token} {v : Node} {b : List Token} → IsNode a v b → (x : NodeParts) × (v ≡ node_of x) × Parts a x b
-node_back (node {b = b} {c = c} {d = d} {x = x} {y = y} p q r) = ((x, (y, (tt, tt))), refl, record { mid = b; first = p; second = record { mid = c; first = q; second = record { mid = d; first = r; second = refl } } })
-
-pub node_start : {room : ℕ} (a : List Token) → Going IsNode any room a Parts node_of room a
-node_start {room = room} a = turn node_of (start IsNode any room a) (λ more v after p. subst (λ x. IsNode more (node_of v) x) p.second.second.second (node p.first p.second.first p.second.second.first)) (λ more v after same p h. node_back p)
+pub node_start : {room : ℕ} (a : List Token) → Going IsNode any room a (Then IsRole (Then IsName (Sign m.Semicolon))) node_of room a
+node_start = chain node_of (λ more v after p. node p.first p.second.first p.second.second) node_back

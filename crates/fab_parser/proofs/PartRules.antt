@@ -1,5 +1,5 @@
 -- How a rule goes on behind a word or a name, expressions in brackets, and a choice by what comes next.
-use Rattle.std.proofs.Common.{◌≡◌, ◌+◌, ℕ, Bool, IsTrue, List, [], ◌∷◌, ◌++◌, length, Option, Some, None, option_and_then, Result, Ok, Err, refl, sym, ap, ◌∙◌, subst, length-append, arith}
+use Rattle.std.proofs.Common.{◌≡◌, ℕ, Bool, IsTrue, List, [], ◌∷◌, ◌++◌, length, Option, Some, None, option_and_then, Result, Ok, Err, refl, sym, ap, ◌∙◌, subst, length-append, arith}
 use Rattle.std.specs.Result.{MatchResult}
 use Rattle.fab_base.specs.declared.token.Mark.{Mark}
 use Rattle.fab_base.specs.declared.token.Mark.TheVariants as m
@@ -11,9 +11,10 @@ use Rattle.fab_tree.specs.Depth.{room_by, room_after}
 use Rattle.fab_tree.specs.Lists.{Is, is, IsName, name}
 use Rattle.fab_reading.specs.declared.refusal.Refusal.{Refusal}
 use Rattle.fab_reading.specs.declared.refusal.Refusal.TheVariants as refusal
-use Rattle.fab_reading.specs.Reading.{Starts, SameHead, Follows, Read, Refused, Deep, Stops, CannotRead, CannotOpen, any, begins_name, first_place}
-use Rattle.fab_reading.proofs.Rules.{Then, End, Sign, HasText, Going, start, turn, part, sign, opened, closed, whole, ending, end_text, sign_text, then_text, stop_part, stop_sign, stop_open, sign_follows, any_follows, never, same_refl, SameTwo, two_same}
+use Rattle.fab_reading.specs.Reading.{Starts, SameHead, Follows, Read, Refused, Deep, Stops, any, begins_name, first_place}
+use Rattle.fab_reading.proofs.Rules.{Then, Sign, Going, part, whole, ending, end_text, stop_part, any_follows, never, same_refl, followed, SameTwo, two_same}
 use Rattle.fab_parser.specs.Pieces.{Bracketed, bracketed}
+use Rattle.fab_parser.proofs.Chains.{chain}
 
 -- ---- what is left is one part
 
@@ -106,33 +107,11 @@ name_stops R may room a s (refusal.Deep n) x = absurd (no_bracket x.front x.next
 
 -- ---- "(" x ")"
 
-abbrev pub Brackets : {A : Type 0} → (List Token → A → List Token → Type 0) → List Token → Unit {0} × (A × (Unit {0} × Unit {0})) → List Token → Type 0
-Brackets P = Then (Sign m.LeftParen) (Then P (Then (Sign m.RightParen) End))
+brackets_back : {A : Type 0} {P : List Token → A → List Token → Type 0} (a : List Token) (v : A) (b : List Token) → Bracketed P a v b → (w : Unit {0} × (A × Unit {0})) × (v ≡ w.1.0) × Then (Sign m.LeftParen) (Then P (Sign m.RightParen)) a w b
+brackets_back a v b (bracketed {x = x} p q r) = ((tt, (x, tt)), refl, followed _ p (followed _ q r))
 
-brackets_back : {A : Type 0} {P : List Token → A → List Token → Type 0} {a : List Token} {v : A} {b : List Token} → Bracketed P a v b → (x : Unit {0} × (A × (Unit {0} × Unit {0}))) × (v ≡ x.1.0) × Brackets P a x b
-brackets_back (bracketed {x = x} i p j) = ((tt, (x, (tt, tt))), refl, record { mid = _; first = i; second = record { mid = _; first = p; second = record { mid = _; first = j; second = refl } } })
-
-brackets_start : {A : Type 0} {P : List Token → A → List Token → Type 0} {room : ℕ} (a : List Token) → Going (Bracketed P) any room a (Brackets P) (λ v. v.1.0) room a
-brackets_start {P = P} {room = room} a = turn (λ v. v.1.0) (start (Bracketed P) any room a) (λ more v after p. let q = p.second in let r = q.second in subst (λ x. Bracketed P more v.1.0 x) r.second (bracketed p.first q.first r.first)) (λ more v after same p h. brackets_back p)
-
-pub brackets_open : {A : Type 0} (P : List Token → A → List Token → Type 0) (room : ℕ) (a : List Token) (e : Refusal) → HasText P → CannotOpen m.LeftParen room a e → Stops (Bracketed P) any room a e
-brackets_open P room a e some x = stop_open e (brackets_start a) x refl (then_text some (sign_text m.RightParen end_text))
-
-brackets_1 : {A : Type 0} {P : List Token → A → List Token → Type 0} {room : ℕ} {a b : List Token} (n : ℕ) → Is m.LeftParen a b → room ≡ n + 1 → Going (Bracketed P) any room a (Then P (Then (Sign m.RightParen) End)) (λ v. v.0) n b
-brackets_1 {a = a} n i g = sign (brackets_start a) i (opened m.LeftParen (λ r. refl) g)
-
-pub brackets_inside : {A : Type 0} (P : List Token → A → List Token → Type 0) {room : ℕ} {a b : List Token} (n : ℕ) (may : Kind → Bool) → IsTrue (may (k.Fixed m.RightParen)) → (e : Refusal) → Is m.LeftParen a b → room ≡ n + 1 → Stops P may n b e → Stops (Bracketed P) any room a e
-brackets_inside P n may follows e i g x = stop_part may e (brackets_1 n i g) x (λ more v after q h. sign_follows m.RightParen may follows q.first) (sign_text m.RightParen end_text)
-
-module _ {A : Type 0} {P : List Token → A → List Token → Type 0} {room : ℕ} {a : List Token} where
-  brackets_2 : {b c : List Token} {t : A} (n : ℕ) (may : Kind → Bool) → IsTrue (may (k.Fixed m.RightParen)) → Is m.LeftParen a b → room ≡ n + 1 → Read P may n b t c → Going (Bracketed P) any room a (Then (Sign m.RightParen) End) (λ v. t) n c
-  brackets_2 n may follows i g p = part (brackets_1 n i g) p (λ more v after q h. sign_follows m.RightParen may follows q.first)
-
-  pub brackets_close : {b c : List Token} {t : A} (n : ℕ) (may : Kind → Bool) → IsTrue (may (k.Fixed m.RightParen)) → (e : Refusal) → Is m.LeftParen a b → room ≡ n + 1 → Read P may n b t c → CannotRead m.RightParen c e → Stops (Bracketed P) any room a e
-  brackets_close n may follows e i g p x = stop_sign e (brackets_2 n may follows i g p) x end_text
-
-  pub brackets_read : {b c d : List Token} {t : A} (n : ℕ) (may : Kind → Bool) → IsTrue (may (k.Fixed m.RightParen)) → Is m.LeftParen a b → room ≡ n + 1 → Read P may n b t c → Is m.RightParen c d → Read (Bracketed P) any room a t d
-  brackets_read n may follows i g p j = whole (sign (brackets_2 n may follows i g p) j (closed m.RightParen n (λ r. refl) g))
+pub brackets_start : {A : Type 0} {P : List Token → A → List Token → Type 0} {room : ℕ} (a : List Token) → Going (Bracketed P) any room a (Then (Sign m.LeftParen) (Then P (Sign m.RightParen))) (λ v. v.1.0) room a
+brackets_start = chain (λ v. v.1.0) (λ more v after p. bracketed p.first p.second.first p.second.second) brackets_back
 
 -- ---- a choice by the next two tokens
 

@@ -1,5 +1,5 @@
 -- What is assigned, part by part.
-use Rattle.std.proofs.Common.{IsTrue, List, [], ap, refl, subst, sym, ℕ, ◌+◌, ◌∙◌, ◌∷◌, ◌≡◌}
+use Rattle.std.proofs.Common.{IsTrue, List, [], ap, refl, subst, sym, ℕ, ◌∙◌, ◌∷◌, ◌≡◌}
 use Rattle.std.proofs.lemmas.Bool.{lt-ltb}
 use Rattle.fab_base.specs.declared.token.Kind.{Kind}
 use Rattle.fab_base.specs.declared.token.Kind.TheVariants as k
@@ -26,10 +26,11 @@ use Rattle.fab_reading.specs.Reading.{BeginsWith, Follows, Lacks, Read, SameHead
 use Rattle.fab_reading.specs.declared.refusal.Refusal.{Refusal}
 use Rattle.fab_reading.specs.declared.refusal.Refusal.TheVariants as refusal
 use Rattle.fab_reading.proofs.ListRules.{weaker}
-use Rattle.fab_reading.proofs.Rules.{End, Going, HasText, SameTwo, Sign, Then, any_follows, begins_at, begins_too, closed, end_text, followed, lacks_too, never, opened, part, sign, sign_follows, sign_text, start, starts_too, then_text, token_of, turn}
-use Rattle.fab_reading.proofs.TokenRules.{name_only, name_text}
+use Rattle.fab_reading.proofs.Rules.{Going, HasText, SameTwo, Sign, Then, begins_at, begins_too, followed, lacks_too, never, starts_too, token_of}
+use Rattle.fab_reading.proofs.TokenRules.{name_only}
 use Rattle.fab_expressions.specs.Pieces.{after_expression, begins_expression, begins_primary}
 use Rattle.fab_parser.specs.Pieces.{BeginsCall, Bracketed, IsCalled, IsCreated, IsLowered, after_right, begins_arguments, begins_downgrade, bracketed, called, created, lowered}
+use Rattle.fab_parser.proofs.Chains.{chain}
 use Rattle.fab_parser.proofs.PartRules.{behind_part, behind_word, chosen, chosen_deep, chosen_refused, read_here, two_heads}
 
 -- ---- expressions
@@ -147,185 +148,49 @@ name_alone e h (fex.chain (fex.of_or p) q) = no_others h (and_alone e h p) q
 
 -- ---- name "@" name "(" arguments ")"
 
-abbrev pub CreatedParts3 : Type 0
-CreatedParts3 = (List Expression) × Unit {0}
+abbrev pub CreatedParts : Type 0
+CreatedParts = Name × (Unit {0} × (Name × List Expression))
 
-abbrev pub CreatedParts2 : Type 0
-CreatedParts2 = Name × CreatedParts3
+abbrev pub created_of : ℕ → CreatedParts → Right
+created_of at v = rights.New v.0 v.1.1.0 v.1.1.1 at
 
-abbrev pub CreatedParts1 : Type 0
-CreatedParts1 = Unit {0} × CreatedParts2
+abbrev pub CreatedChain : List Token → CreatedParts → List Token → Type 0
+CreatedChain = Then IsName (Then (Sign m.At) (Then IsName (Bracketed IsArguments)))
 
-abbrev pub CreatedParts0 : Type 0
-CreatedParts0 = Name × CreatedParts1
+created_back : {at : ℕ} (a : List Token) (v : Right) (b : List Token) → IsCreated at a v b → (w : CreatedParts) × (v ≡ created_of at w) × CreatedChain a w b
+created_back a v b (created {x = x} {y = y} {ts = ts} p q r s) = ((x, (tt, (y, ts))), refl, followed _ p (followed _ q (followed _ r s)))
 
-abbrev pub created_of : ℕ → CreatedParts0 → Right
-created_of at v = rights.New v.0 v.1.1.0 v.1.1.1.0 at
-
-abbrev pub CreatedChain3 : List Token → CreatedParts3 → List Token → Type 0
-CreatedChain3 = Then (Bracketed IsArguments) End
-
-abbrev pub CreatedChain2 : List Token → CreatedParts2 → List Token → Type 0
-CreatedChain2 = Then IsName CreatedChain3
-
-abbrev pub CreatedChain1 : List Token → CreatedParts1 → List Token → Type 0
-CreatedChain1 = Then (Sign m.At) CreatedChain2
-
-abbrev pub CreatedChain0 : List Token → CreatedParts0 → List Token → Type 0
-CreatedChain0 = Then IsName CreatedChain1
-
-created_back : {at : ℕ} {a : List Token} {v : Right} {b : List Token} → IsCreated at a v b → (parts : CreatedParts0) × (v ≡ (created_of at) parts) × CreatedChain0 a parts b
-created_back (created {x = p_x} {y = p_y} {ts = p_ts} q0 q1 q2 q3) = ((p_x, (tt, (p_y, (p_ts, tt)))), refl, followed _ q0 (followed _ q1 (followed _ q2 (followed _ q3 refl))))
-
-pub created_start : {at : ℕ} {room : ℕ} (a : List Token) → Going (IsCreated at) any room a CreatedChain0 (created_of at) room a
-created_start {at = at} {room = room} a = turn (created_of at) (start (IsCreated at) any room a) (λ more v after p. let p1 = p.second in let p2 = p1.second in let p3 = p2.second in subst (λ back. IsCreated at more ((created_of at) v) back) p3.second (created p.first p1.first p2.first p3.first)) (λ more v after same p h. created_back p)
-
-pub created_text_3 : HasText CreatedChain3
-created_text_3 = then_text given_text end_text
-
-pub created_text_2 : HasText CreatedChain2
-created_text_2 = then_text name_text created_text_3
-
-pub created_text_1 : HasText CreatedChain1
-created_text_1 = sign_text m.At created_text_2
-
-pub created_1 : {at : ℕ} {room : ℕ} {b0 b1 : List Token} {x0 : Name} → Read IsName any room b0 x0 b1 → Going (IsCreated at) any room b0 CreatedChain1 (λ v. created_of at (x0, v)) room b1
-created_1 {b0 = b0} p0 = part (created_start b0) p0 (λ more v after q h. any_follows more)
-
-pub created_2 : {at : ℕ} {room : ℕ} {b0 b1 b2 : List Token} {x0 : Name} → Read IsName any room b0 x0 b1 → Is m.At b1 b2 → Going (IsCreated at) any room b0 CreatedChain2 (λ v. created_of at (x0, (tt, v))) room b2
-created_2 p0 p1 = sign (created_1 p0) p1 refl
-
-pub created_3 : {at : ℕ} {room : ℕ} {b0 b1 b2 b3 : List Token} {x0 : Name} {x2 : Name} → Read IsName any room b0 x0 b1 → Is m.At b1 b2 → Read IsName any room b2 x2 b3 → Going (IsCreated at) any room b0 CreatedChain3 (λ v. created_of at (x0, (tt, (x2, v)))) room b3
-created_3 p0 p1 p2 = part (created_2 p0 p1) p2 (λ more v after q h. any_follows more)
-
-pub created_4 : {at : ℕ} {room : ℕ} {b0 b1 b2 b3 b4 : List Token} {x0 : Name} {x2 : Name} {x3 : (List Expression)} → Read IsName any room b0 x0 b1 → Is m.At b1 b2 → Read IsName any room b2 x2 b3 → Read (Bracketed IsArguments) any room b3 x3 b4 → Going (IsCreated at) any room b0 End (λ v. created_of at (x0, (tt, (x2, (x3, v))))) room b4
-created_4 p0 p1 p2 p3 = part (created_3 p0 p1 p2) p3 (λ more v after q h. any_follows more)
+pub created_start : {at room : ℕ} (a : List Token) → Going (IsCreated at) any room a CreatedChain (created_of at) room a
+created_start {at = at} = chain (created_of at) (λ more v after p. let q = p.second in let r = q.second in created p.first q.first r.first r.second) created_back
 
 -- ---- "(" expression "," name "to" name ")"
 
-abbrev pub LoweredParts6 : Type 0
-LoweredParts6 = Unit {0} × Unit {0}
+abbrev pub LoweredParts : Type 0
+LoweredParts = Unit {0} × (Expression × (Unit {0} × (Name × (Unit {0} × (Name × Unit {0})))))
 
-abbrev pub LoweredParts5 : Type 0
-LoweredParts5 = Name × LoweredParts6
-
-abbrev pub LoweredParts4 : Type 0
-LoweredParts4 = Unit {0} × LoweredParts5
-
-abbrev pub LoweredParts3 : Type 0
-LoweredParts3 = Name × LoweredParts4
-
-abbrev pub LoweredParts2 : Type 0
-LoweredParts2 = Unit {0} × LoweredParts3
-
-abbrev pub LoweredParts1 : Type 0
-LoweredParts1 = Expression × LoweredParts2
-
-abbrev pub LoweredParts0 : Type 0
-LoweredParts0 = Unit {0} × LoweredParts1
-
-abbrev pub lowered_of : Downgrade → ℕ → LoweredParts0 → Right
+abbrev pub lowered_of : Downgrade → ℕ → LoweredParts → Right
 lowered_of w at v = rights.Downgrade w v.1.0 v.1.1.1.0 v.1.1.1.1.1.0 at
 
-abbrev pub LoweredChain6 : List Token → LoweredParts6 → List Token → Type 0
-LoweredChain6 = Then (Sign m.RightParen) End
+abbrev pub LoweredChain : List Token → LoweredParts → List Token → Type 0
+LoweredChain = Then (Sign m.LeftParen) (Then IsExpression (Then (Sign m.Comma) (Then IsName (Then (Sign m.To) (Then IsName (Sign m.RightParen))))))
 
-abbrev pub LoweredChain5 : List Token → LoweredParts5 → List Token → Type 0
-LoweredChain5 = Then IsName LoweredChain6
+lowered_back : {w : Downgrade} {at : ℕ} (a : List Token) (v : Right) (b : List Token) → IsLowered w at a v b → (z : LoweredParts) × (v ≡ lowered_of w at z) × LoweredChain a z b
+lowered_back a v b (lowered {t = t} {x = x} {y = y} p q r s u l o) = ((tt, (t, (tt, (x, (tt, (y, tt)))))), refl, followed _ p (followed _ q (followed _ r (followed _ s (followed _ u (followed _ l o))))))
 
-abbrev pub LoweredChain4 : List Token → LoweredParts4 → List Token → Type 0
-LoweredChain4 = Then (Sign m.To) LoweredChain5
-
-abbrev pub LoweredChain3 : List Token → LoweredParts3 → List Token → Type 0
-LoweredChain3 = Then IsName LoweredChain4
-
-abbrev pub LoweredChain2 : List Token → LoweredParts2 → List Token → Type 0
-LoweredChain2 = Then (Sign m.Comma) LoweredChain3
-
-abbrev pub LoweredChain1 : List Token → LoweredParts1 → List Token → Type 0
-LoweredChain1 = Then IsExpression LoweredChain2
-
-abbrev pub LoweredChain0 : List Token → LoweredParts0 → List Token → Type 0
-LoweredChain0 = Then (Sign m.LeftParen) LoweredChain1
-
-lowered_back : {w : Downgrade} {at : ℕ} {a : List Token} {v : Right} {b : List Token} → IsLowered w at a v b → (parts : LoweredParts0) × (v ≡ (lowered_of w at) parts) × LoweredChain0 a parts b
-lowered_back (lowered {t = p_t} {x = p_x} {y = p_y} q0 q1 q2 q3 q4 q5 q6) = ((tt, (p_t, (tt, (p_x, (tt, (p_y, (tt, tt))))))), refl, followed _ q0 (followed _ q1 (followed _ q2 (followed _ q3 (followed _ q4 (followed _ q5 (followed _ q6 refl)))))))
-
-pub lowered_start : {w : Downgrade} {at : ℕ} {room : ℕ} (a : List Token) → Going (IsLowered w at) any room a LoweredChain0 (lowered_of w at) room a
-lowered_start {w = w} {at = at} {room = room} a =
-    turn (lowered_of w at) (start (IsLowered w at) any room a)
+pub lowered_start : {w : Downgrade} {at room : ℕ} (a : List Token) → Going (IsLowered w at) any room a LoweredChain (lowered_of w at) room a
+lowered_start {w = w} {at = at} =
+    chain (lowered_of w at)
     (λ more v after p. let p1 = p.second in let p2 = p1.second in let p3 = p2.second in let p4 = p3.second in let p5 = p4.second in
-    let p6 = p5.second in
-    subst (λ back. IsLowered w at more ((lowered_of w at) v) back) p6.second
-    (lowered p.first p1.first p2.first p3.first p4.first p5.first p6.first))
-    (λ more v after same p h. lowered_back p)
-
-pub lowered_text_6 : HasText LoweredChain6
-lowered_text_6 = sign_text m.RightParen end_text
-
-pub lowered_text_5 : HasText LoweredChain5
-lowered_text_5 = then_text name_text lowered_text_6
-
-pub lowered_text_4 : HasText LoweredChain4
-lowered_text_4 = sign_text m.To lowered_text_5
-
-pub lowered_text_3 : HasText LoweredChain3
-lowered_text_3 = then_text name_text lowered_text_4
-
-pub lowered_text_2 : HasText LoweredChain2
-lowered_text_2 = sign_text m.Comma lowered_text_3
-
-pub lowered_text_1 : HasText LoweredChain1
-lowered_text_1 = then_text expression_text lowered_text_2
-
-pub lowered_1 : {w : Downgrade} {at : ℕ} {room n0 : ℕ} {b0 b1 : List Token} → Is m.LeftParen b0 b1 → room ≡ n0 + 1 → Going (IsLowered w at) any room b0 LoweredChain1 (λ v. lowered_of w at (tt, v)) n0 b1
-lowered_1 {b0 = b0} p0 g0 = sign (lowered_start b0) p0 (opened m.LeftParen (λ r. refl) g0)
-
-pub lowered_2 : {w : Downgrade} {at : ℕ} {room n0 : ℕ} {b0 b1 b2 : List Token} {x1 : Expression} → Is m.LeftParen b0 b1 → room ≡ n0 + 1 → Read IsExpression after_expression n0 b1 x1 b2 → Going (IsLowered w at) any room b0 LoweredChain2 (λ v. lowered_of w at (tt, (x1, v))) n0 b2
-lowered_2 p0 g0 p1 = part (lowered_1 p0 g0) p1 (λ more v after q h. sign_follows m.Comma after_expression refl q.first)
-
-pub lowered_3 : {w : Downgrade} {at : ℕ} {room n0 : ℕ} {b0 b1 b2 b3 : List Token} {x1 : Expression} → Is m.LeftParen b0 b1 → room ≡ n0 + 1 → Read IsExpression after_expression n0 b1 x1 b2 → Is m.Comma b2 b3 → Going (IsLowered w at) any room b0 LoweredChain3 (λ v. lowered_of w at (tt, (x1, (tt, v)))) n0 b3
-lowered_3 p0 g0 p1 p2 = sign (lowered_2 p0 g0 p1) p2 refl
-
-pub lowered_4 : {w : Downgrade} {at : ℕ} {room n0 : ℕ} {b0 b1 b2 b3 b4 : List Token} {x1 : Expression} {x3 : Name} → Is m.LeftParen b0 b1 → room ≡ n0 + 1 → Read IsExpression after_expression n0 b1 x1 b2 → Is m.Comma b2 b3 → Read IsName any n0 b3 x3 b4 → Going (IsLowered w at) any room b0 LoweredChain4 (λ v. lowered_of w at (tt, (x1, (tt, (x3, v))))) n0 b4
-lowered_4 p0 g0 p1 p2 p3 = part (lowered_3 p0 g0 p1 p2) p3 (λ more v after q h. any_follows more)
-
-pub lowered_5 : {w : Downgrade} {at : ℕ} {room n0 : ℕ} {b0 b1 b2 b3 b4 b5 : List Token} {x1 : Expression} {x3 : Name} → Is m.LeftParen b0 b1
-    → room ≡ n0 + 1 → Read IsExpression after_expression n0 b1 x1 b2 → Is m.Comma b2 b3 → Read IsName any n0 b3 x3 b4 → Is m.To b4 b5
-    → Going (IsLowered w at) any room b0 LoweredChain5 (λ v. lowered_of w at (tt, (x1, (tt, (x3, (tt, v)))))) n0 b5
-lowered_5 p0 g0 p1 p2 p3 p4 = sign (lowered_4 p0 g0 p1 p2 p3) p4 refl
-
-pub lowered_6 : {w : Downgrade} {at : ℕ} {room n0 : ℕ} {b0 b1 b2 b3 b4 b5 b6 : List Token} {x1 : Expression} {x3 : Name} {x5 : Name}
-    → Is m.LeftParen b0 b1 → room ≡ n0 + 1 → Read IsExpression after_expression n0 b1 x1 b2 → Is m.Comma b2 b3 → Read IsName any n0 b3 x3 b4
-    → Is m.To b4 b5 → Read IsName any n0 b5 x5 b6
-    → Going (IsLowered w at) any room b0 LoweredChain6 (λ v. lowered_of w at (tt, (x1, (tt, (x3, (tt, (x5, v))))))) n0 b6
-lowered_6 p0 g0 p1 p2 p3 p4 p5 = part (lowered_5 p0 g0 p1 p2 p3 p4) p5 (λ more v after q h. any_follows more)
-
-pub lowered_7 : {w : Downgrade} {at : ℕ} {room n0 : ℕ} {b0 b1 b2 b3 b4 b5 b6 b7 : List Token} {x1 : Expression} {x3 : Name} {x5 : Name}
-    → Is m.LeftParen b0 b1 → room ≡ n0 + 1 → Read IsExpression after_expression n0 b1 x1 b2 → Is m.Comma b2 b3 → Read IsName any n0 b3 x3 b4
-    → Is m.To b4 b5 → Read IsName any n0 b5 x5 b6 → Is m.RightParen b6 b7
-    → Going (IsLowered w at) any room b0 End (λ v. lowered_of w at (tt, (x1, (tt, (x3, (tt, (x5, (tt, v)))))))) room b7
-lowered_7 {n0 = n0} p0 g0 p1 p2 p3 p4 p5 p6 = sign (lowered_6 p0 g0 p1 p2 p3 p4 p5) p6 (closed m.RightParen n0 (λ r. refl) g0)
+    lowered p.first p1.first p2.first p3.first p4.first p5.first p5.second)
+    lowered_back
 
 -- ---- "(" arguments ")"
 
-abbrev pub CalledParts0 : Type 0
-CalledParts0 = (List Expression) × Unit {0}
+called_back : {x : Name} (a : List Token) (v : Right) (b : List Token) → IsCalled x a v b → (w : List Expression) × (v ≡ rights.Call x w) × Bracketed IsArguments a w b
+called_back a v b (called {ts = ts} p) = (ts, refl, p)
 
-abbrev pub called_of : Name → CalledParts0 → Right
-called_of x v = rights.Call x v.0
-
-abbrev pub CalledChain0 : List Token → CalledParts0 → List Token → Type 0
-CalledChain0 = Then (Bracketed IsArguments) End
-
-called_back : {x : Name} {a : List Token} {v : Right} {b : List Token} → IsCalled x a v b → (parts : CalledParts0) × (v ≡ (called_of x) parts) × CalledChain0 a parts b
-called_back (called {ts = p_ts} q0) = ((p_ts, tt), refl, record { mid = _; first = q0; second = refl })
-
-pub called_start : {x : Name} {room : ℕ} (a : List Token) → Going (IsCalled x) any room a CalledChain0 (called_of x) room a
-called_start {x = x} {room = room} a = turn (called_of x) (start (IsCalled x) any room a) (λ more v after p. subst (λ back. IsCalled x more ((called_of x) v) back) p.second (called p.first)) (λ more v after same p h. called_back p)
-
-pub called_1 : {x : Name} {room : ℕ} {b0 b1 : List Token} {x0 : (List Expression)} → Read (Bracketed IsArguments) any room b0 x0 b1 → Going (IsCalled x) any room b0 End (λ v. called_of x (x0, v)) room b1
-called_1 {b0 = b0} p0 = part (called_start b0) p0 (λ more v after q h. any_follows more)
+pub called_start : {x : Name} {room : ℕ} (a : List Token) → Going (IsCalled x) any room a (Bracketed IsArguments) (rights.Call x) room a
+called_start {x = x} = chain (rights.Call x) (λ more v after p. called p) called_back
 
 -- ---- which right side comes
 

@@ -99,17 +99,11 @@ declares_back g h l (requests (requested (bracketed i p j) q)) = absurd (l _ i)
 declares_back g h l (declares {u = u} d) = (u, refl, d)
 
 module _ {A : Type 0} {R : List Token → A → List Token → Type 0} {may : Kind → Bool} {room : ℕ} {a : List Token} {f : Statement → A} {x : Name} {left : ℕ} {b : List Token} where
-  assigns_sign : {c : List Token} → Going R may room a (Tail x) f left b → Is m.Equal b c → Going R may room a (Then (Sign m.Equal) (IsAssigned x)) (λ v. f v.1) left b
-  assigns_sign r i = turn (λ v. v.1) r (λ more v after p. assigns p.first p.second) (λ more v after same p h. assigns_back (same_sign b more i same).1 p)
-
   pub assigns_start : {c : List Token} → Going R may room a (Tail x) f left b → Is m.Equal b c → Going R may room a (IsAssigned x) f left c
-  assigns_start r i = sign (assigns_sign r i) i refl
-
-  writes_sign : {c : List Token} → Going R may room a (Tail x) f left b → Is m.Dot b c → Going R may room a (Then (Sign m.Dot) (IsWritten x)) (λ v. f v.1) left b
-  writes_sign r i = turn (λ v. v.1) r (λ more v after p. writes p.first p.second) (λ more v after same p h. writes_back (same_sign b more i same).1 p)
+  assigns_start r i = sign (turn (λ v. v.1) r (λ more v after p. assigns p.first p.second) (λ more v after same p h. assigns_back (same_sign b more i same).1 p)) i refl
 
   pub writes_start : {c : List Token} → Going R may room a (Tail x) f left b → Is m.Dot b c → Going R may room a (IsWritten x) f left c
-  writes_start r i = sign (writes_sign r i) i refl
+  writes_start r i = sign (turn (λ v. v.1) r (λ more v after p. writes p.first p.second) (λ more v after same p h. writes_back (same_sign b more i same).1 p)) i refl
 
   pub requests_start : {c : List Token} → Going R may room a (Tail x) f left b → Is m.LeftParen b c → Going R may room a (IsRequested x) f left b
   requests_start r i = turn (λ v. v) r (λ more v after. requests) (λ more v after same p h. requests_back (same_sign b more i same).1 p)

@@ -2,89 +2,89 @@ use Rattle.std.proofs.Common.{append-nil, refl}
 use Rattle.std.proofs.lemmas.Result.{err_from_is_err_and}
 use Rattle.fab_base.specs.declared.token.Mark.TheVariants as m
 use Rattle.fab_reading.specs.Reading.{any}
+use Rattle.fab_reading.proofs.Rules.{alike, part, sign_text, then_text, stop_part, stop_sign, stop_open, whole, not_true, one_more, takes_some}
 use Rattle.fab_reading.proofs.ListRules.{list_end, list_more, repeated_text}
-use Rattle.fab_reading.proofs.Rules.{alike, any_follows, end_meets, end_text, not_true, one_more, part, sign_follows, stop_open, stop_part, stop_sign, takes_some, whole}
 use Rattle.fab_parser.specs.Pieces.{after_statement, begins_statement, behind_statements}
+use Rattle.fab_parser.proofs.Chains.{free, led_last, ◌>>◌, ◌>|◌, inside, outside, mark_text, free_stops, led_last_stops, last_sign, last_sign_stops}
 use Rattle.fab_parser.proofs.PartRules.{any_weak, handed, last_read, last_stops}
-use Rattle.fab_parser.proofs.StatementParts.{attempt_1, attempt_2, attempt_3, attempt_4, attempt_start, attempt_text_1, attempt_text_2, attempt_text_3, block_1, block_2, block_3, block_start, block_text_1, block_text_2, choice_1, choice_2, choice_3, choice_start, choice_text_1, choice_text_2, else_block, else_lacks, loop_1, loop_2, loop_start, loop_text_1}
+use Rattle.fab_parser.proofs.StatementParts.{block_text, otherwise_text, choice_start, loop_start, attempt_start, block_start, else_block, else_lacks}
 use Rattle.fab_parser.proofs.StatementRules.{atomic_start, fail_start, if_start, int_start, statement_begins, statement_refused, statements_meet, while_start}
 use Rattle.fab_parser.proofs.statements.+statement.Goals as goal
 
 pub choice-returns-in_err-condition : goal.choice-returns-in_err-condition
 choice-returns-in_err-condition t c =
     let p = err_from_is_err_and c.from_residual.result c.from_residual.ensures.1 in
-    rw (p.1, p.2) (stop_part any c.in_err-condition.field-0.0 (choice_start c.args.tokens.now) c.in_err-condition.ensures (λ more v after q h. any_follows more) choice_text_1)
+    rw (p.1, p.2) (free_stops c.in_err-condition.field-0.0 (choice_start c.args.tokens.now) c.in_err-condition.ensures (then_text block_text otherwise_text))
 
 pub choice-returns-in_err-first : goal.choice-returns-in_err-first
 choice-returns-in_err-first t c =
     let p = err_from_is_err_and c.from_residual-in_err-first.result c.from_residual-in_err-first.ensures.1 in
-    rw (p.1, p.2) (stop_part any c.in_err-first.field-0.0 (choice_1 c.in_ok-condition.ensures) c.in_err-first.ensures (λ more v after q h. any_follows more) choice_text_2)
+    rw (p.1, p.2) (free_stops c.in_err-first.field-0.0 (choice_start c.args.tokens.now >> free c.in_ok-condition.ensures) c.in_err-first.ensures otherwise_text)
 
 pub choice-returns-in_err-second : goal.choice-returns-in_err-second
 choice-returns-in_err-second t c =
     let p = err_from_is_err_and c.from_residual-in_err-second.result c.from_residual-in_err-second.ensures.1 in
-    rw (p.1, p.2) (stop_part after_statement c.in_err-second.field-0.0 (choice_2 c.in_ok-condition.ensures c.in_ok-first.ensures) c.in_err-second.ensures (end_meets after_statement) end_text)
+    rw (p.1, p.2) (last_stops after_statement (λ x h. h) c.in_err-second.field-0.0 (choice_start c.args.tokens.now >> free c.in_ok-condition.ensures >> free c.in_ok-first.ensures) c.in_err-second.ensures)
 
 pub choice-returns : goal.choice-returns
 choice-returns t c =
-    whole (choice_3 c.in_ok-condition.ensures c.in_ok-first.ensures c.in_ok-second.ensures)
+    last_read (λ x h. h) (choice_start c.args.tokens.now >> free c.in_ok-condition.ensures >> free c.in_ok-first.ensures) c.in_ok-second.ensures
 
 pub repetition-returns-in_err-condition : goal.repetition-returns-in_err-condition
 repetition-returns-in_err-condition t c =
     let p = err_from_is_err_and c.from_residual.result c.from_residual.ensures.1 in
-    rw (p.1, p.2) (stop_part any c.in_err-condition.field-0.0 (loop_start c.args.tokens.now) c.in_err-condition.ensures (λ more v after q h. any_follows more) loop_text_1)
+    rw (p.1, p.2) (free_stops c.in_err-condition.field-0.0 (loop_start c.args.tokens.now) c.in_err-condition.ensures block_text)
 
 pub repetition-returns-in_err-inside : goal.repetition-returns-in_err-inside
 repetition-returns-in_err-inside t c =
     let p = err_from_is_err_and c.from_residual-in_err-inside.result c.from_residual-in_err-inside.ensures.1 in
-    rw (p.1, p.2) (stop_part any c.in_err-inside.field-0.0 (loop_1 c.in_ok-condition.ensures) c.in_err-inside.ensures (λ more v after q h. any_follows more) end_text)
+    rw (p.1, p.2) (last_stops any (any_weak any) c.in_err-inside.field-0.0 (loop_start c.args.tokens.now >> free c.in_ok-condition.ensures) c.in_err-inside.ensures)
 
 pub repetition-returns : goal.repetition-returns
-repetition-returns t c =
-    whole (loop_2 c.in_ok-condition.ensures c.in_ok-inside.ensures)
+repetition-returns t c = last_read (any_weak any) (loop_start c.args.tokens.now >> free c.in_ok-condition.ensures) c.in_ok-inside.ensures
 
 pub attempt-returns-in_err-label : goal.attempt-returns-in_err-label
 attempt-returns-in_err-label t c =
     let p = err_from_is_err_and c.from_residual.result c.from_residual.ensures.1 in
-    rw (p.1, p.2) (stop_part any c.in_err-label.field-0.0 (attempt_start c.args.tokens.now) c.in_err-label.ensures (λ more v after q h. any_follows more) attempt_text_1)
+    rw (p.1, p.2) (free_stops c.in_err-label.field-0.0 (attempt_start c.args.tokens.now) c.in_err-label.ensures (then_text block_text (sign_text m.Else block_text)))
 
 pub attempt-returns-in_err-first : goal.attempt-returns-in_err-first
 attempt-returns-in_err-first t c =
     let p = err_from_is_err_and c.from_residual-in_err-first.result c.from_residual-in_err-first.ensures.1 in
-    rw (p.1, p.2) (stop_part any c.in_err-first.field-0.0 (attempt_1 c.in_ok-label.ensures) c.in_err-first.ensures (λ more v after q h. any_follows more) attempt_text_2)
+    rw (p.1, p.2) (free_stops c.in_err-first.field-0.0 (attempt_start c.args.tokens.now >> free c.in_ok-label.ensures) c.in_err-first.ensures (sign_text m.Else block_text))
 
 pub attempt-returns-in_err-rest : goal.attempt-returns-in_err-rest
 attempt-returns-in_err-rest t c =
     let p = err_from_is_err_and c.from_residual-in_err-rest.result c.from_residual-in_err-rest.ensures.1 in
-    rw (p.1, p.2) (stop_sign c.in_err-rest.field-0.0 (attempt_2 c.in_ok-label.ensures c.in_ok-first.ensures) c.in_err-rest.ensures attempt_text_3)
+    rw (p.1, p.2) (stop_sign c.in_err-rest.field-0.0 (attempt_start c.args.tokens.now >> free c.in_ok-label.ensures >> free c.in_ok-first.ensures) c.in_err-rest.ensures block_text)
 
 pub attempt-returns-in_err-second : goal.attempt-returns-in_err-second
 attempt-returns-in_err-second t c =
     let p = err_from_is_err_and c.from_residual-in_err-second.result c.from_residual-in_err-second.ensures.1 in
-    rw (p.1, p.2) (stop_part any c.in_err-second.field-0.0 (attempt_3 c.in_ok-label.ensures c.in_ok-first.ensures c.in_ok-rest.ensures) c.in_err-second.ensures (λ more v after q h. any_follows more) end_text)
+    rw (p.1, p.2) (last_stops any (any_weak any) c.in_err-second.field-0.0 (attempt_start c.args.tokens.now >> free c.in_ok-label.ensures >> free c.in_ok-first.ensures >| (c.in_ok-rest.ensures, refl)) c.in_err-second.ensures)
 
 pub attempt-returns : goal.attempt-returns
 attempt-returns t c =
-    whole (attempt_4 c.in_ok-label.ensures c.in_ok-first.ensures c.in_ok-rest.ensures c.in_ok-second.ensures)
+    last_read (any_weak any) (attempt_start c.args.tokens.now >> free c.in_ok-label.ensures >> free c.in_ok-first.ensures >| (c.in_ok-rest.ensures, refl)) c.in_ok-second.ensures
 
 pub block-returns-in_err-rest : goal.block-returns-in_err-rest
 block-returns-in_err-rest t c =
     let p = err_from_is_err_and c.from_residual.result c.from_residual.ensures.1 in
-    rw (p.1, p.2) (stop_open c.in_err-rest.field-0.0 (block_start c.args.tokens.now) c.in_err-rest.ensures refl block_text_1)
+    rw (p.1, p.2) (stop_open c.in_err-rest.field-0.0 (block_start c.args.tokens.now) c.in_err-rest.ensures refl (then_text repeated_text (mark_text m.RightBrace)))
 
 pub block-returns-in_err-inside : goal.block-returns-in_err-inside
 block-returns-in_err-inside t c =
     let p = err_from_is_err_and c.from_residual-in_err-inside.result c.from_residual-in_err-inside.ensures.1 in
-    rw (p.1, p.2) (stop_part behind_statements c.in_err-inside.field-0.0 (block_1 c.in_ok-rest.ensures.0 c.in_ok-rest.ensures.1) c.in_err-inside.ensures (λ more v after q h. sign_follows m.RightBrace behind_statements refl q.first) block_text_2)
+    rw (p.1, p.2) (led_last_stops behind_statements c.in_err-inside.field-0.0 (block_start c.args.tokens.now >| inside c.in_ok-rest.ensures (λ r. refl)) c.in_err-inside.ensures refl)
 
 pub block-returns-in_err-rest-2 : goal.block-returns-in_err-rest-2
 block-returns-in_err-rest-2 t c =
     let p = err_from_is_err_and c.from_residual-in_err-rest-2.result c.from_residual-in_err-rest-2.ensures.1 in
-    rw (p.1, p.2) (stop_sign c.in_err-rest-2.field-0.0 (block_2 c.in_ok-rest.ensures.0 c.in_ok-rest.ensures.1 c.in_ok-inside.ensures) c.in_err-rest-2.ensures end_text)
+    rw (p.1, p.2) (last_sign_stops c.in_err-rest-2.field-0.0 (block_start c.args.tokens.now >| inside c.in_ok-rest.ensures (λ r. refl) >> led_last c.in_ok-inside.ensures refl) c.in_err-rest-2.ensures)
 
 pub block-returns : goal.block-returns
 block-returns t c =
-    whole (block_3 c.in_ok-rest.ensures.0 c.in_ok-rest.ensures.1 c.in_ok-inside.ensures c.in_ok-rest-2.ensures)
+    last_sign (block_start c.args.tokens.now >| inside c.in_ok-rest.ensures (λ r. refl) >> led_last c.in_ok-inside.ensures refl) (outside _ c.in_ok-rest-2.ensures c.in_ok-rest.ensures.1 (λ r. refl))
 
 pub otherwise-returns-in-None : goal.otherwise-returns-in-None
 otherwise-returns-in-None t c = whole (else_lacks c.args.tokens.now c.in-None.ensures)
