@@ -16,18 +16,17 @@ use Rattle.fab_tree.specs.declared.start.Start.{Start}
 use Rattle.fab_tree.specs.Depth.{room_after, room_by, KeepsDepth}
 use Rattle.fab_tree.specs.Limits.{first_passed}
 use Rattle.fab_tree.specs.Lists.{Repeated, no_more, one_more}
-use Rattle.fab_tree.specs.Programs.{IsProgram, program}
+use Rattle.fab_tree.specs.Programs.{IsProgram}
 use Rattle.fab_tree.specs.Runs.{IsRoot, IsSession, session, IsPost, post, IsCrash, crash, IsCache, no_cache, cache, IsSchedule, no_schedule, schedule}
 use Rattle.fab_tree.specs.Syntax.{IsStart, IsText, start}
 use Rattle.fab_reading.specs.Reading.{BeginsWith, SameHead, Follows, Read, Refused, Deep, any, nothing, begins_root, begins_session, behind_list}
 use Rattle.fab_bundle.specs.Pieces.{begins_post, begins_crash, after_crashes}
 use Rattle.fab_bundle.specs.Texts.{BadNext, BadToken, BadBracket, TooMany}
-use Rattle.fab_reading.proofs.Rules.{Then, Sign, HasText, Going, part, ending, extra, any_follows, sign_follows, begins_at, room_append, followed}
+use Rattle.fab_reading.proofs.Rules.{Then, Sign, Going, part, ending, extra, any_follows, sign_follows, begins_at, room_append, followed}
 use Rattle.fab_reading.proofs.Rules as rules
-use Rattle.fab_parser.proofs.Chains.{chain}
-
-pub program_text : HasText IsProgram
-program_text = ([], record { nodes = []; delegations = []; labels = []; classes = []; methods = [] }, λ after. program no_more no_more no_more no_more no_more)
+use Rattle.fab_parser.proofs.Chains.{chain, texts}
+use Rattle.fab_bundle.proofs.PostRules.{cache_text}
+use Rattle.fab_bundle.proofs.EventRules.{schedule_text}
 
 -- ---- what may follow each part of a run
 
@@ -114,6 +113,8 @@ start_start =
     let p6 = p5.second in let p7 = p6.second in let p8 = p7.second in
     start p.first p1.first p2.first p3.first p4.first p5.first p6.first p7.first p8.first p8.second)
     start_back
+
+pub ruleset start_texts = (texts, cache_text, schedule_text)
 
 -- ---- where a text is refused
 

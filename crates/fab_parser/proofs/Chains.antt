@@ -1,5 +1,6 @@
 -- A rule as a chain of parts, none of which has a name of its own.
-use Rattle.std.proofs.Common.{◌≡◌, ◌+◌, ℕ, Bool, IsTrue, List, [], ◌∷◌, Some, suc, refl}
+use Rattle.std.proofs.Common.{◌≡◌, ◌+◌, ℕ, Bool, IsTrue, List, [], ◌∷◌, Some, suc, Result, Ok, Err, refl, sym, subst}
+use Rattle.std.specs.Result.{IsErrAnd, MatchResult}
 use Rattle.fab_base.specs.declared.token.Mark.{Mark}
 use Rattle.fab_base.specs.declared.token.Kind.{Kind}
 use Rattle.fab_base.specs.declared.token.Kind.TheVariants as k
@@ -8,7 +9,11 @@ use Rattle.fab_tree.specs.Depth.{room_by}
 use Rattle.fab_tree.specs.Lists.{Is, is, Ended, ended}
 use Rattle.fab_reading.specs.declared.refusal.Refusal.{Refusal}
 use Rattle.fab_reading.specs.Reading.{Follows, Read, Stops, CannotRead, any}
-use Rattle.fab_reading.proofs.Rules.{Then, Sign, HasText, Going, start, turn, part, sign, opened, closed, whole, ending, end_text, token_of, sign_text, stop_part, stop_sign, sign_follows, any_follows}
+use Rattle.fab_reading.proofs.Rules.{Then, Sign, HasText, Going, start, turn, part, sign, opened, closed, whole, ending, end_text, token_of, sign_text, then_text, stop_part, stop_sign, sign_follows, any_follows}
+use Rattle.fab_reading.proofs.TokenRules.{name_text}
+use Rattle.fab_reading.proofs.ListRules.{repeated_text}
+use Rattle.fab_reading.proofs.ItemRules.{separated_text}
+use Rattle.fab_reading.proofs.ChoiceRules.{perhaps_text}
 
 -- what a rule with one form comes to
 pub chain : {A B : Type 0} {R : List Token → A → List Token → Type 0} {may : Kind → Bool} {room : ℕ} {S : List Token → B → List Token → Type 0} (f : B → A)
@@ -66,8 +71,16 @@ outside {mark = mark} n i e closes = (i, closed mark n closes e)
 
 -- ---- what stops
 
+-- what a `?` hands on
+pub exit : {T E : Type 0} (P : T → Type 0) (Q : E → Type 0) (e : E) (r : Result T E) → IsErrAnd r (λ y. y ≡ e) → Q e → MatchResult r P Q
+exit P Q e (Ok x) h q = absurd h
+exit P Q e (Err y) h q = subst Q (sym h) q
+
 pub mark_text : (mark : Mark) → HasText (Sign mark)
 mark_text mark = (token_of mark ∷ [], tt, λ after. is refl)
+
+-- some text of the parts that are to come
+pub ruleset texts = (then_text, mark_text, name_text, repeated_text, separated_text, perhaps_text)
 
 module _ {A B C : Type 0} {R : List Token → A → List Token → Type 0} {may : Kind → Bool} {room : ℕ} {a : List Token} {P : List Token → B → List Token → Type 0} {Q : List Token → C → List Token → Type 0} {left : ℕ} {b : List Token} where
   -- a part that any token may follow

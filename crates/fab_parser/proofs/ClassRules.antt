@@ -1,5 +1,5 @@
 -- Classes and their fields, part by part.
-use Rattle.std.proofs.Common.{◌≡◌, ℕ, List, [], ◌∷◌, refl}
+use Rattle.std.proofs.Common.{◌≡◌, ℕ, List, refl}
 use Rattle.fab_base.specs.declared.token.Mark.TheVariants as m
 use Rattle.fab_base.specs.declared.token.Token.{Token}
 use Rattle.fab_tree.specs.declared.name.Name.{Name}
@@ -7,10 +7,10 @@ use Rattle.fab_tree.specs.declared.declaration.Sort.{Sort}
 use Rattle.fab_tree.specs.declared.declaration.Sort.TheVariants as sorts
 use Rattle.fab_tree.specs.declared.declaration.Field.{Field}
 use Rattle.fab_tree.specs.declared.declaration.Class.{Class}
-use Rattle.fab_tree.specs.Lists.{Is, is, IsName, name, Repeated}
+use Rattle.fab_tree.specs.Lists.{Is, IsName, name, Repeated}
 use Rattle.fab_tree.specs.Declarations.{IsSort, int, class, IsField, field, IsClass}
 use Rattle.fab_reading.specs.Reading.{Lacks, BeginsWith, Read, any}
-use Rattle.fab_reading.proofs.Rules.{Then, Sign, HasText, Going, followed, lacks_too, start, token_of, turn}
+use Rattle.fab_reading.proofs.Rules.{Then, Sign, Going, followed, lacks_too, start, turn}
 use Rattle.fab_reading.proofs.TokenRules.{mark_read}
 use Rattle.fab_parser.proofs.Chains.{chain}
 
@@ -29,9 +29,6 @@ named_back h (class {x = x} i) = (x, refl, i)
 
 pub named_start : {room : ℕ} (a : List Token) → Lacks m.Int a → Going IsSort any room a IsName sorts.Class room a
 named_start {room = room} a h = turn sorts.Class (start IsSort any room a) (λ more v after. class) (λ more v after same d f. named_back (λ c i. lacks_too a more c h same i) d)
-
-pub sort_text : HasText IsSort
-sort_text = (token_of m.Int ∷ [], sorts.Int, λ after. int (is refl))
 
 -- ---- field = sort name ";"
 

@@ -20,7 +20,7 @@ use Rattle.fab_reading.proofs.ChoiceRules.{perhaps_none, perhaps_some}
 use Rattle.fab_reading.proofs.ItemRules.{items_meet}
 use Rattle.fab_reading.proofs.Rules.{End, Going, HasText, Sign, Then, behind_mark, followed, lacks_too, never, sign, sign_follows, start, turn, whole}
 use Rattle.fab_parser.specs.Pieces.{IsValue, after_authority, after_body, after_head, after_parameters, begins_authority, behind_statements}
-use Rattle.fab_parser.proofs.Chains.{chain}
+use Rattle.fab_parser.proofs.Chains.{chain, texts}
 
 -- ---- sort name ":" name
 
@@ -168,3 +168,5 @@ method_start =
     let p12 = p11.second in
     method p.first p1.first p2.first p3.first p4.first p5.first p6.first p7.first p8.first p9.first p10.first p11.first p12.first p12.second)
     method_back
+
+pub ruleset method_texts = (texts, fails_text, authority_text, result_text)

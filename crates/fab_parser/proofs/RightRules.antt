@@ -48,9 +48,6 @@ name_expression e after = fex.chain (fex.of_or (fex.chain (fex.of_and (fex.alone
 pub expression_text : HasText IsExpression
 expression_text = (any_name ∷ [], local_at 0 [], name_expression refl)
 
-pub condition_text : HasText (Bracketed IsExpression)
-condition_text = (token_of m.LeftParen ∷ any_name ∷ token_of m.RightParen ∷ [], local_at 0 [], λ after. bracketed (is refl) (name_expression refl (token_of m.RightParen ∷ after)) (is refl))
-
 pub given_text : HasText (Bracketed IsArguments)
 given_text = (token_of m.LeftParen ∷ token_of m.RightParen ∷ [], [], λ after. bracketed (is refl) none (is refl))
 
@@ -323,6 +320,3 @@ pub right_stops : (room : ℕ) (a : List Token) → Lacks m.New a → (Starts be
 right_stops room a n l c refusal.Memory x = tt
 right_stops room a n l c (refusal.Syntax left) x = chosen_refused rights.Plain (weaker begins_arguments after_expression) x (λ more v after. plain) (plain_from a n l c) (plain_seed a n l)
 right_stops room a n l c (refusal.Deep left) x = chosen_deep rights.Plain x (λ more v after. plain)
-
-pub right_text : HasText IsRight
-right_text = (expression_text.0, rights.Plain expression_text.1, λ after. plain (expression_text.2 after))

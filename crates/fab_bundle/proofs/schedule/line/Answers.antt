@@ -1,18 +1,17 @@
 use Rattle.std.proofs.Common.{refl}
-use Rattle.std.proofs.lemmas.Result.{err_from_is_err_and}
 use Rattle.fab_base.specs.declared.token.Mark.TheVariants as m
-use Rattle.fab_parser.proofs.Chains.{free, ◌>>◌, mark_text, free_stops, last_sign, last_sign_stops, ended_start}
+use Rattle.fab_parser.proofs.Chains.{exit, free, ◌>>◌, mark_text, free_stops, last_sign, last_sign_stops, ended_start}
 use Rattle.fab_bundle.proofs.schedule.line.Goals as goal
 
 pub returns-in_err-event : goal.returns-in_err-event
 returns-in_err-event c =
-    let p = err_from_is_err_and c.from_residual.result c.from_residual.ensures.1 in
-    rw (p.1, p.2) (free_stops c.in_err-event.field-0.0 (ended_start c.args.tokens.now) c.in_err-event.ensures (mark_text m.Semicolon))
+    exit _ _ _ c.from_residual.result c.from_residual.ensures.1
+    (free_stops c.in_err-event.field-0.0 (ended_start c.args.tokens.now) c.in_err-event.ensures (mark_text m.Semicolon))
 
 pub returns-in_err-rest : goal.returns-in_err-rest
 returns-in_err-rest c =
-    let p = err_from_is_err_and c.from_residual-in_err-rest.result c.from_residual-in_err-rest.ensures.1 in
-    rw (p.1, p.2) (last_sign_stops c.in_err-rest.field-0.0 (ended_start c.args.tokens.now >> free c.in_ok-event.ensures) c.in_err-rest.ensures)
+    exit _ _ _ c.from_residual-in_err-rest.result c.from_residual-in_err-rest.ensures.1
+    (last_sign_stops c.in_err-rest.field-0.0 (ended_start c.args.tokens.now >> free c.in_ok-event.ensures) c.in_err-rest.ensures)
 
 pub returns : goal.returns
 returns c = last_sign (ended_start c.args.tokens.now >> free c.in_ok-event.ensures) (c.in_ok-rest.ensures, refl)

@@ -1,10 +1,7 @@
 use Rattle.std.proofs.Common.{refl}
-use Rattle.std.proofs.lemmas.Result.{err_from_is_err_and}
-use Rattle.fab_base.specs.declared.token.Mark.TheVariants as m
 use Rattle.fab_reading.specs.Reading.{any, behind_list}
-use Rattle.fab_reading.proofs.Rules.{then_text, stop_open, whole}
-use Rattle.fab_reading.proofs.ListRules.{repeated_text}
-use Rattle.fab_parser.proofs.Chains.{led_last, ◌>>◌, ◌>|◌, inside, outside, mark_text, led_last_stops, last_sign, last_sign_stops}
+use Rattle.fab_reading.proofs.Rules.{stop_open, whole}
+use Rattle.fab_parser.proofs.Chains.{exit, texts, led_last, ◌>>◌, ◌>|◌, inside, outside, led_last_stops, last_sign, last_sign_stops}
 use Rattle.fab_bundle.specs.Pieces.{begins_event}
 use Rattle.fab_bundle.proofs.EventRules.{schedule_start, schedule_none}
 use Rattle.fab_bundle.proofs.schedule.schedule.Goals as goal
@@ -14,19 +11,22 @@ returns-in-None c = rw c.new.ensures (whole (schedule_none c.args.tokens.now c.i
 
 pub returns-in_err-rest-in-Some : goal.returns-in_err-rest-in-Some
 returns-in_err-rest-in-Some c =
-    let p = err_from_is_err_and c.from_residual.result c.from_residual.ensures.1 in
-    rw (p.1, p.2) (stop_open c.in_err-rest-in-Some.field-0.0 (schedule_start c.in-Some.ensures) c.in_err-rest-in-Some.ensures refl (then_text repeated_text (mark_text m.RightBrace)))
+    exit _ _ _ c.from_residual.result c.from_residual.ensures.1
+    (stop_open c.in_err-rest-in-Some.field-0.0 (schedule_start c.in-Some.ensures) c.in_err-rest-in-Some.ensures refl (search texts))
 
 pub returns-in_err-events-in-Some : goal.returns-in_err-events-in-Some
 returns-in_err-events-in-Some c =
-    let p = err_from_is_err_and c.from_residual-in_err-events-in-Some.result c.from_residual-in_err-events-in-Some.ensures.1 in
-    rw (p.1, p.2) (led_last_stops (behind_list begins_event any) c.in_err-events-in-Some.field-0.0 (schedule_start c.in-Some.ensures >| inside c.in_ok-rest-in-Some.ensures (λ r. refl)) c.in_err-events-in-Some.ensures refl)
+    exit _ _ _ c.from_residual-in_err-events-in-Some.result c.from_residual-in_err-events-in-Some.ensures.1
+    (led_last_stops (behind_list begins_event any) c.in_err-events-in-Some.field-0.0 (schedule_start c.in-Some.ensures
+    >| inside c.in_ok-rest-in-Some.ensures (λ r. refl)) c.in_err-events-in-Some.ensures refl)
 
 pub returns-in_err-rest-in-Some-2 : goal.returns-in_err-rest-in-Some-2
 returns-in_err-rest-in-Some-2 c =
-    let p = err_from_is_err_and c.from_residual-in_err-rest-in-Some-2.result c.from_residual-in_err-rest-in-Some-2.ensures.1 in
-    rw (p.1, p.2) (last_sign_stops c.in_err-rest-in-Some-2.field-0.0 (schedule_start c.in-Some.ensures >| inside c.in_ok-rest-in-Some.ensures (λ r. refl) >> led_last c.in_ok-events-in-Some.ensures refl) c.in_err-rest-in-Some-2.ensures)
+    exit _ _ _ c.from_residual-in_err-rest-in-Some-2.result c.from_residual-in_err-rest-in-Some-2.ensures.1
+    (last_sign_stops c.in_err-rest-in-Some-2.field-0.0 (schedule_start c.in-Some.ensures >| inside c.in_ok-rest-in-Some.ensures (λ r. refl)
+    >> led_last c.in_ok-events-in-Some.ensures refl) c.in_err-rest-in-Some-2.ensures)
 
 pub returns-in_ok-rest-in-Some-2 : goal.returns-in_ok-rest-in-Some-2
 returns-in_ok-rest-in-Some-2 c =
-    last_sign (schedule_start c.in-Some.ensures >| inside c.in_ok-rest-in-Some.ensures (λ r. refl) >> led_last c.in_ok-events-in-Some.ensures refl) (outside _ c.in_ok-rest-in-Some-2.ensures c.in_ok-rest-in-Some.ensures.1 (λ r. refl))
+    last_sign (schedule_start c.in-Some.ensures >| inside c.in_ok-rest-in-Some.ensures (λ r. refl) >> led_last c.in_ok-events-in-Some.ensures refl)
+    (outside _ c.in_ok-rest-in-Some-2.ensures c.in_ok-rest-in-Some.ensures.1 (λ r. refl))

@@ -1,9 +1,9 @@
 use Rattle.std.proofs.Common.{ap, append-nil, arith, refl, sym, ◌++◌, ◌∙◌, ◌∷◌}
-use Rattle.std.proofs.lemmas.Result.{err_from_is_err_and}
 use Rattle.fab_base.specs.declared.token.Mark.TheVariants as m
 use Rattle.fab_reading.specs.Reading.{any, is_comma}
 use Rattle.fab_reading.proofs.ItemRules.{items_text, last_item, next_item}
 use Rattle.fab_reading.proofs.Rules.{alike, one_more, part, read_shorter, sign, sign_shorter, stop_part, whole}
+use Rattle.fab_parser.proofs.Chains.{exit}
 use Rattle.fab_parser.specs.Pieces.{begins_authority}
 use Rattle.fab_parser.proofs.MethodRules.{authority_start, names_meet, nobody_start}
 use Rattle.fab_parser.proofs.methods.authority.Goals as goal
@@ -13,8 +13,8 @@ returns-in-None c = rw c.new-found.ensures (whole (nobody_start c.args.tokens.no
 
 pub returns-in_err-item : goal.returns-in_err-item
 returns-in_err-item c =
-    let p = err_from_is_err_and c.from_residual.result c.from_residual.ensures.1 in
-    rw (p.1, p.2) (stop_part any c.in_err-item.field-0.0 (authority_start c.in-Some.ensures) c.in_err-item.ensures names_meet items_text)
+    exit _ _ _ c.from_residual.result c.from_residual.ensures.1
+    (stop_part any c.in_err-item.field-0.0 (authority_start c.in-Some.ensures) c.in_err-item.ensures names_meet items_text)
 
 pub list-init : goal.list-init
 list-init c =
@@ -22,8 +22,10 @@ list-init c =
 
 pub returns-in_err-item-2 : goal.returns-in_err-item-2
 returns-in_err-item-2 c =
-    let p = err_from_is_err_and c.from_residual-in_err-item-2.result c.from_residual-in_err-item-2.ensures.1 in
-    rw (p.1, p.2) (stop_part any c.in_err-item-2.field-0.0 (sign (next_item begins_authority is_comma any m.Comma refl c.list.invariant c.in-Some-behind.ensures) c.in-Some-behind.ensures refl) c.in_err-item-2.ensures names_meet items_text)
+    exit _ _ _ c.from_residual-in_err-item-2.result c.from_residual-in_err-item-2.ensures.1
+    (stop_part any c.in_err-item-2.field-0.0
+    (sign (next_item begins_authority is_comma any m.Comma refl c.list.invariant c.in-Some-behind.ensures) c.in-Some-behind.ensures refl) c.in_err-item-2.ensures
+    names_meet items_text)
 
 pub list-smaller : goal.list-smaller
 list-smaller c = omega (arith, sign_shorter c.in-Some-behind.ensures, read_shorter c.in_ok-item-2.ensures)

@@ -1,34 +1,34 @@
 use Rattle.std.proofs.Common.{refl}
-use Rattle.std.proofs.lemmas.Result.{err_from_is_err_and}
-use Rattle.fab_base.specs.declared.token.Mark.TheVariants as m
 use Rattle.fab_reading.specs.Reading.{any}
-use Rattle.fab_reading.proofs.Rules.{sign_text, then_text, stop_sign}
+use Rattle.fab_reading.proofs.Rules.{stop_sign}
 use Rattle.fab_reading.proofs.TokenRules.{name_text}
-use Rattle.fab_parser.proofs.Chains.{free, ◌>>◌, ◌>|◌, free_stops}
+use Rattle.fab_parser.proofs.Chains.{exit, texts, free, ◌>>◌, ◌>|◌, free_stops}
 use Rattle.fab_parser.proofs.PartRules.{any_weak, last_read, last_stops}
 use Rattle.fab_parser.proofs.MethodRules.{parameter_start}
 use Rattle.fab_parser.proofs.methods.parameter.Goals as goal
 
 pub returns-in_err-sort : goal.returns-in_err-sort
 returns-in_err-sort c =
-    let p = err_from_is_err_and c.from_residual.result c.from_residual.ensures.1 in
-    rw (p.1, p.2) (free_stops c.in_err-sort.field-0.0 (parameter_start c.args.tokens.now) c.in_err-sort.ensures (then_text name_text (sign_text m.Colon name_text)))
+    exit _ _ _ c.from_residual.result c.from_residual.ensures.1
+    (free_stops c.in_err-sort.field-0.0 (parameter_start c.args.tokens.now) c.in_err-sort.ensures (search texts))
 
 pub returns-in_err-local : goal.returns-in_err-local
 returns-in_err-local c =
-    let p = err_from_is_err_and c.from_residual-in_err-local.result c.from_residual-in_err-local.ensures.1 in
-    rw (p.1, p.2) (free_stops c.in_err-local.field-0.0 (parameter_start c.args.tokens.now >> free c.in_ok-sort.ensures) c.in_err-local.ensures (sign_text m.Colon name_text))
+    exit _ _ _ c.from_residual-in_err-local.result c.from_residual-in_err-local.ensures.1
+    (free_stops c.in_err-local.field-0.0 (parameter_start c.args.tokens.now >> free c.in_ok-sort.ensures) c.in_err-local.ensures (search texts))
 
 pub returns-in_err-rest : goal.returns-in_err-rest
 returns-in_err-rest c =
-    let p = err_from_is_err_and c.from_residual-in_err-rest.result c.from_residual-in_err-rest.ensures.1 in
-    rw (p.1, p.2) (stop_sign c.in_err-rest.field-0.0 (parameter_start c.args.tokens.now >> free c.in_ok-sort.ensures >> free c.in_ok-local.ensures) c.in_err-rest.ensures name_text)
+    exit _ _ _ c.from_residual-in_err-rest.result c.from_residual-in_err-rest.ensures.1
+    (stop_sign c.in_err-rest.field-0.0 (parameter_start c.args.tokens.now >> free c.in_ok-sort.ensures >> free c.in_ok-local.ensures) c.in_err-rest.ensures name_text)
 
 pub returns-in_err-label : goal.returns-in_err-label
 returns-in_err-label c =
-    let p = err_from_is_err_and c.from_residual-in_err-label.result c.from_residual-in_err-label.ensures.1 in
-    rw (p.1, p.2) (last_stops any (any_weak any) c.in_err-label.field-0.0 (parameter_start c.args.tokens.now >> free c.in_ok-sort.ensures >> free c.in_ok-local.ensures >| (c.in_ok-rest.ensures, refl)) c.in_err-label.ensures)
+    exit _ _ _ c.from_residual-in_err-label.result c.from_residual-in_err-label.ensures.1
+    (last_stops any (any_weak any) c.in_err-label.field-0.0 (parameter_start c.args.tokens.now >> free c.in_ok-sort.ensures >> free c.in_ok-local.ensures
+    >| (c.in_ok-rest.ensures, refl)) c.in_err-label.ensures)
 
 pub returns : goal.returns
 returns c =
-    last_read (any_weak any) (parameter_start c.args.tokens.now >> free c.in_ok-sort.ensures >> free c.in_ok-local.ensures >| (c.in_ok-rest.ensures, refl)) c.in_ok-label.ensures
+    last_read (any_weak any) (parameter_start c.args.tokens.now >> free c.in_ok-sort.ensures >> free c.in_ok-local.ensures >| (c.in_ok-rest.ensures, refl))
+    c.in_ok-label.ensures

@@ -1,4 +1,4 @@
-use Rattle.std.proofs.lemmas.Result.{err_from_is_err_and}
+use Rattle.fab_parser.proofs.Chains.{exit}
 use Rattle.fab_parser.proofs.NodeRules.{worker_read, store_read, machine_stops}
 use Rattle.fab_parser.proofs.nodes.machine.Goals as goal
 
@@ -7,8 +7,8 @@ returns-in-Some c = worker_read c.args.hostile c.in-Some.ensures
 
 pub returns-in_err-rest-in-None : goal.returns-in_err-rest-in-None
 returns-in_err-rest-in-None c =
-    let p = err_from_is_err_and c.from_residual.result c.from_residual.ensures.1 in
-    rw (p.1, p.2) (machine_stops c.args.hostile c.args.room c.args.tokens.now c.in_err-rest-in-None.field-0.0 c.in-None.ensures c.in_err-rest-in-None.ensures)
+    exit _ _ _ c.from_residual.result c.from_residual.ensures.1
+    (machine_stops c.args.hostile c.args.room c.args.tokens.now c.in_err-rest-in-None.field-0.0 c.in-None.ensures c.in_err-rest-in-None.ensures)
 
 pub returns-in_ok-rest-in-None : goal.returns-in_ok-rest-in-None
 returns-in_ok-rest-in-None c = store_read c.args.hostile c.in_ok-rest-in-None.ensures

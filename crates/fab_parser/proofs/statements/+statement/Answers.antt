@@ -1,11 +1,9 @@
 use Rattle.std.proofs.Common.{append-nil, refl}
-use Rattle.std.proofs.lemmas.Result.{err_from_is_err_and}
-use Rattle.fab_base.specs.declared.token.Mark.TheVariants as m
 use Rattle.fab_reading.specs.Reading.{any}
-use Rattle.fab_reading.proofs.Rules.{alike, part, sign_text, then_text, stop_part, stop_sign, stop_open, whole, not_true, one_more, takes_some}
+use Rattle.fab_reading.proofs.Rules.{alike, part, stop_part, stop_sign, stop_open, whole, not_true, one_more, takes_some}
 use Rattle.fab_reading.proofs.ListRules.{list_end, list_more, repeated_text}
 use Rattle.fab_parser.specs.Pieces.{after_statement, begins_statement, behind_statements}
-use Rattle.fab_parser.proofs.Chains.{free, led_last, ◌>>◌, ◌>|◌, inside, outside, mark_text, free_stops, led_last_stops, last_sign, last_sign_stops}
+use Rattle.fab_parser.proofs.Chains.{exit, texts, free, led_last, ◌>>◌, ◌>|◌, inside, outside, free_stops, led_last_stops, last_sign, last_sign_stops}
 use Rattle.fab_parser.proofs.PartRules.{any_weak, handed, last_read, last_stops}
 use Rattle.fab_parser.proofs.StatementParts.{block_text, otherwise_text, choice_start, loop_start, attempt_start, block_start, else_block, else_lacks}
 use Rattle.fab_parser.proofs.StatementRules.{atomic_start, fail_start, if_start, int_start, statement_begins, statement_refused, statements_meet, while_start}
@@ -13,18 +11,19 @@ use Rattle.fab_parser.proofs.statements.+statement.Goals as goal
 
 pub choice-returns-in_err-condition : goal.choice-returns-in_err-condition
 choice-returns-in_err-condition t c =
-    let p = err_from_is_err_and c.from_residual.result c.from_residual.ensures.1 in
-    rw (p.1, p.2) (free_stops c.in_err-condition.field-0.0 (choice_start c.args.tokens.now) c.in_err-condition.ensures (then_text block_text otherwise_text))
+    exit _ _ _ c.from_residual.result c.from_residual.ensures.1
+    (free_stops c.in_err-condition.field-0.0 (choice_start c.args.tokens.now) c.in_err-condition.ensures (search (texts, block_text, otherwise_text)))
 
 pub choice-returns-in_err-first : goal.choice-returns-in_err-first
 choice-returns-in_err-first t c =
-    let p = err_from_is_err_and c.from_residual-in_err-first.result c.from_residual-in_err-first.ensures.1 in
-    rw (p.1, p.2) (free_stops c.in_err-first.field-0.0 (choice_start c.args.tokens.now >> free c.in_ok-condition.ensures) c.in_err-first.ensures otherwise_text)
+    exit _ _ _ c.from_residual-in_err-first.result c.from_residual-in_err-first.ensures.1
+    (free_stops c.in_err-first.field-0.0 (choice_start c.args.tokens.now >> free c.in_ok-condition.ensures) c.in_err-first.ensures otherwise_text)
 
 pub choice-returns-in_err-second : goal.choice-returns-in_err-second
 choice-returns-in_err-second t c =
-    let p = err_from_is_err_and c.from_residual-in_err-second.result c.from_residual-in_err-second.ensures.1 in
-    rw (p.1, p.2) (last_stops after_statement (λ x h. h) c.in_err-second.field-0.0 (choice_start c.args.tokens.now >> free c.in_ok-condition.ensures >> free c.in_ok-first.ensures) c.in_err-second.ensures)
+    exit _ _ _ c.from_residual-in_err-second.result c.from_residual-in_err-second.ensures.1
+    (last_stops after_statement (λ x h. h) c.in_err-second.field-0.0 (choice_start c.args.tokens.now >> free c.in_ok-condition.ensures >> free c.in_ok-first.ensures)
+    c.in_err-second.ensures)
 
 pub choice-returns : goal.choice-returns
 choice-returns t c =
@@ -32,75 +31,80 @@ choice-returns t c =
 
 pub repetition-returns-in_err-condition : goal.repetition-returns-in_err-condition
 repetition-returns-in_err-condition t c =
-    let p = err_from_is_err_and c.from_residual.result c.from_residual.ensures.1 in
-    rw (p.1, p.2) (free_stops c.in_err-condition.field-0.0 (loop_start c.args.tokens.now) c.in_err-condition.ensures block_text)
+    exit _ _ _ c.from_residual.result c.from_residual.ensures.1
+    (free_stops c.in_err-condition.field-0.0 (loop_start c.args.tokens.now) c.in_err-condition.ensures block_text)
 
 pub repetition-returns-in_err-inside : goal.repetition-returns-in_err-inside
 repetition-returns-in_err-inside t c =
-    let p = err_from_is_err_and c.from_residual-in_err-inside.result c.from_residual-in_err-inside.ensures.1 in
-    rw (p.1, p.2) (last_stops any (any_weak any) c.in_err-inside.field-0.0 (loop_start c.args.tokens.now >> free c.in_ok-condition.ensures) c.in_err-inside.ensures)
+    exit _ _ _ c.from_residual-in_err-inside.result c.from_residual-in_err-inside.ensures.1
+    (last_stops any (any_weak any) c.in_err-inside.field-0.0 (loop_start c.args.tokens.now >> free c.in_ok-condition.ensures) c.in_err-inside.ensures)
 
 pub repetition-returns : goal.repetition-returns
 repetition-returns t c = last_read (any_weak any) (loop_start c.args.tokens.now >> free c.in_ok-condition.ensures) c.in_ok-inside.ensures
 
 pub attempt-returns-in_err-label : goal.attempt-returns-in_err-label
 attempt-returns-in_err-label t c =
-    let p = err_from_is_err_and c.from_residual.result c.from_residual.ensures.1 in
-    rw (p.1, p.2) (free_stops c.in_err-label.field-0.0 (attempt_start c.args.tokens.now) c.in_err-label.ensures (then_text block_text (sign_text m.Else block_text)))
+    exit _ _ _ c.from_residual.result c.from_residual.ensures.1
+    (free_stops c.in_err-label.field-0.0 (attempt_start c.args.tokens.now) c.in_err-label.ensures (search (texts, block_text)))
 
 pub attempt-returns-in_err-first : goal.attempt-returns-in_err-first
 attempt-returns-in_err-first t c =
-    let p = err_from_is_err_and c.from_residual-in_err-first.result c.from_residual-in_err-first.ensures.1 in
-    rw (p.1, p.2) (free_stops c.in_err-first.field-0.0 (attempt_start c.args.tokens.now >> free c.in_ok-label.ensures) c.in_err-first.ensures (sign_text m.Else block_text))
+    exit _ _ _ c.from_residual-in_err-first.result c.from_residual-in_err-first.ensures.1
+    (free_stops c.in_err-first.field-0.0 (attempt_start c.args.tokens.now >> free c.in_ok-label.ensures) c.in_err-first.ensures (search (texts, block_text)))
 
 pub attempt-returns-in_err-rest : goal.attempt-returns-in_err-rest
 attempt-returns-in_err-rest t c =
-    let p = err_from_is_err_and c.from_residual-in_err-rest.result c.from_residual-in_err-rest.ensures.1 in
-    rw (p.1, p.2) (stop_sign c.in_err-rest.field-0.0 (attempt_start c.args.tokens.now >> free c.in_ok-label.ensures >> free c.in_ok-first.ensures) c.in_err-rest.ensures block_text)
+    exit _ _ _ c.from_residual-in_err-rest.result c.from_residual-in_err-rest.ensures.1
+    (stop_sign c.in_err-rest.field-0.0 (attempt_start c.args.tokens.now >> free c.in_ok-label.ensures >> free c.in_ok-first.ensures) c.in_err-rest.ensures block_text)
 
 pub attempt-returns-in_err-second : goal.attempt-returns-in_err-second
 attempt-returns-in_err-second t c =
-    let p = err_from_is_err_and c.from_residual-in_err-second.result c.from_residual-in_err-second.ensures.1 in
-    rw (p.1, p.2) (last_stops any (any_weak any) c.in_err-second.field-0.0 (attempt_start c.args.tokens.now >> free c.in_ok-label.ensures >> free c.in_ok-first.ensures >| (c.in_ok-rest.ensures, refl)) c.in_err-second.ensures)
+    exit _ _ _ c.from_residual-in_err-second.result c.from_residual-in_err-second.ensures.1
+    (last_stops any (any_weak any) c.in_err-second.field-0.0 (attempt_start c.args.tokens.now >> free c.in_ok-label.ensures >> free c.in_ok-first.ensures
+    >| (c.in_ok-rest.ensures, refl)) c.in_err-second.ensures)
 
 pub attempt-returns : goal.attempt-returns
 attempt-returns t c =
-    last_read (any_weak any) (attempt_start c.args.tokens.now >> free c.in_ok-label.ensures >> free c.in_ok-first.ensures >| (c.in_ok-rest.ensures, refl)) c.in_ok-second.ensures
+    last_read (any_weak any) (attempt_start c.args.tokens.now >> free c.in_ok-label.ensures >> free c.in_ok-first.ensures >| (c.in_ok-rest.ensures, refl))
+    c.in_ok-second.ensures
 
 pub block-returns-in_err-rest : goal.block-returns-in_err-rest
 block-returns-in_err-rest t c =
-    let p = err_from_is_err_and c.from_residual.result c.from_residual.ensures.1 in
-    rw (p.1, p.2) (stop_open c.in_err-rest.field-0.0 (block_start c.args.tokens.now) c.in_err-rest.ensures refl (then_text repeated_text (mark_text m.RightBrace)))
+    exit _ _ _ c.from_residual.result c.from_residual.ensures.1
+    (stop_open c.in_err-rest.field-0.0 (block_start c.args.tokens.now) c.in_err-rest.ensures refl (search texts))
 
 pub block-returns-in_err-inside : goal.block-returns-in_err-inside
 block-returns-in_err-inside t c =
-    let p = err_from_is_err_and c.from_residual-in_err-inside.result c.from_residual-in_err-inside.ensures.1 in
-    rw (p.1, p.2) (led_last_stops behind_statements c.in_err-inside.field-0.0 (block_start c.args.tokens.now >| inside c.in_ok-rest.ensures (λ r. refl)) c.in_err-inside.ensures refl)
+    exit _ _ _ c.from_residual-in_err-inside.result c.from_residual-in_err-inside.ensures.1
+    (led_last_stops behind_statements c.in_err-inside.field-0.0 (block_start c.args.tokens.now >| inside c.in_ok-rest.ensures (λ r. refl)) c.in_err-inside.ensures refl)
 
 pub block-returns-in_err-rest-2 : goal.block-returns-in_err-rest-2
 block-returns-in_err-rest-2 t c =
-    let p = err_from_is_err_and c.from_residual-in_err-rest-2.result c.from_residual-in_err-rest-2.ensures.1 in
-    rw (p.1, p.2) (last_sign_stops c.in_err-rest-2.field-0.0 (block_start c.args.tokens.now >| inside c.in_ok-rest.ensures (λ r. refl) >> led_last c.in_ok-inside.ensures refl) c.in_err-rest-2.ensures)
+    exit _ _ _ c.from_residual-in_err-rest-2.result c.from_residual-in_err-rest-2.ensures.1
+    (last_sign_stops c.in_err-rest-2.field-0.0 (block_start c.args.tokens.now >| inside c.in_ok-rest.ensures (λ r. refl) >> led_last c.in_ok-inside.ensures refl)
+    c.in_err-rest-2.ensures)
 
 pub block-returns : goal.block-returns
 block-returns t c =
-    last_sign (block_start c.args.tokens.now >| inside c.in_ok-rest.ensures (λ r. refl) >> led_last c.in_ok-inside.ensures refl) (outside _ c.in_ok-rest-2.ensures c.in_ok-rest.ensures.1 (λ r. refl))
+    last_sign (block_start c.args.tokens.now >| inside c.in_ok-rest.ensures (λ r. refl) >> led_last c.in_ok-inside.ensures refl)
+    (outside _ c.in_ok-rest-2.ensures c.in_ok-rest.ensures.1 (λ r. refl))
 
 pub otherwise-returns-in-None : goal.otherwise-returns-in-None
 otherwise-returns-in-None t c = whole (else_lacks c.args.tokens.now c.in-None.ensures)
 
 pub otherwise-returns-in_err-second-in-Some : goal.otherwise-returns-in_err-second-in-Some
 otherwise-returns-in_err-second-in-Some t c =
-    let p = err_from_is_err_and c.from_residual.result c.from_residual.ensures.1 in
-    rw (p.1, p.2) (last_stops any (any_weak after_statement) c.in_err-second-in-Some.field-0.0 (else_block c.in-Some.ensures) c.in_err-second-in-Some.ensures)
+    exit _ _ _ c.from_residual.result c.from_residual.ensures.1
+    (last_stops any (any_weak after_statement) c.in_err-second-in-Some.field-0.0 (else_block c.in-Some.ensures) c.in_err-second-in-Some.ensures)
 
 pub otherwise-returns-in_ok-second-in-Some : goal.otherwise-returns-in_ok-second-in-Some
 otherwise-returns-in_ok-second-in-Some t c = last_read (any_weak after_statement) (else_block c.in-Some.ensures) c.in_ok-second-in-Some.ensures
 
 pub statements-returns-in_err-item : goal.statements-returns-in_err-item
 statements-returns-in_err-item t c =
-    let p = err_from_is_err_and c.from_residual.result c.from_residual.ensures.1 in
-    rw (p.1, p.2) (stop_part after_statement c.in_err-item.field-0.0 (list_more begins_statement after_statement c.list.invariant (c.starts_statement.ensures.0 c.list-test.true)) c.in_err-item.ensures statements_meet repeated_text)
+    exit _ _ _ c.from_residual.result c.from_residual.ensures.1
+    (stop_part after_statement c.in_err-item.field-0.0 (list_more begins_statement after_statement c.list.invariant (c.starts_statement.ensures.0 c.list-test.true))
+    c.in_err-item.ensures statements_meet repeated_text)
 
 pub statements-list-preserved : goal.statements-list-preserved
 statements-list-preserved t c =

@@ -1,6 +1,6 @@
-use Rattle.std.proofs.lemmas.Result.{err_from_is_err_and}
 use Rattle.fab_tree.specs.Statements.{IsStatement}
 use Rattle.fab_reading.specs.Reading.{any}
+use Rattle.fab_parser.proofs.Chains.{exit}
 use Rattle.fab_parser.specs.Pieces.{after_statement}
 use Rattle.fab_parser.proofs.PartRules.{any_weak, handed, name_stops}
 use Rattle.fab_parser.proofs.StatementRules.{assigns_start, declares_start, named_start, requests_start, writes_start}
@@ -8,8 +8,8 @@ use Rattle.fab_parser.proofs.statements.named.Goals as goal
 
 pub returns-in_err-first : goal.returns-in_err-first
 returns-in_err-first c =
-    let p = err_from_is_err_and c.from_residual.result c.from_residual.ensures.1 in
-    rw (p.1, p.2) (name_stops IsStatement after_statement c.args.room c.args.tokens.now c.requires c.in_err-first.field-0.0 c.in_err-first.ensures)
+    exit _ _ _ c.from_residual.result c.from_residual.ensures.1
+    (name_stops IsStatement after_statement c.args.room c.args.tokens.now c.requires c.in_err-first.field-0.0 c.in_err-first.ensures)
 
 pub returns-in-Some : goal.returns-in-Some
 returns-in-Some c = handed c.assigned.result (λ x. x.0) (λ x. x.1.now) any (any_weak after_statement) (assigns_start (named_start c.in_ok-first.ensures) c.in-Some.ensures) c.assigned.ensures
