@@ -48,10 +48,12 @@ module _ {room : ℕ} {a c : List Token} where
   resume_start i = behind_mark (λ at. steps.Resume) i refl (λ t e more v after p. resume (is e) p) (λ t e more u after d h. step_back t more u after e d)
 
   pub deliver_start : Is m.Deliver a c → Going IsStep any room a (Then IsName IsName) (λ v. steps.Deliver v.0 v.1) room c
-  deliver_start i = behind_mark (λ at v. steps.Deliver v.0 v.1) i refl (λ t e more v after p. deliver (is e) p.first p.second) (λ t e more u after d h. step_back t more u after e d)
+  deliver_start i =
+      behind_mark (λ at v. steps.Deliver v.0 v.1) i refl (λ t e more v after p. deliver (is e) p.first p.second) (λ t e more u after d h. step_back t more u after e d)
 
   pub idle_start : Is m.Idle a c → Going IsStep any room a (Then IsName IsName) (λ v. steps.Idle v.0 v.1) room c
-  idle_start i = behind_mark (λ at v. steps.Idle v.0 v.1) i refl (λ t e more v after p. idle (is e) p.first p.second) (λ t e more u after d h. step_back t more u after e d)
+  idle_start i =
+      behind_mark (λ at v. steps.Idle v.0 v.1) i refl (λ t e more v after p. idle (is e) p.first p.second) (λ t e more u after d h. step_back t more u after e d)
 
   pub recover_start : Is m.Recover a c → Going IsStep any room a IsName steps.Recover room c
   recover_start i = behind_mark (λ at. steps.Recover) i refl (λ t e more v after p. recover (is e) p) (λ t e more u after d h. step_back t more u after e d)
@@ -77,10 +79,12 @@ step_refused a f g h i j = here begins_step step_begins step_text (no_step_start
 -- ---- event = step | "crashin" number step | "post" name | "crash" name
 
 -- what begins with this mark begins no step
-no_step : {mark : Mark} {t : Token} {a : List Token} {v : Step} {b : List Token} → (IsTrue (begins_step (k.Fixed mark)) → ⊥) → t.kind ≡ k.Fixed mark → IsStep (t ∷ a) v b → ⊥
+no_step : {mark : Mark} {t : Token} {a : List Token} {v : Step} {b : List Token} → (IsTrue (begins_step (k.Fixed mark)) → ⊥) → t.kind ≡ k.Fixed mark
+    → IsStep (t ∷ a) v b → ⊥
 no_step h e p = h (subst (λ x. IsTrue (begins_step x)) e (step_begins _ _ _ p))
 
-cut_back : {t : Token} {a : List Token} {v : Event} {b : List Token} → t.kind ≡ k.Fixed m.CrashIn → IsEvent (t ∷ a) v b → (x : ℕ × Step) × (v ≡ events.CrashIn x.0 x.1) × Then IsNumeral IsStep a x b
+cut_back : {t : Token} {a : List Token} {v : Event} {b : List Token} → t.kind ≡ k.Fixed m.CrashIn → IsEvent (t ∷ a) v b
+    → (x : ℕ × Step) × (v ≡ events.CrashIn x.0 x.1) × Then IsNumeral IsStep a x b
 cut_back e (step p) = absurd (no_step never e p)
 cut_back e (crash_in {n = n} {x = x} (is g) p q) = ((n, x), refl, followed _ p q)
 cut_back e (post (is g) p) = absurd (cc)
@@ -98,7 +102,8 @@ posted_back e (crash (is g) p) = absurd (cc)
 pub posted_start : {room : ℕ} {a c : List Token} → Is m.Post a c → Going IsEvent any room a IsName events.Post room c
 posted_start i = behind_mark (λ at. events.Post) i refl (λ t e more v after p. post (is e) p) (λ t e more u after d h. posted_back e d)
 
-crashed_back : {t : Token} {a : List Token} {v : Event} {b : List Token} → t.kind ≡ k.Fixed m.Crash → IsEvent (t ∷ a) v b → (x : Name) × (v ≡ events.Crash x) × IsName a x b
+crashed_back : {t : Token} {a : List Token} {v : Event} {b : List Token} → t.kind ≡ k.Fixed m.Crash → IsEvent (t ∷ a) v b
+    → (x : Name) × (v ≡ events.Crash x) × IsName a x b
 crashed_back e (step p) = absurd (no_step never e p)
 crashed_back e (crash_in (is g) p q) = absurd (cc)
 crashed_back e (post (is g) p) = absurd (cc)
@@ -115,7 +120,8 @@ stepped_back s (crash (is e) p) = absurd (never (subst (λ x. IsTrue (begins_ste
 
 -- a step alone
 pub stepped_start : {room : ℕ} (a : List Token) → Starts begins_step a → Going IsEvent any room a IsStep events.Step room a
-stepped_start {room = room} a s = turn events.Step (start IsEvent any room a) (λ more v after. step) (λ more v after same d f. stepped_back (same_starts begins_step a more same s) d)
+stepped_start {room = room} a s =
+    turn events.Step (start IsEvent any room a) (λ more v after. step) (λ more v after same d f. stepped_back (same_starts begins_step a more same s) d)
 
 pub event_text : HasText IsEvent
 event_text = (step_text.0, events.Step step_text.1, λ after. step (step_text.2 after))
@@ -138,12 +144,14 @@ event_refused a f g h i = here begins_event event_begins event_text (no_event_st
 abbrev pub ScheduleChain : List Token → Unit {0} × (List Event × Unit {0}) → List Token → Type 0
 ScheduleChain = Then (Sign m.LeftBrace) (Then (Repeated (Ended m.Semicolon IsEvent)) (Sign m.RightBrace))
 
-schedule_back : {t : Token} {a : List Token} {v : List Event} {b : List Token} → t.kind ≡ k.Fixed m.Schedule → IsSchedule (t ∷ a) v b → Follows after_cache b → (x : Unit {0} × (List Event × Unit {0})) × (v ≡ x.1.0) × ScheduleChain a x b
+schedule_back : {t : Token} {a : List Token} {v : List Event} {b : List Token} → t.kind ≡ k.Fixed m.Schedule → IsSchedule (t ∷ a) v b → Follows after_cache b
+    → (x : Unit {0} × (List Event × Unit {0})) × (v ≡ x.1.0) × ScheduleChain a x b
 schedule_back e no_schedule h = absurd (never (subst (λ x. IsTrue (after_cache x)) e h))
 schedule_back e (schedule {xs = xs} (is g) p q r) h = ((tt, (xs, tt)), refl, followed _ p (followed _ q r))
 
 pub schedule_start : {room : ℕ} {a c : List Token} → Is m.Schedule a c → Going IsSchedule after_cache room a ScheduleChain (λ v. v.1.0) room c
-schedule_start i = behind_mark (λ at v. v.1.0) i refl (λ t e more v after p. schedule (is e) p.first p.second.first p.second.second) (λ t e more u after d h. schedule_back e d h)
+schedule_start i =
+    behind_mark (λ at v. v.1.0) i refl (λ t e more v after p. schedule (is e) p.first p.second.first p.second.second) (λ t e more u after d h. schedule_back e d h)
 
 none_back : {a : List Token} {v : List Event} {b : List Token} → Lacks m.Schedule a → IsSchedule a v b → (x : Unit {0}) × (v ≡ []) × (a ≡ b)
 none_back h no_schedule = (tt, refl, refl)

@@ -70,7 +70,8 @@ null_only e (root (name g)) = absurd (cc)
 pub null_read : {room : ℕ} {a b : List Token} → Is m.Null a b → Read IsLiteral any room a literals.Null b
 null_read {room = room} (is e) = leaf refl (ap (λ x. room_by x room) e) (λ more. null (is e)) (λ more v after d. null_only e d)
 
-negated_back : {t : Token} {a : List Token} {v : Literal} {b : List Token} → t.kind ≡ k.Fixed m.Minus → IsLiteral (t ∷ a) v b → (x : ℤ) × (v ≡ literals.Int x) × IsNegated a x b
+negated_back : {t : Token} {a : List Token} {v : Literal} {b : List Token} → t.kind ≡ k.Fixed m.Minus → IsLiteral (t ∷ a) v b
+    → (x : ℤ) × (v ≡ literals.Int x) × IsNegated a x b
 negated_back e (number (numeral g h)) = absurd (cc)
 negated_back e (negated {n = n} (is g) p) = (n, refl, p)
 negated_back e (null (is g)) = absurd (cc)

@@ -50,10 +50,13 @@ abbrev pub PostChain : List Token → PostParts → List Token → Type 0
 PostChain = Then (Sign m.Post) (Then IsName (Then (Sign m.Arrow) (Then IsName (Then IsBytes (Sign m.Semicolon)))))
 
 post_back : (a : List Token) (v : PostLine) (b : List Token) → IsPost a v b → (x : PostParts) × (v ≡ post_of x) × PostChain a x b
-post_back a v b (post {x = x} {y = y} {zs = zs} p q r s t u) = ((tt, (x, (tt, (y, (zs, tt))))), refl, followed _ p (followed _ q (followed _ r (followed _ s (followed _ t u)))))
+post_back a v b (post {x = x} {y = y} {zs = zs} p q r s t u) =
+    ((tt, (x, (tt, (y, (zs, tt))))), refl, followed _ p (followed _ q (followed _ r (followed _ s (followed _ t u)))))
 
 pub post_start : {room : ℕ} (a : List Token) → Going IsPost any room a PostChain post_of room a
-post_start = chain post_of (λ more v after p. let q = p.second in let r = q.second in let s = r.second in let t = s.second in post p.first q.first r.first s.first t.first t.second) post_back
+post_start =
+    chain post_of (λ more v after p. let q = p.second in let r = q.second in let s = r.second in
+    let t = s.second in post p.first q.first r.first s.first t.first t.second) post_back
 
 -- ---- ["keep" number]
 
@@ -75,14 +78,18 @@ abbrev pub CrashChain : List Token → CrashParts → List Token → Type 0
 CrashChain = Then (Sign m.Crash) (Then IsName (Then (Sign m.After) (Then IsNumeral (Then (Perhaps m.Keep IsNumeral) (Sign m.Semicolon)))))
 
 crash_back : (a : List Token) (v : CrashLine) (b : List Token) → IsCrash a v b → (x : CrashParts) × (v ≡ crash_of x) × CrashChain a x b
-crash_back a v b (crash {x = x} {n = n} {z = z} p q r s t u) = ((tt, (x, (tt, (n, (z, tt))))), refl, followed _ p (followed _ q (followed _ r (followed _ s (followed _ t u)))))
+crash_back a v b (crash {x = x} {n = n} {z = z} p q r s t u) =
+    ((tt, (x, (tt, (n, (z, tt))))), refl, followed _ p (followed _ q (followed _ r (followed _ s (followed _ t u)))))
 
 pub crash_start : {room : ℕ} (a : List Token) → Going IsCrash any room a CrashChain crash_of room a
-crash_start = chain crash_of (λ more v after p. let q = p.second in let r = q.second in let s = r.second in let t = s.second in crash p.first q.first r.first s.first t.first t.second) crash_back
+crash_start =
+    chain crash_of (λ more v after p. let q = p.second in let r = q.second in let s = r.second in
+    let t = s.second in crash p.first q.first r.first s.first t.first t.second) crash_back
 
 -- ---- ["cache" number ";"]
 
-cache_back : {t : Token} {a : List Token} {v : ℕ} {b : List Token} → t.kind ≡ k.Fixed m.Cache → IsCache (t ∷ a) v b → Follows after_crashes b → (x : ℕ × Unit {0}) × (v ≡ x.0) × Then IsNumeral (Sign m.Semicolon) a x b
+cache_back : {t : Token} {a : List Token} {v : ℕ} {b : List Token} → t.kind ≡ k.Fixed m.Cache → IsCache (t ∷ a) v b → Follows after_crashes b
+    → (x : ℕ × Unit {0}) × (v ≡ x.0) × Then IsNumeral (Sign m.Semicolon) a x b
 cache_back e no_cache h = absurd (never (subst (λ x. IsTrue (after_crashes x)) e h))
 cache_back e (cache {n = n} (is g) p q) h = ((n, tt), refl, followed _ p q)
 

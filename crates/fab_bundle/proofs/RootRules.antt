@@ -22,10 +22,17 @@ abbrev pub root_of : RootParts → Root
 root_of v = record { name = v.1.0; class = v.1.1.1.0; store = v.1.1.1.1.1.0; values = v.1.1.1.1.1.1.1.0 }
 
 abbrev pub RootChain : List Token → RootParts → List Token → Type 0
-RootChain = Then (Sign m.Root) (Then IsName (Then (Sign m.Colon) (Then IsName (Then (Sign m.At) (Then IsName (Then (Sign m.LeftParen) (Then (Separated m.Comma IsGiven) (Then (Sign m.RightParen) (Sign m.Semicolon)))))))))
+RootChain =
+    Then (Sign m.Root) (Then IsName (Then (Sign m.Colon) (Then IsName (Then (Sign m.At) (Then IsName (Then (Sign m.LeftParen) (Then (Separated m.Comma IsGiven)
+    (Then (Sign m.RightParen) (Sign m.Semicolon)))))))))
 
 root_back : (a : List Token) (v : Root) (b : List Token) → IsRoot a v b → (x : RootParts) × (v ≡ root_of x) × RootChain a x b
-root_back a v b (root {x = x} {y = y} {z = z} {ws = ws} q0 q1 q2 q3 q4 q5 q6 q7 q8 q9) = ((tt, (x, (tt, (y, (tt, (z, (tt, (ws, (tt, tt))))))))), refl, followed _ q0 (followed _ q1 (followed _ q2 (followed _ q3 (followed _ q4 (followed _ q5 (followed _ q6 (followed _ q7 (followed _ q8 q9)))))))))
+root_back a v b (root {x = x} {y = y} {z = z} {ws = ws} q0 q1 q2 q3 q4 q5 q6 q7 q8 q9) = (
+  (tt, (x, (tt, (y, (tt, (z, (tt, (ws, (tt, tt))))))))),
+  refl,
+  followed _ q0 (followed _ q1 (followed _ q2 (followed _ q3 (followed _ q4 (followed _ q5
+      (followed _ q6 (followed _ q7 (followed _ q8 q9)))))))),
+)
 
 pub root_start : {room : ℕ} (a : List Token) → Going IsRoot any room a RootChain root_of room a
 root_start =
@@ -50,7 +57,8 @@ request_back : (a : List Token) (v : RequestText) (b : List Token) → IsRequest
 request_back a v b (request {x = x} {ys = ys} p q r s t) = ((x, (tt, (ys, (tt, tt)))), refl, followed _ p (followed _ q (followed _ r (followed _ s t))))
 
 pub request_start : {room : ℕ} (a : List Token) → Going IsRequest any room a RequestChain request_of room a
-request_start = chain request_of (λ more v after p. let q = p.second in let r = q.second in let s = r.second in request p.first q.first r.first s.first s.second) request_back
+request_start =
+    chain request_of (λ more v after p. let q = p.second in let r = q.second in let s = r.second in request p.first q.first r.first s.first s.second) request_back
 
 -- ---- session = "session" name "{" {request} "}"
 
@@ -67,4 +75,5 @@ session_back : (a : List Token) (v : Session) (b : List Token) → IsSession a v
 session_back a v b (session {x = x} {ys = ys} p q r s t) = ((tt, (x, (tt, (ys, tt)))), refl, followed _ p (followed _ q (followed _ r (followed _ s t))))
 
 pub session_start : {room : ℕ} (a : List Token) → Going IsSession any room a SessionChain session_of room a
-session_start = chain session_of (λ more v after p. let q = p.second in let r = q.second in let s = r.second in session p.first q.first r.first s.first s.second) session_back
+session_start =
+    chain session_of (λ more v after p. let q = p.second in let r = q.second in let s = r.second in session p.first q.first r.first s.first s.second) session_back

@@ -63,33 +63,46 @@ module _ (may : Kind → Bool) (brace : IsTrue (may (k.Fixed m.RightBrace))) (sc
     optional_cache no_cache f = f
     optional_cache {a = a} (cache i j p) f = led may cached a (begins_at i)
 
-    cache_follows : (more : List Token) (v : ℕ × (List Event × Unit {0})) (after : List Token) → Then IsCache (Then IsSchedule (Sign m.RightBrace)) more v after → Follows may more
+    cache_follows : (more : List Token) (v : ℕ × (List Event × Unit {0})) (after : List Token) → Then IsCache (Then IsSchedule (Sign m.RightBrace)) more v after
+        → Follows may more
     cache_follows more v after q = optional_cache q.first (schedule_follows q.mid v.1 after q.second)
 
     module _ (crashed : IsTrue (may (k.Fixed m.Crash))) where
-      crashes_follow : (more : List Token) (v : List CrashLine × (ℕ × (List Event × Unit {0}))) (after : List Token) → Then (Repeated IsCrash) (Then IsCache (Then IsSchedule (Sign m.RightBrace))) more v after → Follows may more
+      crashes_follow : (more : List Token) (v : List CrashLine × (ℕ × (List Event × Unit {0}))) (after : List Token)
+          → Then (Repeated IsCrash) (Then IsCache (Then IsSchedule (Sign m.RightBrace))) more v after → Follows may more
       crashes_follow more v after q = list_follows may crash_led crashed more v.0 q.mid q.first (cache_follows q.mid v.1 after q.second)
 
       module _ (posted : IsTrue (may (k.Fixed m.Post))) where
-        posts_follow : (more : List Token) (v : List PostLine × (List CrashLine × (ℕ × (List Event × Unit {0})))) (after : List Token) → Then (Repeated IsPost) (Then (Repeated IsCrash) (Then IsCache (Then IsSchedule (Sign m.RightBrace)))) more v after → Follows may more
+        posts_follow : (more : List Token) (v : List PostLine × (List CrashLine × (ℕ × (List Event × Unit {0})))) (after : List Token)
+            → Then (Repeated IsPost) (Then (Repeated IsCrash) (Then IsCache (Then IsSchedule (Sign m.RightBrace)))) more v after → Follows may more
         posts_follow more v after q = list_follows may post_led posted more v.0 q.mid q.first (crashes_follow q.mid v.1 after q.second)
 
-        sessions_follow : IsTrue (may (k.Fixed m.Session)) → (more : List Token) (v : List Session × (List PostLine × (List CrashLine × (ℕ × (List Event × Unit {0}))))) (after : List Token) → Then (Repeated IsSession) (Then (Repeated IsPost) (Then (Repeated IsCrash) (Then IsCache (Then IsSchedule (Sign m.RightBrace))))) more v after → Follows may more
+        sessions_follow : IsTrue (may (k.Fixed m.Session))
+            → (more : List Token) (v : List Session × (List PostLine × (List CrashLine × (ℕ × (List Event × Unit {0}))))) (after : List Token)
+            → Then (Repeated IsSession) (Then (Repeated IsPost) (Then (Repeated IsCrash) (Then IsCache (Then IsSchedule (Sign m.RightBrace))))) more v after
+            → Follows may more
         sessions_follow h more v after q = list_follows may session_led h more v.0 q.mid q.first (posts_follow q.mid v.1 after q.second)
 
-pub behind_roots : (more : List Token) (v : List Session × (List PostLine × (List CrashLine × (ℕ × (List Event × Unit {0}))))) (after : List Token) → Then (Repeated IsSession) (Then (Repeated IsPost) (Then (Repeated IsCrash) (Then IsCache (Then IsSchedule (Sign m.RightBrace))))) more v after → Follows any after → Follows (behind_list begins_root any) more
+pub behind_roots : (more : List Token) (v : List Session × (List PostLine × (List CrashLine × (ℕ × (List Event × Unit {0}))))) (after : List Token)
+    → Then (Repeated IsSession) (Then (Repeated IsPost) (Then (Repeated IsCrash) (Then IsCache (Then IsSchedule (Sign m.RightBrace))))) more v after → Follows any after
+    → Follows (behind_list begins_root any) more
 behind_roots more v after q h = sessions_follow (behind_list begins_root any) refl refl refl refl refl refl more v after q
 
-pub behind_sessions : (more : List Token) (v : List PostLine × (List CrashLine × (ℕ × (List Event × Unit {0})))) (after : List Token) → Then (Repeated IsPost) (Then (Repeated IsCrash) (Then IsCache (Then IsSchedule (Sign m.RightBrace)))) more v after → Follows any after → Follows (behind_list begins_session any) more
+pub behind_sessions : (more : List Token) (v : List PostLine × (List CrashLine × (ℕ × (List Event × Unit {0})))) (after : List Token)
+    → Then (Repeated IsPost) (Then (Repeated IsCrash) (Then IsCache (Then IsSchedule (Sign m.RightBrace)))) more v after → Follows any after
+    → Follows (behind_list begins_session any) more
 behind_sessions more v after q h = posts_follow (behind_list begins_session any) refl refl refl refl refl more v after q
 
-pub behind_posts : (more : List Token) (v : List CrashLine × (ℕ × (List Event × Unit {0}))) (after : List Token) → Then (Repeated IsCrash) (Then IsCache (Then IsSchedule (Sign m.RightBrace))) more v after → Follows any after → Follows (behind_list begins_post any) more
+pub behind_posts : (more : List Token) (v : List CrashLine × (ℕ × (List Event × Unit {0}))) (after : List Token)
+    → Then (Repeated IsCrash) (Then IsCache (Then IsSchedule (Sign m.RightBrace))) more v after → Follows any after → Follows (behind_list begins_post any) more
 behind_posts more v after q h = crashes_follow (behind_list begins_post any) refl refl refl refl more v after q
 
-pub behind_crashes : (more : List Token) (v : ℕ × (List Event × Unit {0})) (after : List Token) → Then IsCache (Then IsSchedule (Sign m.RightBrace)) more v after → Follows any after → Follows (behind_list begins_crash any) more
+pub behind_crashes : (more : List Token) (v : ℕ × (List Event × Unit {0})) (after : List Token) → Then IsCache (Then IsSchedule (Sign m.RightBrace)) more v after
+    → Follows any after → Follows (behind_list begins_crash any) more
 behind_crashes more v after q h = cache_follows (behind_list begins_crash any) refl refl refl more v after q
 
-pub behind_cache : (more : List Token) (v : List Event × Unit {0}) (after : List Token) → Then IsSchedule (Sign m.RightBrace) more v after → Follows any after → Follows after_crashes more
+pub behind_cache : (more : List Token) (v : List Event × Unit {0}) (after : List Token) → Then IsSchedule (Sign m.RightBrace) more v after → Follows any after
+    → Follows after_crashes more
 behind_cache more v after q h = schedule_follows after_crashes refl refl more v after q
 
 -- ---- start = program "run" "{" {root} {session} {post} {crash} [cache] [schedule] "}"
@@ -101,10 +114,17 @@ abbrev pub start_of : StartParts → Start
 start_of v = record { program = v.0; roots = v.1.1.1.0; sessions = v.1.1.1.1.0; posts = v.1.1.1.1.1.0; crashes = v.1.1.1.1.1.1.0; cache = v.1.1.1.1.1.1.1.0; schedule = v.1.1.1.1.1.1.1.1.0 }
 
 abbrev pub StartChain : List Token → StartParts → List Token → Type 0
-StartChain = Then IsProgram (Then (Sign m.Run) (Then (Sign m.LeftBrace) (Then (Repeated IsRoot) (Then (Repeated IsSession) (Then (Repeated IsPost) (Then (Repeated IsCrash) (Then IsCache (Then IsSchedule (Sign m.RightBrace)))))))))
+StartChain =
+    Then IsProgram (Then (Sign m.Run) (Then (Sign m.LeftBrace) (Then (Repeated IsRoot) (Then (Repeated IsSession) (Then (Repeated IsPost) (Then (Repeated IsCrash)
+    (Then IsCache (Then IsSchedule (Sign m.RightBrace)))))))))
 
 start_back : (a : List Token) (v : Start) (b : List Token) → IsStart a v b → (x : StartParts) × (v ≡ start_of x) × StartChain a x b
-start_back a v b (start {p = p} {rs = rs} {ss = ss} {ps = ps} {cs = cs} {n = n} {es = es} q0 q1 q2 q3 q4 q5 q6 q7 q8 q9) = ((p, (tt, (tt, (rs, (ss, (ps, (cs, (n, (es, tt))))))))), refl, followed _ q0 (followed _ q1 (followed _ q2 (followed _ q3 (followed _ q4 (followed _ q5 (followed _ q6 (followed _ q7 (followed _ q8 q9)))))))))
+start_back a v b (start {p = p} {rs = rs} {ss = ss} {ps = ps} {cs = cs} {n = n} {es = es} q0 q1 q2 q3 q4 q5 q6 q7 q8 q9) = (
+  (p, (tt, (tt, (rs, (ss, (ps, (cs, (n, (es, tt))))))))),
+  refl,
+  followed _ q0 (followed _ q1 (followed _ q2 (followed _ q3 (followed _ q4 (followed _ q5
+      (followed _ q6 (followed _ q7 (followed _ q8 q9)))))))),
+)
 
 pub start_start : {room : ℕ} (a : List Token) → Going IsStart any room a StartChain start_of room a
 start_start =

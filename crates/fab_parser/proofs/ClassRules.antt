@@ -32,7 +32,8 @@ named_start {room = room} a h = turn sorts.Class (start IsSort any room a) (λ m
 
 -- ---- field = sort name ";"
 
-field_back : (a : List Token) (v : Field) (b : List Token) → IsField a v b → (x : Sort × (Name × Unit {0})) × (v ≡ record { sort = x.0; name = x.1.0 }) × Then IsSort (Then IsName (Sign m.Semicolon)) a x b
+field_back : (a : List Token) (v : Field) (b : List Token) → IsField a v b
+    → (x : Sort × (Name × Unit {0})) × (v ≡ record { sort = x.0; name = x.1.0 }) × Then IsSort (Then IsName (Sign m.Semicolon)) a x b
 field_back a v b (field {x = x} {y = y} p q r) = ((x, (y, tt)), refl, followed _ p (followed _ q r))
 
 pub field_start : {room : ℕ} (a : List Token) → Going IsField any room a (Then IsSort (Then IsName (Sign m.Semicolon))) (λ v. record { sort = v.0; name = v.1.0 }) room a
@@ -47,10 +48,17 @@ abbrev pub class_of : ClassParts → Class
 class_of v = record { name = v.1.0; label = v.1.1.1.0; access = v.1.1.1.1.1.0; fields = v.1.1.1.1.1.1.1.0 }
 
 abbrev pub ClassChain : List Token → ClassParts → List Token → Type 0
-ClassChain = Then (Sign m.Class) (Then IsName (Then (Sign m.Label) (Then IsName (Then (Sign m.Access) (Then IsName (Then (Sign m.LeftBrace) (Then (Repeated IsField) (Sign m.RightBrace))))))))
+ClassChain =
+    Then (Sign m.Class) (Then IsName (Then (Sign m.Label) (Then IsName (Then (Sign m.Access) (Then IsName (Then (Sign m.LeftBrace)
+    (Then (Repeated IsField) (Sign m.RightBrace))))))))
 
 class_back : (a : List Token) (v : Class) (b : List Token) → IsClass a v b → (x : ClassParts) × (v ≡ class_of x) × ClassChain a x b
-class_back a v b (class {x = x} {y = y} {z = z} {ws = ws} q0 q1 q2 q3 q4 q5 q6 q7 q8) = ((tt, (x, (tt, (y, (tt, (z, (tt, (ws, tt)))))))), refl, followed _ q0 (followed _ q1 (followed _ q2 (followed _ q3 (followed _ q4 (followed _ q5 (followed _ q6 (followed _ q7 q8))))))))
+class_back a v b (class {x = x} {y = y} {z = z} {ws = ws} q0 q1 q2 q3 q4 q5 q6 q7 q8) = (
+  (tt, (x, (tt, (y, (tt, (z, (tt, (ws, tt)))))))),
+  refl,
+  followed _ q0 (followed _ q1 (followed _ q2 (followed _ q3 (followed _ q4 (followed _ q5 (followed _ q6
+      (followed _ q7 q8))))))),
+)
 
 pub class_start : {room : ℕ} (a : List Token) → Going IsClass any room a ClassChain class_of room a
 class_start =

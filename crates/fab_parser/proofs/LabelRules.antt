@@ -91,10 +91,13 @@ abbrev pub label_of : LabelParts → LabelText
 label_of v = record { name = v.1.0; policies = v.1.1.1.1.0 }
 
 abbrev pub LabelChain : List Token → LabelParts → List Token → Type 0
-LabelChain = Then (Sign m.Label) (Then IsName (Then (Sign m.Equal) (Then (Sign m.LeftBrace) (Then (Separated m.Semicolon IsPolicy) (Then (Sign m.RightBrace) (Sign m.Semicolon))))))
+LabelChain =
+    Then (Sign m.Label) (Then IsName (Then (Sign m.Equal) (Then (Sign m.LeftBrace) (Then (Separated m.Semicolon IsPolicy)
+    (Then (Sign m.RightBrace) (Sign m.Semicolon))))))
 
 label_back : (a : List Token) (v : LabelText) (b : List Token) → IsLabel a v b → (w : LabelParts) × (v ≡ label_of w) × LabelChain a w b
-label_back a v b (label {x = x} {ys = ys} p q r s t u l) = ((tt, (x, (tt, (tt, (ys, (tt, tt)))))), refl, followed _ p (followed _ q (followed _ r (followed _ s (followed _ t (followed _ u l))))))
+label_back a v b (label {x = x} {ys = ys} p q r s t u l) =
+    ((tt, (x, (tt, (tt, (ys, (tt, tt)))))), refl, followed _ p (followed _ q (followed _ r (followed _ s (followed _ t (followed _ u l))))))
 
 pub label_start : {room : ℕ} (a : List Token) → Going IsLabel any room a LabelChain label_of room a
 label_start =

@@ -44,7 +44,8 @@ parameter_start = chain parameter_of (λ more v after p. let q = p.second in let
 abbrev pub typed_of : Sort × (Unit {0} × Name) → Returns
 typed_of v = record { sort = v.0; label = v.1.1 }
 
-typed_back : (a : List Token) (v : Returns) (b : List Token) → IsReturns a v b → (w : Sort × (Unit {0} × Name)) × (v ≡ typed_of w) × Then IsSort (Then (Sign m.Colon) IsName) a w b
+typed_back : (a : List Token) (v : Returns) (b : List Token) → IsReturns a v b
+    → (w : Sort × (Unit {0} × Name)) × (v ≡ typed_of w) × Then IsSort (Then (Sign m.Colon) IsName) a w b
 typed_back a v b (returns {x = x} {y = y} p q r) = ((x, (tt, y)), refl, followed _ p (followed _ q r))
 
 pub typed_start : {room : ℕ} (a : List Token) → Going IsReturns any room a (Then IsSort (Then (Sign m.Colon) IsName)) typed_of room a
@@ -60,12 +61,14 @@ returns_some {room = room} {a = a} i = sign (perhaps_some after_parameters never
 
 -- ---- ["fails"]
 
-fails_back : {t : Token} {a : List Token} {v : Bool} {b : List Token} → t.kind ≡ k.Fixed m.Fails → IsFails (t ∷ a) v b → Follows after_head b → (w : Unit {0}) × (v ≡ true) × End a w b
+fails_back : {t : Token} {a : List Token} {v : Bool} {b : List Token} → t.kind ≡ k.Fixed m.Fails → IsFails (t ∷ a) v b → Follows after_head b
+    → (w : Unit {0}) × (v ≡ true) × End a w b
 fails_back e safe h = absurd (never (subst (λ x. IsTrue (after_head x)) e h))
 fails_back e (fails (is g)) h = (tt, refl, refl)
 
 pub fails_start : {room : ℕ} {a c : List Token} → Is m.Fails a c → Going IsFails after_head room a End (λ v. true) room c
-fails_start i = behind_mark (λ at v. true) i refl (λ t e more v after p. subst (λ x. IsFails (t ∷ more) true x) p (fails (is e))) (λ t e more u after d h. fails_back e d h)
+fails_start i =
+    behind_mark (λ at v. true) i refl (λ t e more v after p. subst (λ x. IsFails (t ∷ more) true x) p (fails (is e))) (λ t e more u after d h. fails_back e d h)
 
 safe_back : {a : List Token} {v : Bool} {b : List Token} → Lacks m.Fails a → IsFails a v b → (x : Unit {0}) × (v ≡ false) × (a ≡ b)
 safe_back h safe = (tt, refl, refl)
@@ -82,7 +85,8 @@ fails_text = ([], false, λ after. safe)
 abbrev pub Names : List Token → Name × List Name → List Token → Type 0
 Names = Then IsName (Repeated (Behind m.Comma IsName))
 
-authority_back : {t : Token} {a : List Token} {v : List Name} {b : List Token} → t.kind ≡ k.Fixed m.Authority → IsAuthority (t ∷ a) v b → Follows after_authority b → (w : Name × List Name) × (v ≡ w.0 ∷ w.1) × Names a w b
+authority_back : {t : Token} {a : List Token} {v : List Name} {b : List Token} → t.kind ≡ k.Fixed m.Authority → IsAuthority (t ∷ a) v b → Follows after_authority b
+    → (w : Name × List Name) × (v ≡ w.0 ∷ w.1) × Names a w b
 authority_back e nobody h = absurd (never (subst (λ x. IsTrue (after_authority x)) e h))
 authority_back e (authority {x = x} {xs = xs} (is g) p q) h = ((x, xs), refl, followed _ p q)
 
@@ -141,19 +145,25 @@ result_head : {a b c : List Token} {q : Option Return} → IsResult a q b → Is
 result_head no_result i = sign_follows m.RightBrace behind_statements refl i
 result_head (result (return_ j p l)) i = sign_follows m.Return behind_statements refl j
 
-pub body_meets : (more : List Token) (v : Option Return × Unit {0}) (after : List Token) → Then IsResult (Sign m.RightBrace) more v after → Follows any after → Follows behind_statements more
+pub body_meets : (more : List Token) (v : Option Return × Unit {0}) (after : List Token) → Then IsResult (Sign m.RightBrace) more v after → Follows any after
+    → Follows behind_statements more
 body_meets more v after q h = result_head q.first q.second
 
 -- ---- method
 
 abbrev pub MethodParts : Type 0
-MethodParts = Unit {0} × (Name × (Unit {0} × (List Parameter × (Unit {0} × (Option Returns × (Unit {0} × (Name × (Bool × (List Name × (Unit {0} × (List Statement × (Option Return × Unit {0}))))))))))))
+MethodParts =
+    Unit {0} × (Name × (Unit {0} × (List Parameter × (Unit {0} × (Option Returns × (Unit {0} × (Name × (Bool × (List Name
+    × (Unit {0} × (List Statement × (Option Return × Unit {0}))))))))))))
 
 abbrev pub method_of : MethodParts → Method
 method_of v = record { name = v.1.0; parameters = v.1.1.1.0; returns = v.1.1.1.1.1.0; begin = v.1.1.1.1.1.1.1.0; fails = v.1.1.1.1.1.1.1.1.0; authority = v.1.1.1.1.1.1.1.1.1.0; body = v.1.1.1.1.1.1.1.1.1.1.1.0; result = v.1.1.1.1.1.1.1.1.1.1.1.1.0 }
 
 abbrev pub MethodChain : List Token → MethodParts → List Token → Type 0
-MethodChain = Then (Sign m.Method) (Then IsName (Then (Sign m.LeftParen) (Then (Separated m.Comma IsParameter) (Then (Sign m.RightParen) (Then (Perhaps m.Returns IsReturns) (Then (Sign m.Begin) (Then IsName (Then IsFails (Then IsAuthority (Then (Sign m.LeftBrace) (Then (Repeated IsStatement) (Then IsResult (Sign m.RightBrace)))))))))))))
+MethodChain =
+    Then (Sign m.Method) (Then IsName (Then (Sign m.LeftParen) (Then (Separated m.Comma IsParameter) (Then (Sign m.RightParen) (Then (Perhaps m.Returns IsReturns)
+    (Then (Sign m.Begin) (Then IsName (Then IsFails (Then IsAuthority (Then (Sign m.LeftBrace) (Then (Repeated IsStatement)
+    (Then IsResult (Sign m.RightBrace)))))))))))))
 
 method_back : (a : List Token) (v : Method) (b : List Token) → IsMethod a v b → (w : MethodParts) × (v ≡ method_of w) × MethodChain a w b
 method_back a v b (method {x = x} {ys = ys} {z = z} {u = u} {v = w} {ws = ws} {ts = ts} {q = q} q0 q1 q2 q3 q4 q5 q6 q7 q8 q9 q10 q11 q12 q13) =

@@ -101,7 +101,8 @@ honest_start {room = room} a p h = turn (λ v. v) (start IsRole any room a) (λ 
 abbrev pub node_of : Role × (Name × Unit {0}) → Node
 node_of v = record { role = v.0; name = v.1.0 }
 
-node_back : (a : List Token) (v : Node) (b : List Token) → IsNode a v b → (w : Role × (Name × Unit {0})) × (v ≡ node_of w) × Then IsRole (Then IsName (Sign m.Semicolon)) a w b
+node_back : (a : List Token) (v : Node) (b : List Token) → IsNode a v b
+    → (w : Role × (Name × Unit {0})) × (v ≡ node_of w) × Then IsRole (Then IsName (Sign m.Semicolon)) a w b
 node_back a v b (node {x = x} {y = y} p q r) = ((x, (y, tt)), refl, followed _ p (followed _ q r))
 
 pub node_start : {room : ℕ} (a : List Token) → Going IsNode any room a (Then IsRole (Then IsName (Sign m.Semicolon))) node_of room a

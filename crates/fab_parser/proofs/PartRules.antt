@@ -107,10 +107,12 @@ name_stops R may room a s (refusal.Deep n) x = absurd (no_bracket x.front x.next
 
 -- ---- "(" x ")"
 
-brackets_back : {A : Type 0} {P : List Token → A → List Token → Type 0} (a : List Token) (v : A) (b : List Token) → Bracketed P a v b → (w : Unit {0} × (A × Unit {0})) × (v ≡ w.1.0) × Then (Sign m.LeftParen) (Then P (Sign m.RightParen)) a w b
+brackets_back : {A : Type 0} {P : List Token → A → List Token → Type 0} (a : List Token) (v : A) (b : List Token) → Bracketed P a v b
+    → (w : Unit {0} × (A × Unit {0})) × (v ≡ w.1.0) × Then (Sign m.LeftParen) (Then P (Sign m.RightParen)) a w b
 brackets_back a v b (bracketed {x = x} p q r) = ((tt, (x, tt)), refl, followed _ p (followed _ q r))
 
-pub brackets_start : {A : Type 0} {P : List Token → A → List Token → Type 0} {room : ℕ} (a : List Token) → Going (Bracketed P) any room a (Then (Sign m.LeftParen) (Then P (Sign m.RightParen))) (λ v. v.1.0) room a
+pub brackets_start : {A : Type 0} {P : List Token → A → List Token → Type 0} {room : ℕ} (a : List Token)
+    → Going (Bracketed P) any room a (Then (Sign m.LeftParen) (Then P (Sign m.RightParen))) (λ v. v.1.0) room a
 brackets_start = chain (λ v. v.1.0) (λ more v after p. bracketed p.first p.second.first p.second.second) brackets_back
 
 -- ---- a choice by the next two tokens

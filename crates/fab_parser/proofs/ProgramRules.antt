@@ -67,10 +67,13 @@ module _ (may : Kind → Bool) (method_may : (k : Kind) → IsTrue (begins_metho
   methods_follow : (more : List Token) (v : List Method) (after : List Token) → Repeated IsMethod more v after → Follows may after → Follows may more
   methods_follow more v after q h = list_follows begins_method may method_begins method_may more v after q h
 
-  classes_follow : ((k : Kind) → IsTrue (begins_class k) → IsTrue (may k)) → (more : List Token) (v : List Class × List Method) (after : List Token) → Then (Repeated IsClass) (Repeated IsMethod) more v after → Follows may after → Follows may more
+  classes_follow : ((k : Kind) → IsTrue (begins_class k) → IsTrue (may k)) → (more : List Token) (v : List Class × List Method) (after : List Token)
+      → Then (Repeated IsClass) (Repeated IsMethod) more v after → Follows may after → Follows may more
   classes_follow class_may more v after q h = list_follows begins_class may class_begins class_may more v.0 q.mid q.first (methods_follow q.mid v.1 after q.second h)
 
-  labels_follow : ((k : Kind) → IsTrue (begins_class k) → IsTrue (may k)) → ((k : Kind) → IsTrue (begins_label k) → IsTrue (may k)) → (more : List Token) (v : List LabelText × (List Class × List Method)) (after : List Token) → Then (Repeated IsLabel) (Then (Repeated IsClass) (Repeated IsMethod)) more v after → Follows may after → Follows may more
+  labels_follow : ((k : Kind) → IsTrue (begins_class k) → IsTrue (may k)) → ((k : Kind) → IsTrue (begins_label k) → IsTrue (may k))
+      → (more : List Token) (v : List LabelText × (List Class × List Method)) (after : List Token)
+      → Then (Repeated IsLabel) (Then (Repeated IsClass) (Repeated IsMethod)) more v after → Follows may after → Follows may more
   labels_follow class_may label_may more v after q h = list_follows begins_label may label_begins label_may more v.0 q.mid q.first (classes_follow class_may q.mid v.1 after q.second h)
 
   delegations_follow : ((k : Kind) → IsTrue (begins_class k) → IsTrue (may k)) → ((k : Kind) → IsTrue (begins_label k) → IsTrue (may k))
@@ -87,7 +90,8 @@ method_behind_classes : (x : Kind) → IsTrue (begins_method x) → IsTrue (behi
 method_behind_classes (k.Fixed m.Method) h = refl
 method_behind_classes _ h = absurd (never h)
 
-pub behind_classes : (more : List Token) (v : List Method) (after : List Token) → Repeated IsMethod more v after → Follows after_program after → Follows (behind_list begins_class any) more
+pub behind_classes : (more : List Token) (v : List Method) (after : List Token) → Repeated IsMethod more v after → Follows after_program after
+    → Follows (behind_list begins_class any) more
 behind_classes more v after q h = methods_follow (behind_list begins_class any) method_behind_classes more v after q (after_classes after h)
 
 method_behind_labels : (x : Kind) → IsTrue (begins_method x) → IsTrue (behind_list begins_label any x)
@@ -98,7 +102,8 @@ class_behind_labels : (x : Kind) → IsTrue (begins_class x) → IsTrue (behind_
 class_behind_labels (k.Fixed m.Class) h = refl
 class_behind_labels _ h = absurd (never h)
 
-pub behind_labels : (more : List Token) (v : List Class × List Method) (after : List Token) → Then (Repeated IsClass) (Repeated IsMethod) more v after → Follows after_program after → Follows (behind_list begins_label any) more
+pub behind_labels : (more : List Token) (v : List Class × List Method) (after : List Token) → Then (Repeated IsClass) (Repeated IsMethod) more v after
+    → Follows after_program after → Follows (behind_list begins_label any) more
 behind_labels more v after q h = classes_follow (behind_list begins_label any) method_behind_labels class_behind_labels more v after q (after_labels after h)
 
 method_behind_delegations : (x : Kind) → IsTrue (begins_method x) → IsTrue (behind_list begins_name any x)
@@ -113,7 +118,8 @@ label_behind_delegations : (x : Kind) → IsTrue (begins_label x) → IsTrue (be
 label_behind_delegations (k.Fixed m.Label) h = refl
 label_behind_delegations _ h = absurd (never h)
 
-pub behind_delegations : (more : List Token) (v : List LabelText × (List Class × List Method)) (after : List Token) → Then (Repeated IsLabel) (Then (Repeated IsClass) (Repeated IsMethod)) more v after → Follows after_program after → Follows (behind_list begins_name any) more
+pub behind_delegations : (more : List Token) (v : List LabelText × (List Class × List Method)) (after : List Token)
+    → Then (Repeated IsLabel) (Then (Repeated IsClass) (Repeated IsMethod)) more v after → Follows after_program after → Follows (behind_list begins_name any) more
 behind_delegations more v after q h = labels_follow (behind_list begins_name any) method_behind_delegations class_behind_delegations label_behind_delegations more v after q (after_delegations after h)
 
 method_behind_nodes : (x : Kind) → IsTrue (begins_method x) → IsTrue (behind_list begins_node any x)
@@ -132,7 +138,9 @@ name_behind_nodes : (x : Kind) → IsTrue (begins_name x) → IsTrue (behind_lis
 name_behind_nodes (k.Name y) h = refl
 name_behind_nodes _ h = absurd (never h)
 
-pub behind_nodes : (more : List Token) (v : List Delegation × (List LabelText × (List Class × List Method))) (after : List Token) → Then (Repeated IsDelegation) (Then (Repeated IsLabel) (Then (Repeated IsClass) (Repeated IsMethod))) more v after → Follows after_program after → Follows (behind_list begins_node any) more
+pub behind_nodes : (more : List Token) (v : List Delegation × (List LabelText × (List Class × List Method))) (after : List Token)
+    → Then (Repeated IsDelegation) (Then (Repeated IsLabel) (Then (Repeated IsClass) (Repeated IsMethod))) more v after → Follows after_program after
+    → Follows (behind_list begins_node any) more
 behind_nodes more v after q h = delegations_follow (behind_list begins_node any) method_behind_nodes class_behind_nodes label_behind_nodes name_behind_nodes more v after q (after_nodes after h)
 
 -- ---- program = {node} {delegation} {label} {class} {method}
@@ -147,7 +155,9 @@ abbrev pub ProgramChain : List Token → ProgramParts → List Token → Type 0
 ProgramChain = Then (Repeated IsNode) (Then (Repeated IsDelegation) (Then (Repeated IsLabel) (Then (Repeated IsClass) (Repeated IsMethod))))
 
 program_back : (a : List Token) (v : Program) (b : List Token) → IsProgram a v b → (w : ProgramParts) × (v ≡ program_of w) × ProgramChain a w b
-program_back a v b (program {ts = ts} {us = us} {vs = vs} {ws = ws} {xs = xs} p q r s t) = ((ts, (us, (vs, (ws, xs)))), refl, followed _ p (followed _ q (followed _ r (followed _ s t))))
+program_back a v b (program {ts = ts} {us = us} {vs = vs} {ws = ws} {xs = xs} p q r s t) =
+    ((ts, (us, (vs, (ws, xs)))), refl, followed _ p (followed _ q (followed _ r (followed _ s t))))
 
 pub program_start : {room : ℕ} (a : List Token) → Going IsProgram after_program room a ProgramChain program_of room a
-program_start = chain program_of (λ more v after p. let q = p.second in let r = q.second in let s = r.second in program p.first q.first r.first s.first s.second) program_back
+program_start =
+    chain program_of (λ more v after p. let q = p.second in let r = q.second in let s = r.second in program p.first q.first r.first s.first s.second) program_back

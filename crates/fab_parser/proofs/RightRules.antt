@@ -171,8 +171,10 @@ lowered_of w at v = rights.Downgrade w v.1.0 v.1.1.1.0 v.1.1.1.1.1.0 at
 abbrev pub LoweredChain : List Token → LoweredParts → List Token → Type 0
 LoweredChain = Then (Sign m.LeftParen) (Then IsExpression (Then (Sign m.Comma) (Then IsName (Then (Sign m.To) (Then IsName (Sign m.RightParen))))))
 
-lowered_back : {w : Downgrade} {at : ℕ} (a : List Token) (v : Right) (b : List Token) → IsLowered w at a v b → (z : LoweredParts) × (v ≡ lowered_of w at z) × LoweredChain a z b
-lowered_back a v b (lowered {t = t} {x = x} {y = y} p q r s u l o) = ((tt, (t, (tt, (x, (tt, (y, tt)))))), refl, followed _ p (followed _ q (followed _ r (followed _ s (followed _ u (followed _ l o))))))
+lowered_back : {w : Downgrade} {at : ℕ} (a : List Token) (v : Right) (b : List Token) → IsLowered w at a v b
+    → (z : LoweredParts) × (v ≡ lowered_of w at z) × LoweredChain a z b
+lowered_back a v b (lowered {t = t} {x = x} {y = y} p q r s u l o) =
+    ((tt, (t, (tt, (x, (tt, (y, tt)))))), refl, followed _ p (followed _ q (followed _ r (followed _ s (followed _ u (followed _ l o))))))
 
 pub lowered_start : {w : Downgrade} {at room : ℕ} (a : List Token) → Going (IsLowered w at) any room a LoweredChain (lowered_of w at) room a
 lowered_start {w = w} {at = at} =

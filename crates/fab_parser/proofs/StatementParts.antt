@@ -40,15 +40,19 @@ declared_of x at v = forms.Declare x v.0 v.1.1.0 v.1.1.1.1 at
 abbrev pub DeclaredChain : List Token → DeclaredParts → List Token → Type 0
 DeclaredChain = Then IsName (Then (Sign m.Colon) (Then IsName (Then (Sign m.Equal) IsValue)))
 
-declared_back : {x : Sort} {at : ℕ} (a : List Token) (v : Statement) (b : List Token) → IsDeclared x at a v b → (w : DeclaredParts) × (v ≡ declared_of x at w) × DeclaredChain a w b
+declared_back : {x : Sort} {at : ℕ} (a : List Token) (v : Statement) (b : List Token) → IsDeclared x at a v b
+    → (w : DeclaredParts) × (v ≡ declared_of x at w) × DeclaredChain a w b
 declared_back a v b (declared {y = y} {z = z} {t = t} p q r s u) = ((y, (tt, (z, (tt, t)))), refl, followed _ p (followed _ q (followed _ r (followed _ s u))))
 
 pub declared_start : {x : Sort} {at room : ℕ} (a : List Token) → Going (IsDeclared x at) any room a DeclaredChain (declared_of x at) room a
-declared_start {x = x} {at = at} = chain (declared_of x at) (λ more v after p. let q = p.second in let r = q.second in let s = r.second in declared p.first q.first r.first s.first s.second) declared_back
+declared_start {x = x} {at = at} =
+    chain (declared_of x at) (λ more v after p. let q = p.second in let r = q.second in let s = r.second in declared p.first q.first r.first s.first s.second)
+    declared_back
 
 -- ---- right ";"
 
-assigned_back : {x : Name} (a : List Token) (v : Statement) (b : List Token) → IsAssigned x a v b → (w : Right × Unit {0}) × (v ≡ forms.Assign x w.0) × Then IsRight (Sign m.Semicolon) a w b
+assigned_back : {x : Name} (a : List Token) (v : Statement) (b : List Token) → IsAssigned x a v b
+    → (w : Right × Unit {0}) × (v ≡ forms.Assign x w.0) × Then IsRight (Sign m.Semicolon) a w b
 assigned_back a v b (assigned {t = t} p q) = ((t, tt), refl, followed _ p q)
 
 pub assigned_start : {x : Name} {room : ℕ} (a : List Token) → Going (IsAssigned x) any room a (Then IsRight (Sign m.Semicolon)) (λ v. forms.Assign x v.0) room a
@@ -56,18 +60,22 @@ assigned_start {x = x} = chain (λ v. forms.Assign x v.0) (λ more v after p. as
 
 -- ---- name "=" expression ";"
 
-written_back : {x : Name} (a : List Token) (v : Statement) (b : List Token) → IsWritten x a v b → (w : Name × (Unit {0} × Expression)) × (v ≡ forms.Write x w.0 w.1.1) × Then IsName (Then (Sign m.Equal) IsValue) a w b
+written_back : {x : Name} (a : List Token) (v : Statement) (b : List Token) → IsWritten x a v b
+    → (w : Name × (Unit {0} × Expression)) × (v ≡ forms.Write x w.0 w.1.1) × Then IsName (Then (Sign m.Equal) IsValue) a w b
 written_back a v b (written {y = y} {t = t} p q r) = ((y, (tt, t)), refl, followed _ p (followed _ q r))
 
-pub written_start : {x : Name} {room : ℕ} (a : List Token) → Going (IsWritten x) any room a (Then IsName (Then (Sign m.Equal) IsValue)) (λ v. forms.Write x v.0 v.1.1) room a
+pub written_start : {x : Name} {room : ℕ} (a : List Token)
+    → Going (IsWritten x) any room a (Then IsName (Then (Sign m.Equal) IsValue)) (λ v. forms.Write x v.0 v.1.1) room a
 written_start {x = x} = chain (λ v. forms.Write x v.0 v.1.1) (λ more v after p. written p.first p.second.first p.second.second) written_back
 
 -- ---- "(" arguments ")" ";"
 
-requested_back : {x : Name} (a : List Token) (v : Statement) (b : List Token) → IsRequested x a v b → (w : List Expression × Unit {0}) × (v ≡ forms.Call x w.0) × Then (Bracketed IsArguments) (Sign m.Semicolon) a w b
+requested_back : {x : Name} (a : List Token) (v : Statement) (b : List Token) → IsRequested x a v b
+    → (w : List Expression × Unit {0}) × (v ≡ forms.Call x w.0) × Then (Bracketed IsArguments) (Sign m.Semicolon) a w b
 requested_back a v b (requested {ts = ts} p q) = ((ts, tt), refl, followed _ p q)
 
-pub requested_start : {x : Name} {room : ℕ} (a : List Token) → Going (IsRequested x) any room a (Then (Bracketed IsArguments) (Sign m.Semicolon)) (λ v. forms.Call x v.0) room a
+pub requested_start : {x : Name} {room : ℕ} (a : List Token)
+    → Going (IsRequested x) any room a (Then (Bracketed IsArguments) (Sign m.Semicolon)) (λ v. forms.Call x v.0) room a
 requested_start {x = x} = chain (λ v. forms.Call x v.0) (λ more v after p. requested p.first p.second) requested_back
 
 -- ---- "(" expression ")" block otherwise
@@ -75,7 +83,8 @@ requested_start {x = x} = chain (λ v. forms.Call x v.0) (λ more v after p. req
 abbrev pub ChoiceChain : List Token → Expression × (List Statement × Option (List Statement)) → List Token → Type 0
 ChoiceChain = Then (Bracketed IsExpression) (Then IsBlock IsOtherwise)
 
-choice_back : (a : List Token) (v : Statement) (b : List Token) → IsChoice a v b → (w : Expression × (List Statement × Option (List Statement))) × (v ≡ forms.If w.0 w.1.0 w.1.1) × ChoiceChain a w b
+choice_back : (a : List Token) (v : Statement) (b : List Token) → IsChoice a v b
+    → (w : Expression × (List Statement × Option (List Statement))) × (v ≡ forms.If w.0 w.1.0 w.1.1) × ChoiceChain a w b
 choice_back a v b (branched {t = t} {us = us} {ws = ws} p q r) = ((t, (us, ws)), refl, followed _ p (followed _ q r))
 
 pub choice_start : {room : ℕ} (a : List Token) → Going IsChoice after_statement room a ChoiceChain (λ v. forms.If v.0 v.1.0 v.1.1) room a
@@ -83,7 +92,8 @@ choice_start = chain (λ v. forms.If v.0 v.1.0 v.1.1) (λ more v after p. branch
 
 -- ---- "(" expression ")" block
 
-loop_back : (a : List Token) (v : Statement) (b : List Token) → IsLoop a v b → (w : Expression × List Statement) × (v ≡ forms.While w.0 w.1) × Then (Bracketed IsExpression) IsBlock a w b
+loop_back : (a : List Token) (v : Statement) (b : List Token) → IsLoop a v b
+    → (w : Expression × List Statement) × (v ≡ forms.While w.0 w.1) × Then (Bracketed IsExpression) IsBlock a w b
 loop_back a v b (looped {t = t} {us = us} p q) = ((t, us), refl, followed _ p q)
 
 pub loop_start : {room : ℕ} (a : List Token) → Going IsLoop any room a (Then (Bracketed IsExpression) IsBlock) (λ v. forms.While v.0 v.1) room a
@@ -137,7 +147,8 @@ block_start = chain (λ v. v.1.0) (λ more v after p. block p.first (statements_
 
 -- ---- ["else" block]
 
-else_back : {t : Token} {a : List Token} {v : Option (List Statement)} {b : List Token} → t.kind ≡ k.Fixed m.Else → IsOtherwise (t ∷ a) v b → Follows after_statement b → (w : List Statement) × (v ≡ Some w) × IsBlock a w b
+else_back : {t : Token} {a : List Token} {v : Option (List Statement)} {b : List Token} → t.kind ≡ k.Fixed m.Else → IsOtherwise (t ∷ a) v b → Follows after_statement b
+    → (w : List Statement) × (v ≡ Some w) × IsBlock a w b
 else_back e no_else h = absurd (never (subst (λ x. IsTrue (after_statement x)) e h))
 else_back e (some_else {us = us} (is g) p) h = (us, refl, p)
 
