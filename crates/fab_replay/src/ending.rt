@@ -49,7 +49,9 @@ pub(crate) fn finished<M: Journals>(
     is_trusted(&core);
     let mark = first_mark(core.log());
     let kept = keep_all(program, nodes, core.into_journals(), journals);
-    if kept.is_ok() && let Ok(answer) = answer {
+    if kept.is_ok()
+        && let Ok(answer) = answer
+    {
         return Ok(answer);
     }
     match mark {

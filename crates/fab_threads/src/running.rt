@@ -223,7 +223,8 @@ fn run_named<X: Turning + Send, N: RunName + Send + Sync, R: Threads + Wait + Sy
         return Err(held);
     }
     let shared = Mutex::new(Shared::new(held, book));
-    let Ok(rans) = thread::map_vec(rt, workers, &|w| work(rt, alloc, &shared, &bells, gate, w)) else {
+    let Ok(rans) = thread::map_vec(rt, workers, &|w| work(rt, alloc, &shared, &bells, gate, w))
+    else {
         return Err(shared.into_inner().into_held());
     };
     let counts = counts_of(rans, &mut all, places);
