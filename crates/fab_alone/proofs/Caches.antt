@@ -5,13 +5,14 @@ use Rattle.std.specs.Prelude.{nat_le, slice_get, unwrap_or}
 use Rattle.std.proofs.lemmas.Bool.{both_ways, eq-eqb, leb-false, leb-true, or_cases, or_parts}
 use Rattle.fab_base.specs.declared.object.Oid.{Oid}
 use Rattle.fab_base.specs.FlatMap.{is_among}
-use Rattle.fab_protocol.specs.Caches.{at_store, cached, cached_row, last_distinct, with_older}
+use Rattle.fab_protocol.specs.Caches.{at_store, cached, cached_row, last_distinct}
 use Rattle.fab_protocol.specs.Tables.{row_of}
 use Rattle.fab_protocol.specs.Versions.{Row, Rows, name_of, names_of}
 use Rattle.fab_protocol.proofs.TableLaws.{row_of_name}
 use Rattle.fab_integrity.proofs.Invariant.{In}
-use Rattle.fab_integrity.proofs.Lists.{filter_in, in_filter, in_map, in_right, map_in}
+use Rattle.fab_integrity.proofs.Lists.{filter_in, in_filter, in_map, map_in}
 use Rattle.fab_integrity.proofs.Maps.{among_in, in_among, row_listed}
+use Rattle.fab_integrity.proofs.Replays.{in_distinct}
 
 -- ---- one cache
 
@@ -38,11 +39,6 @@ in_older : (row r : Row) (newer rows : Rows) → (In r newer → In r rows) → 
 in_older row r newer rows rest true i = inr (rest i)
 in_older row r newer rows rest false (inl e) = inl e
 in_older row r newer rows rest false (inr i) = inr (rest i)
-
-in_distinct : (k : ℕ) (rows : Rows) (r : Row) → In r (last_distinct k rows) → In r rows
-in_distinct k [] r h = h
-in_distinct k (row ∷ rows) r h =
-    in_older row r (last_distinct k rows) rows (in_distinct k rows r) (is_among row.0 (names_of (last_distinct k rows)) || nat_le k (length (last_distinct k rows))) h
 
 names_right : (o : Oid) (xs ys : Rows) → In o (names_of ys) → In o (names_of (xs ++ ys))
 names_right o [] ys i = i

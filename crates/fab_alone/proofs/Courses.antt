@@ -1,26 +1,24 @@
 -- The requests of an accepted bundle with one worker are those of its session, and what they come to in turn is the bundle's evaluation.
-use Rattle.std.proofs.Common.{◌≡◌, ◌⊎◌, inl, inr, ℕ, zero, suc, ◌+◌, ◌-◌, ◌<◌, List, [], ◌∷◌, ◌++◌, map, length, Bool, true, false, cond, ◌==◌, IsTrue, if◌then◌else◌}
+use Rattle.std.proofs.Common.{◌≡◌, inl, inr, ℕ, zero, suc, ◌+◌, ◌-◌, ◌<◌, List, [], ◌∷◌, ◌++◌, map, length, true, false, cond, ◌==◌, IsTrue, if◌then◌else◌}
 use Rattle.std.proofs.Common.{Option, Some, None, option_map, refl, sym, ap, ◌∙◌, subst, arith, append-nil, true≢false, IsSomeAnd}
 use Rattle.std.specs.Prelude.{slice_get, find, ◌≢◌}
-use Rattle.std.specs.List.{AllByRecursion, cons_option, filter, filter_map, flat_map}
-use Rattle.std.proofs.lemmas.Bool.{both_ways, cases_eq, eqb-true, ne_eqb}
+use Rattle.std.specs.List.{AllByRecursion, cons_option, filter_map, flat_map}
+use Rattle.std.proofs.lemmas.Bool.{eqb-true, ne_eqb}
 use Rattle.std.proofs.lemmas.List.Concat.{flat_map-cons}
 use Rattle.std.proofs.lemmas.Option.{none-some, same_Some, slice_get_within}
 use Rattle.fab_base.specs.declared.object.Object.{Object}
 use Rattle.fab_base.specs.declared.object.Oid.{Oid}
 use Rattle.fab_base.specs.declared.object.Tid.{Tid}
-use Rattle.fab_base.specs.FlatMap.{FlatMap, ascends, get, is_among, put_all}
-use Rattle.fab_tree.specs.declared.declaration.Role.{Role}
+use Rattle.fab_base.specs.FlatMap.{FlatMap, ascends, is_among, put_all}
+use Rattle.fab_base.proofs.Lists.{all_along, all_always, at_index}
 use Rattle.fab_tree.specs.declared.resolved.Principal.{Principal}
 use Rattle.fab_tree.specs.declared.resolved.Request.{Request}
 use Rattle.fab_tree.specs.declared.resolved.Resolved.{Resolved}
 use Rattle.fab_tree.specs.declared.start.RequestText.{RequestText}
 use Rattle.fab_tree.specs.declared.start.Session.{Session}
 use Rattle.fab_tree.specs.declared.start.Start.{Start}
-use Rattle.fab_language.specs.declared.ending.Ending.{Ending}
 use Rattle.fab_language.specs.Evaluation.{Course, course_of, if_ended, in_turn, map_at_start, tid_of}
 use Rattle.fab_language.specs.Evaluation as evaluation
-use Rattle.fab_language.specs.Faults.{faults}
 use Rattle.fab_language.specs.Meaning.{Meant, meaning}
 use Rattle.fab_language.specs.Names.{is_worker as is_worker_role}
 use Rattle.fab_language.specs.Numbers.{asked_from, resolved, session_of}
@@ -30,15 +28,11 @@ use Rattle.fab_laws.specs.Closed.{IsFound}
 use Rattle.fab_laws.specs.Locality.{IsPart, IsSameOver, LacksToo, rows_among, with_changes}
 use Rattle.fab_laws.proofs.Carried.{carried}
 use Rattle.fab_laws.proofs.Locality.{over_more, part_agrees}
-use Rattle.fab_places.specs.Places.{AreRights}
 use Rattle.fab_rights.specs.declared.rights.Rights.{Rights}
-use Rattle.fab_rights.specs.Computed.{is_worker}
 use Rattle.fab_rights.proofs.Bits.{has_bit_exact}
 use Rattle.fab_attempts.specs.Sessions.{requests_in, requests_of}
 use Rattle.fab_evaluation.proofs.Sessions as sessions
-use Rattle.fab_protocol.proofs.Lists.{all_along, all_always}
 use Rattle.fab_shapes.proofs.Courses.{at_end}
-use Rattle.fab_shapes.proofs.Lists.{at_index}
 use Rattle.fab_world.specs.Machine.{Setting}
 use Rattle.fab_integrity.proofs.Invariant.{In}
 use Rattle.fab_integrity.proofs.Lists.{each_of, filter_none}

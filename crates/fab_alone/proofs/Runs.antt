@@ -13,6 +13,8 @@ use Rattle.fab_base.specs.FieldSpelling.{IsTid}
 use Rattle.fab_base.specs.FlatMap.{FlatMap, get, is_same}
 use Rattle.fab_base.specs.FlatMap as flat
 use Rattle.fab_base.specs.MessageSpelling.{spelled}
+use Rattle.fab_base.proofs.NameOrder.{one_name}
+use Rattle.fab_base.proofs.Lists.{all_append}
 use Rattle.fab_language.specs.declared.ending.Ending.{Ending}
 use Rattle.fab_language.specs.declared.ending.Ending.TheVariants as endings
 use Rattle.fab_language.specs.Evaluation.{if_ended}
@@ -26,9 +28,7 @@ use Rattle.fab_protocol.specs.declared.sender.Sender.{Sender}
 use Rattle.fab_protocol.specs.Stores.{Prepared, behind, last_of, sender_in, shelf_at_start, unheard}
 use Rattle.fab_protocol.specs.Tables.{row_of}
 use Rattle.fab_protocol.specs.Versions.{Row, Rows, begun, is_tid, name_of}
-use Rattle.fab_protocol.proofs.Lists.{all_append}
 use Rattle.fab_protocol.proofs.Records.{worker_below}
-use Rattle.fab_protocol.proofs.TableLaws.{one_name}
 use Rattle.fab_world.specs.Crashing.{CrashLine, IsOver}
 use Rattle.fab_world.specs.Machine.{Setting, World, Move, Form, Does, Cuts, Fails, Posts, Crashes, Never, act, at_start, enabled, form_of, held_at, is_decided, is_empty, is_evaluating, is_idle, is_running}
 use Rattle.fab_world.specs.Machine.{kept, lands, may, option_list, outcome, outcome_of, ready, shelf, step, steps}

@@ -19,13 +19,14 @@ use Rattle.fab_protocol.specs.Parts.{items_at, puts_of, stores_of, touched_names
 use Rattle.fab_protocol.specs.Stores.{Prepared, behind, named_by}
 use Rattle.fab_protocol.specs.Tables.{OnlyOnce, placed, placed_all, row_of}
 use Rattle.fab_protocol.specs.Versions.{Row, Rows, begun, left_by, name_of, names_of, objects_of, raised, version_of}
-use Rattle.fab_protocol.proofs.TableLaws.{each_placed_all, one_name, row_of_name, row_of_placed, row_of_placed_all}
+use Rattle.fab_protocol.proofs.TableLaws.{each_placed_all, row_of_name, row_of_placed, row_of_placed_all}
 use Rattle.fab_protocol.proofs.VersionLaws.{changed_once, left_names}
 use Rattle.fab_world.specs.Attempts.{parts_of}
 use Rattle.fab_world.specs.Workers.{is_in}
 use Rattle.fab_integrity.proofs.Invariant.{In}
 use Rattle.fab_integrity.proofs.Items.{write_here}
 use Rattle.fab_base.proofs.Names.{same_self}
+use Rattle.fab_base.proofs.NameOrder.{one_name}
 use Rattle.fab_integrity.proofs.Lists.{all_of, each_of, in_append, in_left, in_filter, in_filter_map, in_map, in_numbers, map_in, none_in}
 use Rattle.fab_integrity.proofs.Maps.{get_put, row_listed}
 use Rattle.fab_integrity.proofs.Replays.{made_from, made_part, touched_part, written_from}

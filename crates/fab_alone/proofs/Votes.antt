@@ -11,6 +11,7 @@ use Rattle.fab_base.specs.declared.message.Answer.TheVariants.{Yes, Locked}
 use Rattle.fab_base.specs.declared.message.Items.{Items}
 use Rattle.fab_base.specs.FlatMap.{is_among}
 use Rattle.fab_base.specs.FlatMap as flat
+use Rattle.fab_base.proofs.Lists.{all_append, all_map}
 use Rattle.fab_language.specs.Heaps.{touched}
 use Rattle.fab_language.specs.Meaning.{Meant}
 use Rattle.fab_rights.specs.declared.rights.Rights.{Rights}
@@ -21,7 +22,6 @@ use Rattle.fab_protocol.specs.Stores.{Item, Prepared, Read, Shelf, Write, Create
 use Rattle.fab_protocol.specs.Stores.{out_of_date, reads_in, reasons_in, reasons_of, vote, writes_in}
 use Rattle.fab_protocol.specs.Tables.{ascends}
 use Rattle.fab_protocol.specs.Versions.{Row, Rows, is_made_in, name_of, names_of, version_of}
-use Rattle.fab_protocol.proofs.Lists.{all_append, all_map}
 use Rattle.fab_protocol.proofs.Reasons.{yes_exactly}
 use Rattle.fab_protocol.proofs.ShelfKept.{as_table}
 use Rattle.fab_protocol.proofs.TableLaws.{all_placed_all, ascends_filter, ascends_map, ascends_placed_all, leads, parted}

@@ -1,7 +1,7 @@
 -- What `parse` says of a word, and which number it writes.
-use Rattle.std.proofs.Common.{◌≡◌, ◌≢◌, ◌<◌, ◌≤◌, ◌^◌, ◌∙◌, ℕ, zero, suc, Bool, true, false, ◌||◌, ◌&&◌, ◌==◌, ◌⊎◌, List, [], ◌∷◌, length, get_or, Some, None, Ok, Err, refl, sym, ap, subst, inl, inr, arith, eqb-true, nat_le, if◌then◌else◌, decimal, bytes_eq}
+use Rattle.std.proofs.Common.{◌≡◌, ◌≢◌, ◌<◌, ◌≤◌, ◌^◌, ◌∙◌, ℕ, zero, suc, true, false, ◌||◌, ◌&&◌, ◌==◌, List, [], ◌∷◌, length, get_or, Some, None, Ok, Err, refl, sym, ap, subst, inl, inr, arith, eqb-true, nat_le, decimal, bytes_eq}
 use Rattle.std.specs.Str.Parse.{AllDigits, IsNumeral, ParsesUnsigned, digits_value}
-use Rattle.std.proofs.lemmas.Bool.{cases_Bool, le-leb, leb-true}
+use Rattle.std.proofs.lemmas.Bool.{cases_Bool, le-leb, leb-true, and_from, and_parts, or_cases}
 use Rattle.std.proofs.lemmas.Fmt.{decimal-digits_value, decimal_is_IsNumeral, first_decimal, length-decimal-le}
 use Rattle.std.proofs.lemmas.Slice.Eq.{bytes_eq-Decides}
 use Rattle.std.proofs.lemmas.Str.Parse.{IsNumeralModel, digit_at, numerals_by_value, parse_plain, tells_digits}
@@ -11,25 +11,18 @@ use Rattle.fab_asked.specs.Words.{begins_with_dash}
 own : IsNumeralModel (AllDigits 10) (digits_value 10)
 own = numerals_by_value (AllDigits 10) tells_digits
 
-both_true : (a b : Bool) → a ≡ true → b ≡ true → (a && b) ≡ true
-both_true a b e f = rw (e, f) refl
-
-pub both : (a b : Bool) → (a && b) ≡ true → (a ≡ true) × (b ≡ true)
-both true b e = (refl, e)
-both false b e = absurd (cc)
-
 -- digits without zeros in front, of a number that isn't too great
 pub is_number : (word : List ℕ) → AllDigits 10 word → 0 < length word → (get_or word 0 0 ≡ 48 → length word ≡ 1) → digits_value 10 word < 2 ^ 32 → number_of word ≡ Some (digits_value 10 word)
 is_number word digits some front small =
     let back : decimal (digits_value 10 word) ≡ word = decimal-digits_value own word digits some front (omega (arith, small)) in
     let here = (bytes_eq-Decides (decimal (digits_value 10 word)) word).1 back in
     let fits = le-leb (digits_value 10 word) 4294967295 (omega (arith, small)) in
-    rw (both_true (nat_le (digits_value 10 word) 4294967295) (bytes_eq (decimal (digits_value 10 word)) word) fits here) refl
+    rw (and_from (nat_le (digits_value 10 word) 4294967295) (bytes_eq (decimal (digits_value 10 word)) word) fits here) refl
 
 -- a word that no number up to the greatest has for its text
 pub no_number : (word : List ℕ) → ((n : ℕ) → n < 2 ^ 32 → word ≡ decimal n → n ≡ digits_value 10 word → ⊥) → number_of word ≡ None
 no_number word none = elim (cases_Bool (nat_le (digits_value 10 word) 4294967295 && bytes_eq (decimal (digits_value 10 word)) word)) [
-  | inl passes ↦ (let h = both (nat_le (digits_value 10 word) 4294967295) (bytes_eq (decimal (digits_value 10 word)) word) passes in
+  | inl passes ↦ (let h = and_parts (nat_le (digits_value 10 word) 4294967295) (bytes_eq (decimal (digits_value 10 word)) word) passes in
       let small : digits_value 10 word ≤ 4294967295 = leb-true (digits_value 10 word) 4294967295 h.0 in
       absurd (none (digits_value 10 word) (omega (arith, small)) (sym ((bytes_eq-Decides (decimal (digits_value 10 word)) word).0 h.1)) refl))
   | inr fails ↦ rw fails refl
@@ -74,14 +67,10 @@ zeros c cs = no_number (48 ∷ c ∷ cs) (λ n small is same. at_all n small is)
         let first : get_or (decimal (suc n)) 0 0 ≡ 48 = sym (ap (λ ds. get_or ds 0 0) is) in
         omega (arith, above, first)
 
-either : (a b : Bool) → (a || b) ≡ true → (a ≡ true) ⊎ (b ≡ true)
-either true b e = inl refl
-either false b e = inr e
-
 pub fronted : (word : List ℕ) → has_front word ≡ true → None ≡ number_of word
 fronted [] e = cc
 fronted (b ∷ []) e = sym (no_first b [] (let is : b ≡ 43 = eqb-true b 43 e in omega (arith, is)))
-fronted (b ∷ c ∷ cs) e = elim (either (b == 43) (b == 48) e) [
+fronted (b ∷ c ∷ cs) e = elim (or_cases (b == 43) (b == 48) e) [
   | inl plus ↦ sym (no_first b (c ∷ cs) (let is : b ≡ 43 = eqb-true b 43 plus in omega (arith, is)))
   | inr zero_first ↦ sym (subst (λ x. number_of (x ∷ c ∷ cs) ≡ None) (sym (eqb-true b 48 zero_first)) (zeros c cs))
 ]

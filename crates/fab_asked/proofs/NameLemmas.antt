@@ -1,9 +1,9 @@
 -- Words that are names, as tokens.
-use Rattle.std.proofs.Common.{◌≡◌, ◌∙◌, ℕ, ◌+◌, ◌<◌, ◌≤◌, ◌&&◌, ◌||◌, ◌==◌, Bool, true, false, not, cond, if◌then◌else◌, codes, refl, sym, ap, ap₂, subst, List, [], ◌∷◌, length, drop, take, Option, Some, None, take_while, eqb-true, arith, inl, inr, add-zero}
+use Rattle.std.proofs.Common.{◌≡◌, ◌∙◌, ℕ, ◌+◌, ◌<◌, ◌≤◌, ◌&&◌, ◌==◌, Bool, true, false, not, cond, if◌then◌else◌, codes, refl, sym, ap, ap₂, subst, List, [], ◌∷◌, length, Option, Some, None, take_while, eqb-true, arith}
 use Rattle.std.specs.List.{list_all, starts_with}
 use Rattle.std.specs.Prelude.{nat_eq, nat_le}
 use Rattle.std.specs.Char.{is_ascii_digit}
-use Rattle.std.proofs.lemmas.Bool.{both_ways, leb-true}
+use Rattle.std.proofs.lemmas.Bool.{both_ways, leb-true, and_parts}
 use Rattle.std.proofs.lemmas.List.{drop_all}
 use Rattle.std.proofs.lemmas.List.Sums.{take_while-cons}
 use Rattle.fab_base.specs.declared.token.Mark.{Mark}
@@ -16,10 +16,6 @@ use Rattle.fab_asked.specs.Names.{is_name_kind, is_name_word, is_one_name}
 
 -- ---- what stands at the front of a word
 
-both : (a b : Bool) → (a && b) ≡ true → (a ≡ true) × (b ≡ true)
-both true b e = (refl, e)
-both false b e = absurd (cc)
-
 not_true : (b : Bool) → (b ≡ true → ⊥) → b ≡ false
 not_true true h = absurd (h refl)
 not_true false h = refl
@@ -31,7 +27,7 @@ apart b c h n = not_true (b == c) (λ e. both_ways (is_word_byte c) n (subst (λ
 whole_run : (word : List ℕ) → list_all is_word_byte word ≡ true → take_while is_word_byte word ≡ word
 whole_run [] e = refl
 whole_run (b ∷ bs) e =
-    let h = both (is_word_byte b) (list_all is_word_byte bs) e in
+    let h = and_parts (is_word_byte b) (list_all is_word_byte bs) e in
     take_while-cons is_word_byte b bs ∙ ap₂ (λ x xs. cond x (b ∷ xs) []) h.0 (whole_run bs h.1)
 
 -- where no space, no comment and no quotation mark stands at the front, and a word does
@@ -53,7 +49,7 @@ no_comment b bs h =
 
 word_front : (b : ℕ) (bs : List ℕ) → list_all is_word_byte (b ∷ bs) ≡ true → front_at (b ∷ bs) ≡ front_of (spelled (word_kind (b ∷ bs)) (length (b ∷ bs)))
 word_front b bs e =
-    let h = both (is_word_byte b) (list_all is_word_byte bs) e in
+    let h = and_parts (is_word_byte b) (list_all is_word_byte bs) e in
     front_chosen (is_space b) (starts_with nat_eq (b ∷ bs) (codes "//")) (b == 34) (is_word_byte b) (stands (p.Blank 1)) (stands (p.Blank (line_len (b ∷ bs)))) (quoted_at bs)
     (front_of (spelled (word_kind (word_at (b ∷ bs))) (length (word_at (b ∷ bs))))) (front_of (sign_piece (sign_at (b ∷ bs)))) (no_space b h.0) (no_comment b bs h.0) (apart b 34 h.0 refl) h.0
     ∙ ap (λ w. front_of (spelled (word_kind w) (length w))) (whole_run (b ∷ bs) e)

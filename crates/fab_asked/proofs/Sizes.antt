@@ -1,13 +1,11 @@
 -- Sizes that words ask for are in their range.
 use Rattle.std.proofs.Common.{◌≡◌, ◌≤◌, ◌&&◌, ℕ, Bool, true, false, List, [], ◌∷◌, Option, Some, None, refl, option_map, if◌then◌else◌, map, string_bytes, String, codes, bytes_eq, nat_le}
 use Rattle.std.specs.declared.alloc.Global.{Global}
-use Rattle.std.proofs.lemmas.Bool.{leb-true}
+use Rattle.std.proofs.lemmas.Bool.{leb-true, and_parts}
 use Rattle.fab_command.specs.declared.command.Command.{Command}
-use Rattle.fab_command.specs.declared.task.Task.{Task}
 use Rattle.fab_command.specs.declared.task.Task.TheVariants.{Drill, Generate, Reply}
-use Rattle.fab_asked.specs.Numbers.{IsSized, number_of, numbers_of, paired, with_size}
+use Rattle.fab_asked.specs.Numbers.{IsSized, number_of, numbers_of, paired}
 use Rattle.fab_asked.specs.Words.{asked, asked_by, command_asked}
-use Rattle.fab_asked.proofs.Decimals.{both}
 
 abbrev IsInRange : Option (ℕ × ℕ) → Type 0
 IsInRange (Some x) = (1 ≤ x.1) × (x.1 ≤ 1000)
@@ -15,7 +13,7 @@ IsInRange None = Unit {0}
 
 sized_pair : (number size : ℕ) (b : Bool) → (nat_le 1 size && nat_le size 1000) ≡ b → IsInRange (if b then Some (number, size) else None)
 sized_pair number size false e = tt
-sized_pair number size true e = let h = both (nat_le 1 size) (nat_le size 1000) e in (leb-true 1 size h.0, leb-true size 1000 h.1)
+sized_pair number size true e = let h = and_parts (nat_le 1 size) (nat_le size 1000) e in (leb-true 1 size h.0, leb-true size 1000 h.1)
 
 pairs_in : (number size : Option ℕ) → IsInRange (paired number size)
 pairs_in None size = tt

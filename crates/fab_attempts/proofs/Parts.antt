@@ -1,5 +1,5 @@
 -- The parts of an attempt over known answers.
-use Rattle.std.proofs.Common.{◌≡◌, ℕ, ◌≤◌, true, ◌||◌, List, [], ◌∷◌, map, length, Some, refl, ap, subst, ◌∙◌, zero, suc, IsTrue, arith, if◌then◌else◌}
+use Rattle.std.proofs.Common.{◌≡◌, ℕ, ◌≤◌, true, ◌||◌, List, [], ◌∷◌, map, length, Some, refl, ap, ◌∙◌, IsTrue, arith, if◌then◌else◌}
 use Rattle.std.specs.Prelude.{slice_get}
 use Rattle.std.specs.List.{AllByRecursion}
 use Rattle.std.proofs.lemmas.List.{length-map}
@@ -8,6 +8,7 @@ use Rattle.fab_base.specs.declared.object.Object.{Object}
 use Rattle.fab_base.specs.declared.object.Tid.{Tid}
 use Rattle.fab_base.specs.FlatMap.{FlatMap, is_among, is_same, get, map_of, ascends}
 use Rattle.fab_base.proofs.Names.{same_self}
+use Rattle.fab_base.proofs.Lists.{all_along, all_map, all_passed, at_index}
 use Rattle.fab_map.proofs.Rows.{ascends-put_all}
 use Rattle.fab_tree.specs.declared.resolved.Request.{Request}
 use Rattle.fab_tree.specs.declared.resolved.Resolved.{Resolved}
@@ -23,7 +24,6 @@ use Rattle.fab_laws.proofs.Shapes.{shape_kept}
 use Rattle.fab_rights.specs.declared.rights.Rights.{Rights}
 use Rattle.fab_protocol.specs.Parts.{KeepsParts}
 use Rattle.fab_protocol.specs.Versions.{Row, Rows, names_of, objects_of, version_of}
-use Rattle.fab_protocol.proofs.Lists.{all_along, all_map, all_passed}
 use Rattle.fab_world.specs.Attempts.{parts_of}
 use Rattle.fab_attempts.specs.Known.{IsKnown, AreKnown, ArePartsOver}
 use Rattle.fab_attempts.specs.Sessions.{IsProgramOf, requests_of}
@@ -40,12 +40,6 @@ pub writes_are_parts : (answers : Rows) (meant : Meant) → nested.writes_in (ne
 writes_are_parts answers meant = λ i. map (λ c. (c.0, version_same answers c.0 i, c.1)) (rows_among meant.written meant.map)
 
 -- ---- lists
-
--- what holds of each holds at a place
-at_place : {A : Type 0} (P : A → Type 0) (xs : List A) (i : ℕ) (x : A) → AllByRecursion P xs → slice_get xs i ≡ Some x → P x
-at_place P [] i x h e = cc
-at_place P (y ∷ ys) zero x h e = let same : y ≡ x = cc in subst P same h.0
-at_place P (y ∷ ys) (suc i) x h e = at_place P ys i x h.1 e
 
 -- what holds of each name that is among these holds of each
 all_names : (P : Oid → Type 0) (os : List Oid) → ((o : Oid) → is_among o os ≡ true → P o) → AllByRecursion P os
@@ -97,7 +91,7 @@ module _ (program : Resolved) (t : Tid) (answers : Rows) (known : AreKnown progr
 
     rows_shaped : AllByRecursion (λ c. IsShaped program.classes c.0 c.1) meant.map
     rows_shaped =
-        let shape = shape_kept program fits.fitting t over request fuel over_shaped (at_place (IsFitting program) (requests_of program n) i request fits.requests asked) in
+        let shape = shape_kept program fits.fitting t over request fuel over_shaped (at_index (IsFitting program) (requests_of program n) i request fits.requests asked) in
         all_rows (IsShaped program.classes) meant.map ascending shape.objects
 
     -- what was written is known, as its name was that of an answer

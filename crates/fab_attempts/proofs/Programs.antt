@@ -1,23 +1,22 @@
 -- What a bundle within the limits that keeps the rules gives is a program of each of its workers.
-use Rattle.std.proofs.Common.{◌≡◌, ℕ, zero, suc, ◌+◌, ◌<◌, ◌≤◌, ◌^◌, Bool, true, false, ◌==◌, cond, List, [], ◌∷◌, ◌++◌, map, length, take, Some, None, refl, sym, ap, ◌∙◌, subst, arith}
+use Rattle.std.proofs.Common.{◌≡◌, ℕ, zero, suc, ◌+◌, ◌≤◌, Bool, true, false, ◌==◌, cond, List, [], ◌∷◌, ◌++◌, map, length, Some, None, refl, sym, ap, ◌∙◌, subst, arith}
 use Rattle.std.specs.Prelude.{slice_get, sum_by, find, filter_map}
 use Rattle.std.specs.List.{AllByRecursion, flat_map, cons_option}
-use Rattle.std.specs.Option.{is_none}
 use Rattle.std.proofs.Math.Nat.{le-max_left, le-max_right}
-use Rattle.std.proofs.lemmas.Bool.{ltb-false, false≢true, eq-eqb}
+use Rattle.std.proofs.lemmas.Bool.{false≢true, eq-eqb}
 use Rattle.std.proofs.lemmas.List.{length-map}
 use Rattle.std.proofs.lemmas.List.Sums.{sum_by-cons}
+use Rattle.fab_base.proofs.Lists.{left_nil, right_nil, each_nil, at_index}
 use Rattle.fab_tree.specs.declared.name.Name.{Name}
 use Rattle.fab_tree.specs.declared.declaration.Class.{Class}
 use Rattle.fab_tree.specs.declared.declaration.Node.{Node}
-use Rattle.fab_tree.specs.declared.declaration.Role.{Role}
-use Rattle.fab_tree.specs.declared.declaration.Role.TheVariants as r
 use Rattle.fab_tree.specs.declared.start.RequestText.{RequestText}
 use Rattle.fab_tree.specs.declared.start.Session.{Session}
 use Rattle.fab_tree.specs.declared.start.Start.{Start}
 use Rattle.fab_tree.specs.declared.resolved.Asked.{Asked}
 use Rattle.fab_tree.specs.declared.resolved.Request.{Request}
-use Rattle.fab_tree.specs.Limits.{is_node, greatest, passes, order, first_passed}
+use Rattle.fab_tree.specs.Limits.{is_node, greatest, first_passed}
+use Rattle.fab_tree.proofs.Within.{is_within}
 use Rattle.fab_language.specs.Arity.{miscounted}
 use Rattle.fab_language.specs.declared.rule.Fault.{Fault}
 use Rattle.fab_language.specs.Doubled.{doubled}
@@ -29,25 +28,17 @@ use Rattle.fab_language.specs.Roles as roles
 use Rattle.fab_language.specs.Types.{mistyped}
 use Rattle.fab_language.specs.Unknown as unknown
 use Rattle.fab_language.specs.Uses.{nodes_before, node_number}
+use Rattle.fab_language.proofs.Named.{before_cons, honest_worker_node}
 use Rattle.fab_laws.specs.Shapes.{IsFitting}
 use Rattle.fab_places.specs.Places.{AreRights}
 use Rattle.fab_rights.specs.declared.rights.Rights.{Rights}
-use Rattle.fab_shapes.proofs.Lists.{left_nil, right_nil, each_nil, in_each, at_index, from_two}
+use Rattle.fab_shapes.proofs.Lists.{in_each, from_two}
 use Rattle.fab_shapes.proofs.Named.{found}
 use Rattle.fab_shapes.proofs.Objects.{requests_have_kinds}
 use Rattle.fab_shapes.proofs.Programs.{program_fits}
 use Rattle.fab_attempts.specs.Sessions.{IsProgramOf, requests_in, requests_of}
 
--- ---- the limits
-
--- where a search finds none, none passes the test
-none_passes : {A : Type 0} (test : A → Bool) (xs : List A) → find test xs ≡ None → AllByRecursion (λ x. test x ≡ false) xs
-none_passes test [] e = tt
-none_passes test (x ∷ xs) e = by (test x) refl e (λ h. none_passes test xs h)
-  where
-    by : (b : Bool) → test x ≡ b → cond b (Some x) (find test xs) ≡ None → (find test xs ≡ None → AllByRecursion (λ y. test y ≡ false) xs) → AllByRecursion (λ y. test y ≡ false) (x ∷ xs)
-    by true g h later = absurd (false≢true (ap is_none h))
-    by false g h later = (g, later h)
+-- ---- counts
 
 fields_within : (s : Start) (cs : List Class) → greatest (map (λ c. length c.fields) cs) ≤ 16 → AllByRecursion (λ c. length c.fields ≤ 16) (map (class_of s) cs)
 fields_within s [] h = tt
@@ -62,7 +53,7 @@ as_many_asked s worker k [] = refl
 as_many_asked s worker k (x ∷ xs) = ap suc (as_many_asked s worker (suc k) xs)
 
 -- a worker is asked no more than all are
-asked_within : (s : Start) (n : ℕ) (xs : List Session) → length (requests_in (find (λ x. x.worker.number == n) (map (session_of s) xs))) ≤ sum_by (λ (x : Session). length x.requests) xs
+pub asked_within : (s : Start) (n : ℕ) (xs : List Session) → length (requests_in (find (λ x. x.worker.number == n) (map (session_of s) xs))) ≤ sum_by (λ (x : Session). length x.requests) xs
 asked_within s n [] = omega arith
 asked_within s n (x ∷ xs) =
     let all = sum_by-cons (λ (y : Session). length y.requests) x xs in
@@ -74,13 +65,6 @@ asked_within s n (x ∷ xs) =
     ]
 
 -- ---- the workers of sessions are among the nodes
-
-before_cons : (k : ℕ) (z : Node) (zs : List Node) → nodes_before (suc k) (z ∷ zs) ≡ cond (is_node z.role) (suc (nodes_before k zs)) (nodes_before k zs)
-before_cons k z zs = sum_by-cons (λ (w : Node). cond (is_node w.role) 1 0) z (take k zs) ∙ by (is_node z.role)
-  where
-    by : (b : Bool) → cond b 1 0 + nodes_before k zs ≡ cond b (suc (nodes_before k zs)) (nodes_before k zs)
-    by true = omega arith
-    by false = omega arith
 
 abbrev numbers_from : ℕ → List Node → List ℕ
 numbers_from k nodes = filter_map (λ x. x.node) (principals_from k nodes)
@@ -109,11 +93,6 @@ at_itself k (z ∷ zs) x y e of = by (is_same_name z.name x) e (λ j h. at_itsel
         subst (λ j. slice_get (numbers_from k (z ∷ zs)) j ≡ Some (k + j)) (sym (before_cons i z zs))
         (behind (is_node z.role) (nodes_before i zs) (λ j. later j h))
 
-honest_node : (role : Role) → is_honest_worker role ≡ true → is_node role ≡ true
-honest_node r.Principal h = h
-honest_node (r.Worker hostile) h = refl
-honest_node (r.Store hostile) h = refl
-
 allowed : (b : Bool) (fault : Fault) → cond b [] (fault ∷ []) ≡ [] → b ≡ true
 allowed true fault e = refl
 allowed false fault e = absurd (omega (arith, ap length e))
@@ -128,7 +107,7 @@ module _ (s : Start) where
       let y = found (named node_name s.program.nodes x.worker) x.worker (left_nil (unknown.in_principal s x.worker) (flat_map (unknown.in_request s) x.requests) e) in
       let honest = allowed (is_honest_worker y.0.role) _ (subst (λ o. roles.if_of_kind is_honest_worker o x.worker ≡ []) y.1 f) in
       let number : 0 + node_number s x.worker ≡ node_number s x.worker = omega arith in
-      at_itself 0 s.program.nodes x.worker y.0 y.1 (honest_node y.0.role honest) ∙ ap Some number
+      at_itself 0 s.program.nodes x.worker y.0 y.1 (honest_worker_node y.0.role honest) ∙ ap Some number
 
   sessions_declared : unknown.unknown s ≡ [] → flat_map (unknown.in_session s) s.sessions ≡ []
   sessions_declared e =
@@ -192,9 +171,9 @@ module _ (s : Start) where
 
 pub program_of : (s : Start) (n : ℕ) (rights : Rights) → first_passed s ≡ None → faults s ≡ [] → AreRights (resolved s) rights → IsProgramOf (resolved s) n rights
 program_of s n rights limits right are =
-    let within = none_passes (passes s) order limits in
-    let fields : greatest (map (λ (c : Class). length c.fields) s.program.classes) ≤ 16 = ltb-false 16 _ within.1.1.1.1.0 in
-    let requests : sum_by (λ (x : Session). length x.requests) s.sessions ≤ 100000 = ltb-false 100000 _ within.1.1.1.1.1.1.1.1.1.1.0 in
+    let within = is_within s limits in
+    let fields : greatest (map (λ (c : Class). length c.fields) s.program.classes) ≤ 16 = within.fields in
+    let requests : sum_by (λ (x : Session). length x.requests) s.sessions ≤ 100000 = within.requests in
     let few = asked_within s n s.sessions in
     record {
       fitting = program_fits s right;

@@ -4,13 +4,13 @@ use Rattle.std.specs.Prelude.{nat_le, ◌==◌}
 use Rattle.std.specs.List.{AllByRecursion, filter_map, cons_option}
 use Rattle.fab_base.specs.declared.object.Tid.{Tid}
 use Rattle.fab_base.specs.FlatMap.{is_among}
+use Rattle.fab_base.proofs.Lists.{all_along, all_append, all_filter, all_map}
 use Rattle.fab_tree.specs.declared.resolved.Resolved.{Resolved}
 use Rattle.fab_protocol.specs.declared.parts.Parts.{Parts}
 use Rattle.fab_protocol.specs.Caches.{last_distinct, at_store, cached}
 use Rattle.fab_protocol.specs.Parts.{touched_names, puts_of}
 use Rattle.fab_protocol.specs.Tables.{row_of}
 use Rattle.fab_protocol.specs.Versions.{Row, Rows, name_of, names_of, raised}
-use Rattle.fab_protocol.proofs.Lists.{all_along, all_append, all_filter, all_map}
 use Rattle.fab_protocol.proofs.TableLaws.{row_of_all}
 use Rattle.fab_attempts.specs.Known.{IsKnown, AreKnown, ArePartsOver}
 

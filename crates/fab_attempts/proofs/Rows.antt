@@ -10,8 +10,8 @@ use Rattle.fab_base.specs.declared.object.Oid.{Oid}
 use Rattle.fab_base.specs.declared.object.Object.{Object}
 use Rattle.fab_base.specs.FlatMap.{FlatMap, is_same, is_among, get, put, put_all, map_of, ascends}
 use Rattle.fab_base.proofs.Names.{same_flips, same_is_equivalence}
+use Rattle.fab_base.proofs.NameOrder.{one_name}
 use Rattle.fab_map.proofs.Made.{distinct_from_ascends}
-use Rattle.fab_map.proofs.Order.{one_name}
 use Rattle.fab_map.proofs.Rows.{leads, ascends_leads, ascends_rest, get_here, get_none_before, get-put_same, get-put_other}
 use Rattle.fab_laws.specs.Locality.{rows_among}
 use Rattle.fab_protocol.specs.Versions.{Rows, names_of, objects_of}

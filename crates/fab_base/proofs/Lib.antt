@@ -1,4 +1,6 @@
+pub mod Lists
 pub mod Names
+pub mod NameOrder
 pub mod Quotient
 pub mod Torn
 mod Examples

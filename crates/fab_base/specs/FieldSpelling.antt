@@ -10,6 +10,10 @@ use Rattle.fab_base.specs.declared.object.Value.TheVariants.{Int, Null, Ref}
 use Rattle.fab_base.specs.declared.object.Object.{Object}
 use Rattle.fab_base.specs.declared.message.Items.{Items}
 
+-- the version of each message that is sent
+abbrev pub sent_version : ℕ
+sent_version = 1
+
 -- a number below 2 ^ 16 in two bytes, one below 2 ^ 32 in four
 abbrev pub two_bytes : ℕ → List ℕ
 two_bytes n = to_be_bytes w16 n

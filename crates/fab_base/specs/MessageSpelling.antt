@@ -6,7 +6,7 @@ use Rattle.fab_base.specs.declared.message.Answer.{Answer}
 use Rattle.fab_base.specs.declared.message.Answer.TheVariants as answers
 use Rattle.fab_base.specs.declared.message.Message.{Message}
 use Rattle.fab_base.specs.declared.message.Message.TheVariants as messages
-use Rattle.fab_base.specs.FieldSpelling.{four_bytes, tid_bytes, IsTid, oid_bytes, IsOid, object_bytes, IsObject, items_bytes, AreItems, KeepsItems}
+use Rattle.fab_base.specs.FieldSpelling.{sent_version, four_bytes, tid_bytes, IsTid, oid_bytes, IsOid, object_bytes, IsObject, items_bytes, AreItems, KeepsItems}
 
 -- why a Fetch is denied, one byte
 abbrev pub why_bytes : Why → List ℕ
@@ -48,9 +48,9 @@ kind_and_body (messages.Inquire tid) = 9 ∷ tid_bytes tid
 abbrev pub message_bytes : ℕ → Message → List ℕ
 message_bytes version m = version ∷ kind_and_body m
 
--- the spelling in version 1, the one that is sent
+-- the spelling that is sent
 abbrev pub spelled : Message → List ℕ
-spelled m = message_bytes 1 m
+spelled m = message_bytes sent_version m
 
 -- what the numbers and counts of a body keep
 abbrev pub IsBody : ℕ → Message → Type 0
@@ -64,9 +64,9 @@ IsBody version (messages.Abort tid) = IsTid tid
 IsBody version (messages.Boot boot) = boot < 2 ^ 32
 IsBody version (messages.Inquire tid) = IsTid tid
 
--- what has a spelling in a version; 1 is the only version
+-- what has a spelling in a version, which is the one that is sent
 pub record IsMessage (version : ℕ) (m : Message) : Type 0 where
-  pub known : version ≡ 1
+  pub known : version ≡ sent_version
   pub body : IsBody version m
 
 -- the counts alone: what of this the types of the code don't keep

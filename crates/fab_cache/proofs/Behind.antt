@@ -1,8 +1,8 @@
 -- Puts in two parts leave what they leave in a row.
-use Rattle.std.proofs.Common.{◌≡◌, ℕ, suc, ◌+◌, ◌≤◌, nat_le, Bool, true, false, not, cond, ◌||◌, if◌then◌else◌, ◌⊎◌}
+use Rattle.std.proofs.Common.{◌≡◌, ℕ, suc, ◌+◌, ◌≤◌, nat_le, Bool, true, false, not, cond, if◌then◌else◌, ◌⊎◌}
 use Rattle.std.proofs.Common.{[], ◌∷◌, ◌++◌, length, refl, sym, subst, ap, ◌∙◌, inl, inr, arith}
 use Rattle.std.specs.List.{filter}
-use Rattle.std.proofs.lemmas.Bool.{or_parts, or_cases, leb-true, le-leb}
+use Rattle.std.proofs.lemmas.Bool.{or_parts, or_cases, leb-true, le-leb, or_right}
 use Rattle.fab_base.specs.FlatMap.{is_among}
 use Rattle.fab_protocol.specs.Tables.{OnlyOnce}
 use Rattle.fab_protocol.specs.Versions.{Row, Rows, names_of}
@@ -15,16 +15,12 @@ use Rattle.fab_cache.proofs.Lasting.{settled, older_settled, older_new, older_by
 abbrev is_new : Rows → Row → Bool
 is_new newer row = not (is_among row.0 (names_of newer))
 
-right_true : (a b : Bool) → b ≡ true → (a || b) ≡ true
-right_true true b h = refl
-right_true false b h = h
-
 one_further : (a b : ℕ) → suc (a + b) ≡ a + suc b
 one_further a b = omega arith
 
 module _ (k : ℕ) where
   full : (x : Row) (l : Rows) → k ≤ length l → settled k x.0 l ≡ true
-  full x l h = right_true (is_among x.0 (names_of l)) (nat_le k (length l)) (le-leb k (length l) h)
+  full x l h = or_right (is_among x.0 (names_of l)) (nat_le k (length l)) (le-leb k (length l) h)
 
   longer : (row : Row) (newer : Rows) → k ≤ length newer → k ≤ length (with_older k row newer)
   longer row newer h = older_by k (λ l. k ≤ length l) row newer h (λ e. omega (arith, h))

@@ -6,9 +6,9 @@ use Rattle.std.proofs.lemmas.List.Filters.{length-filter_both}
 use Rattle.fab_base.specs.declared.object.Oid.{Oid}
 use Rattle.fab_base.specs.FlatMap.{is_among, is_same}
 use Rattle.fab_base.proofs.Names.{same_flips}
+use Rattle.fab_base.proofs.NameOrder.{one_name}
 use Rattle.fab_protocol.specs.Tables.{OnlyOnce}
 use Rattle.fab_protocol.specs.Versions.{Row, Rows, names_of}
-use Rattle.fab_protocol.proofs.TableLaws.{one_name}
 
 -- how many of these pass a test, row by row
 passing : (p : Row → Bool) (x : Row) (xs : Rows) → length (filter p (x ∷ xs)) ≡ cond (p x) 1 0 + length (filter p xs)

@@ -6,10 +6,10 @@ use Rattle.std.proofs.lemmas.Bool.{or_parts, or_from, or_cases, true≢false, le
 use Rattle.fab_base.specs.declared.object.Oid.{Oid}
 use Rattle.fab_base.specs.FlatMap.{is_among, is_same}
 use Rattle.fab_base.proofs.Names.{same_self}
+use Rattle.fab_base.proofs.NameOrder.{one_name}
 use Rattle.fab_protocol.specs.Tables.{OnlyOnce}
 use Rattle.fab_protocol.specs.Versions.{Row, Rows, names_of}
 use Rattle.fab_protocol.specs.Caches.{with_older, last_distinct}
-use Rattle.fab_protocol.proofs.TableLaws.{one_name}
 use Rattle.fab_cache.specs.Caching.{lasting}
 
 -- a name among rows, row by row

@@ -1,15 +1,14 @@
 -- What a store is asked to prepare keeps the counts of a message.
 use Rattle.std.proofs.Common.{ℕ, suc, ◌+◌, ◌≤◌, Bool, true, false, ◌==◌, ◌&&◌, if◌then◌else◌, List, [], ◌∷◌, length, arith}
 use Rattle.std.specs.List.{filter, All, AllByRecursion}
-use Rattle.std.proofs.lemmas.List.Sums.{length-filter, count_by-le-length}
 use Rattle.std.proofs.lemmas.List.Elements.{All-from_recursion}
 use Rattle.fab_base.specs.FieldSpelling.{KeepsItems}
 use Rattle.fab_base.specs.FlatMap.{is_before}
 use Rattle.fab_base.specs.declared.object.Oid.{Oid}
+use Rattle.fab_base.proofs.Lists.{all_filter, few_pass}
 use Rattle.fab_protocol.specs.declared.parts.Parts.{Parts}
 use Rattle.fab_protocol.specs.Parts.{KeepsParts, items_at, is_only_read}
 use Rattle.fab_protocol.specs.Tables.{placed, placed_all}
-use Rattle.fab_protocol.proofs.Lists.{all_filter}
 
 module _ {R : Type 0} (name : R → Oid) where
   length_placed : (r : R) (rows : List R) → length (placed name r rows) ≤ length rows + 1
@@ -30,9 +29,6 @@ module _ {R : Type 0} (name : R → Oid) where
       let all = length_placed_all rs (placed name r rows) in
       let one = length_placed r rows in
       omega (arith, all, one)
-
-few_pass : {A : Type 0} (test : A → Bool) (xs : List A) → length (filter test xs) ≤ length xs
-few_pass test xs = omega (arith, length-filter test xs, count_by-le-length test xs)
 
 all_pass : {A : Type 0} (P : A → Type 0) (test : A → Bool) (xs : List A) → AllByRecursion P xs → All P (filter test xs)
 all_pass P test xs h = All-from_recursion P (filter test xs) (all_filter P test xs h)

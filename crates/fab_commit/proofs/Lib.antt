@@ -3,3 +3,4 @@ pub mod ReadOrder
 pub mod Counts
 pub mod Votes
 pub mod Again
+pub mod Putting

@@ -10,9 +10,9 @@ use Rattle.std.proofs.lemmas.Bool.Decides.{nat_tests}
 use Rattle.std.proofs.lemmas.List.Sorted.{searched}
 use Rattle.fab_base.specs.JournalSpelling.{AscendFrom, AreStores}
 use Rattle.fab_base.specs.declared.object.Oid.{Oid}
+use Rattle.fab_base.proofs.Lists.{all_append, all_map}
 use Rattle.fab_protocol.specs.declared.parts.Parts.{Parts}
 use Rattle.fab_protocol.specs.Parts.{KeepsParts, with_number, stores_of, touched_names}
-use Rattle.fab_protocol.proofs.Lists.{all_append, all_map}
 use Rattle.fab_commit.specs.Coordinators.{AreAtNodes}
 
 -- ---- one more

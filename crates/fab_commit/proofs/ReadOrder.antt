@@ -7,10 +7,10 @@ use Rattle.std.proofs.lemmas.List.Sums.{fold-append}
 use Rattle.std.specs.List.Sorted.{IsSearchInRange, IsBinarySearchResult}
 use Rattle.fab_base.specs.declared.object.Oid.{Oid}
 use Rattle.fab_base.specs.FlatMap.{is_among, is_same}
+use Rattle.fab_base.proofs.NameOrder.{derived_cmp}
 use Rattle.fab_protocol.specs.Tables.{ascends, placed, placed_all}
 use Rattle.fab_protocol.specs.Versions.{Rows, names_of}
 use Rattle.fab_protocol.proofs.TableLaws.{ascends_placed}
-use Rattle.fab_versions.proofs.Order.{derived_cmp}
 use Rattle.fab_versions.proofs.Found.{searched_by_derived, placed_at, placed_in_gap}
 
 abbrev pub Read : Type 0

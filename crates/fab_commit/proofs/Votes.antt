@@ -5,7 +5,7 @@ use Rattle.std.specs.List.{AllByRecursion, Contains, filter, list_any}
 use Rattle.std.proofs.lemmas.Bool.{or_parts, or_from}
 use Rattle.std.proofs.lemmas.Bool.Decides.{nat_tests}
 use Rattle.fab_base.specs.declared.object.Tid.{Tid}
-use Rattle.fab_protocol.proofs.Lists.{behind_head}
+use Rattle.fab_base.proofs.Lists.{behind_head}
 use Rattle.fab_commit.specs.Coordinators.{Coordination, all_voted, begun, is_among, verdict, voted}
 use Rattle.fab_commit.specs.declared.verdict.Verdict.TheVariants.{Commit, Wait}
 

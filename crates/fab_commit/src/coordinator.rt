@@ -7,7 +7,7 @@ ghost use Rattle.fab_base.specs.declared.message.Message.TheVariants.{Prepare};
 ghost use Rattle.fab_protocol.specs.Parts.{KeepsParts, items_at, stores_of};
 ghost use Rattle.fab_commit.specs.Coordinators.{begun, is_among, verdict, voted};
 
-use crate::participants::participants;
+use crate::stores::participants;
 use crate::sends::{Sends, prepares};
 use crate::verdict::Verdict;
 use fab_base::{NoMemory, Seq, Tid};

@@ -9,7 +9,7 @@ use Rattle.fab_ended.specs.Bundles.{IsOverRun}
 use Rattle.fab_ended.specs.Ended.{AreUnmarked}
 use Rattle.fab_ended.proofs.Reports.{reports_are_answered, reports_are_final, requests_are_final, runs_are_calm}
 use Rattle.fab_alone.proofs.Bundles.{runs_are_evaluated}
-use Rattle.fab_core.specs.Moved.{node_at}
+use Rattle.fab_net.specs.Events.{node_at}
 use Rattle.fab_complete.specs.Complete.{IsComplete}
 
 -- where no move is the first with a mark, none has one

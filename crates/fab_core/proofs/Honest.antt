@@ -4,7 +4,7 @@ use Rattle.std.specs.List.{AllByRecursion}
 use Rattle.std.proofs.Common.{refl, sym, ap, ◌∙◌, arith, inl, inr, append_assoc}
 use Rattle.std.proofs.lemmas.List.{append-nil, length-append}
 use Rattle.std.proofs.lemmas.Bool.{cases_eq}
-use Rattle.fab_protocol.proofs.Lists.{all_append}
+use Rattle.fab_base.proofs.Lists.{all_append}
 use Rattle.fab_node.specs.Standing.{GivenModel}
 use Rattle.fab_core.specs.Cores.{is_honest}
 use Rattle.fab_core.specs.Honest.{AreFor, honest_up}

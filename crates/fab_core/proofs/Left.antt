@@ -4,7 +4,7 @@ use Rattle.std.specs.List.{AllByRecursion}
 use Rattle.std.proofs.Common.{refl, sym, ap, ◌∙◌, subst, arith, append-nil}
 use Rattle.std.proofs.lemmas.List.{length-append, length-map, map-append, reverse-append}
 use Rattle.fab_base.specs.JournalSpelling.{header_bytes}
-use Rattle.fab_protocol.proofs.Lists.{all_append}
+use Rattle.fab_base.proofs.Lists.{all_append}
 use Rattle.fab_world.specs.Machine.{at_start}
 use Rattle.fab_node.specs.Standing.{GivenModel, JournalModel, NodeModel}
 use Rattle.fab_core.specs.Cores.{SlotStands, is_honest, setting}

@@ -1,18 +1,17 @@
 -- How long the record of an event is, by the plan of it.
-use Rattle.std.proofs.Common.{◌≡◌, ℕ, ◌+◌, ◌*◌, ◌^◌, ◌<◌, ◌≤◌, Bool, true, false, not, ◌&&◌, IsTrue, Option, Some, None, List, [], ◌∷◌, length, refl, sym, ap, ◌∙◌, subst, arith}
+use Rattle.std.proofs.Common.{◌≡◌, ℕ, ◌^◌, ◌<◌, true, false, not, ◌&&◌, Option, Some, None, length, refl, sym, ap, ◌∙◌, subst, arith}
 use Rattle.std.specs.Prelude.{IfSome, is_some, nat_le, option_map}
 use Rattle.std.proofs.lemmas.Bool.{and_right}
-use Rattle.fab_base.specs.declared.object.Value.{Value}
 use Rattle.fab_base.specs.declared.entry.Entry.{Entry}
 use Rattle.fab_base.specs.declared.entry.Entry.TheVariants as entries
 use Rattle.fab_base.specs.declared.message.Message.TheVariants.{Prepare}
-use Rattle.fab_base.specs.FieldSpelling.{items_bytes, KeepsItems}
-use Rattle.fab_base.specs.JournalSpelling.{result_bytes, record_bytes, version_behind, IsEntry}
-use Rattle.fab_wire.proofs.Lengths.{value_le, items_le}
+use Rattle.fab_base.specs.FieldSpelling.{KeepsItems}
+use Rattle.fab_base.specs.JournalSpelling.{record_bytes, version_behind, IsEntry}
+use Rattle.fab_wire.proofs.Lengths.{items_le}
 use Rattle.fab_wire.proofs.MessageLaws.{can_be_encoded}
 use Rattle.fab_journal.specs.Lengths.{record_length}
 use Rattle.fab_journal.proofs.Journals.{version_stays}
-use Rattle.fab_journal.proofs.Lengths.{length-record}
+use Rattle.fab_journal.proofs.Lengths.{length-record, result_le}
 use Rattle.fab_net.specs.declared.note.Step.{Step}
 use Rattle.fab_world.specs.Workers.{Act}
 use Rattle.fab_net.specs.declared.event.Inner.{Inner}
@@ -23,10 +22,6 @@ use Rattle.fab_node.specs.declared.plan.NodePlan.TheVariants as plans
 use Rattle.fab_node.specs.Deeds.{IsPlanFor, IsPlanOf, entry_in}
 use Rattle.fab_node.specs.Standing.{GivenModel, NodeModel}
 use Rattle.fab_core.specs.Telling.{length_in}
-
-result_le : (r : Option Value) → length (result_bytes r) ≤ 19
-result_le None = omega arith
-result_le (Some v) = value_le v
 
 small : (e : Entry) → IsEntry 1 e → record_length e < 2 ^ 32
 small (entries.Decided tid request result stores) fits = omega (arith, result_le result, fits.body.3.count)

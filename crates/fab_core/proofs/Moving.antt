@@ -11,14 +11,15 @@ use Rattle.fab_world.specs.Serial.{attempts}
 use Rattle.fab_node.specs.Standing.{GivenModel, JournalModel, NodeModel}
 use Rattle.fab_core.specs.declared.applied.Applied.{Applied}
 use Rattle.fab_core.specs.Cores.{CoreModel, HasPlaces, InnerHasDone, move_of, setting, unmarked, world, world_by}
-use Rattle.fab_core.specs.Moved.{IsCaused, IsCut, IsMoved, event_of, move_by, node_at}
+use Rattle.fab_net.specs.Events.{uncut, node_at}
+use Rattle.fab_core.specs.Moved.{IsCaused, IsCut, IsMoved, move_by}
 use Rattle.fab_core.specs.Places.{AreOthers, journals_of}
 use Rattle.fab_core.proofs.Tables.{form_is}
 
 abbrev pub seen : GivenModel → List Logged → List (Option NodeModel) → CoreModel
 seen g log nodes = record { given = g; moves = map move_of log; journals = journals_of nodes }
 
-pub node_is : (e : Inner) → node_at (event_of e) ≡ node_of e
+pub node_is : (e : Inner) → node_at (uncut e) ≡ node_of e
 node_is (i.Begin n) = refl
 node_is (i.Resume n) = refl
 node_is (i.Deliver a b) = refl
@@ -30,9 +31,9 @@ module _ (old : CoreModel) (g : GivenModel) (log : List Logged) (nodes : List (O
   pub enabled_in : (move : Move) → IsTrue (enabled (setting old.given) (world old) (form_of move)) → IsTrue (enabled (setting g) (world_by g (map move_of log)) (form_of move))
   enabled_in move h = subst (λ (m : CoreModel). IsTrue (enabled (setting m.given) (world m) (form_of move))) (sym view) h
 
-  pub may_in : (e : Inner) → IsTrue (enabled (setting old.given) (world old) (form_of (unmarked (event_of e)))) → IsTrue (may (setting g) (world_by g (map move_of log)) e)
+  pub may_in : (e : Inner) → IsTrue (enabled (setting old.given) (world old) (form_of (unmarked (uncut e)))) → IsTrue (may (setting g) (world_by g (map move_of log)) e)
   may_in e h =
-      subst (λ f. IsTrue (enabled (setting g) (world_by g (map move_of log)) f)) (form_is e) (enabled_in (unmarked (event_of e)) h)
+      subst (λ f. IsTrue (enabled (setting g) (world_by g (map move_of log)) f)) (form_is e) (enabled_in (unmarked (uncut e)) h)
 
   pub done_in : (e : Inner) (over : Option Done) → InnerHasDone old.given (world old) e over → InnerHasDone g (world_by g (map move_of log)) e over
   done_in e over h = subst (λ (m : CoreModel). InnerHasDone m.given (world m) e over) (sym view) h

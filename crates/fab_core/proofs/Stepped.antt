@@ -19,7 +19,7 @@ use Rattle.fab_node.specs.Deeds.{deed, done_by, readied, step_of}
 use Rattle.fab_node.proofs.Acts.{is_deed, does_own, does_other}
 use Rattle.fab_nodes.specs.Acts.{IsAbout, IsDone, bytes_through, taken}
 use Rattle.fab_core.specs.Cores.{NodesStand, StandsFor, posts_from, setting, unmarked}
-use Rattle.fab_core.specs.Moved.{event_of}
+use Rattle.fab_net.specs.Events.{uncut}
 use Rattle.fab_core.specs.Places.{AreOthers, IsDoneAt}
 use Rattle.fab_nodes.specs.Transit.{AreSentOut, OnlyGainsLanes, bytes_for, is_up_at, waiting_at}
 use Rattle.fab_core.proofs.Filled.{nodes_after, stands_at, up_is}
@@ -135,12 +135,12 @@ module _ (g : GivenModel) (w : World) (nodes : List (Option NodeModel)) (queues 
 
   -- ---- what the log says of it
 
-  logged_by : (e : Inner) → logged S w (unmarked (event_of e)) ≡ record { event = event_of e; bytes = bytes_in S w e; notes = (act S w e).notes; whole = true; marked = false }
+  logged_by : (e : Inner) → logged S w (unmarked (uncut e)) ≡ record { event = uncut e; bytes = bytes_in S w e; notes = (act S w e).notes; whole = true; marked = false }
   logged_by (i.Begin n) = refl
   logged_by (i.Resume n) = refl
   logged_by (i.Deliver a b) = refl
   logged_by (i.Idle n s) = refl
   logged_by (i.Recover n) = refl
 
-  pub entry_is : record { event = event_of e; bytes = bytes; notes = step.notes; whole = true; marked = false } ≡ logged S w (unmarked (event_of e))
-  entry_is = (λ j. record { event = event_of e; bytes = sym bytes_are j; notes = notes_are j; whole = true; marked = false }) ∙ sym (logged_by e)
+  pub entry_is : record { event = uncut e; bytes = bytes; notes = step.notes; whole = true; marked = false } ≡ logged S w (unmarked (uncut e))
+  entry_is = (λ j. record { event = uncut e; bytes = sym bytes_are j; notes = notes_are j; whole = true; marked = false }) ∙ sym (logged_by e)

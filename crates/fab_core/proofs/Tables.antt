@@ -12,7 +12,7 @@ use Rattle.fab_world.specs.Machine.{Setting, World, Does, Fails, Cuts, form_of, 
 pub use Rattle.fab_nodes.proofs.Pairs.{with_at_kept, with_at_same}
 use Rattle.fab_nodes.specs.Acts.{bytes_through, taken}
 use Rattle.fab_core.specs.Cores.{unmarked}
-use Rattle.fab_core.specs.Moved.{event_of}
+use Rattle.fab_net.specs.Events.{uncut}
 
 taken_deliver : (f g : ℕ → ℕ → List (List ℕ)) (c d : ℕ) → ((a b : ℕ) → f a b ≡ g a b) → (a b : ℕ) → taken f (i.Deliver c d) a b ≡ taken g (i.Deliver c d) a b
 taken_deliver f g c d h a b =
@@ -56,7 +56,7 @@ module _ (S : Setting) (w : World) where
   ready_posts (i.Recover n) h = refl
   ready_posts (i.Deliver c d) h = refl
 
-pub form_is : (e : Inner) → form_of (unmarked (event_of e)) ≡ Does e
+pub form_is : (e : Inner) → form_of (unmarked (uncut e)) ≡ Does e
 form_is (i.Begin n) = refl
 form_is (i.Resume n) = refl
 form_is (i.Idle n s) = refl

@@ -19,7 +19,7 @@ use Rattle.fab_node.specs.Deeds.{deed, failed}
 use Rattle.fab_node.proofs.Acts.{fails_own, fails_other, is_deed}
 use Rattle.fab_nodes.specs.Acts.{AreAmong, IsFailed, IsWaiting, StandsStill, bytes_through, calls, taken}
 use Rattle.fab_core.specs.Cores.{InnerHasDone, IsCore, StandsFor, is_honest, marked, move_of, setting, unmarked, world_by}
-use Rattle.fab_core.specs.Moved.{event_of}
+use Rattle.fab_net.specs.Events.{uncut}
 use Rattle.fab_core.specs.Places.{AreOthers, IsAt, IsDoneAt, IsFailedAt, IsStillAt, MayPlanAt}
 use Rattle.fab_nodes.specs.Transit.{AreSentOut, OnlyGainsLanes, bytes_to, is_up_at}
 use Rattle.fab_core.proofs.Allowed.{allowed, honest_does}
@@ -34,7 +34,7 @@ use Rattle.fab_core.proofs.Waiting.{nobody_waits}
 
 -- ---- an event whose journal failed, as a move
 
-failed_form : (e : Inner) → form_of (marked (event_of e)) ≡ Fails 0 e
+failed_form : (e : Inner) → form_of (marked (uncut e)) ≡ Fails 0 e
 failed_form (i.Begin n) = refl
 failed_form (i.Resume n) = refl
 failed_form (i.Deliver a b) = refl
@@ -42,7 +42,7 @@ failed_form (i.Idle n s) = refl
 failed_form (i.Recover n) = refl
 
 failed_logged : (S : Setting) (w : World) (e : Inner)
-    → logged S w (marked (event_of e)) ≡ record { event = events.CrashIn 0 e; bytes = bytes_in S w e; notes = []; whole = false; marked = true }
+    → logged S w (marked (uncut e)) ≡ record { event = events.CrashIn 0 e; bytes = bytes_in S w e; notes = []; whole = false; marked = true }
 failed_logged S w (i.Begin n) = refl
 failed_logged S w (i.Resume n) = refl
 failed_logged S w (i.Deliver a b) = refl
@@ -176,15 +176,15 @@ module _ (g : GivenModel) (nodes : List (Option NodeModel)) (queues : Network) (
         idle_by = none_waits g w nodes queues places core.stands e can bytes delivered new others step_is done grew took gains sent queue (nobody_waits S moves)
 
         abbrev entry : Logged
-        entry = record { event = event_of e; bytes = bytes; notes = step_is.notes; whole = true; marked = false }
+        entry = record { event = uncut e; bytes = bytes; notes = step_is.notes; whole = true; marked = false }
 
-        pub entry_whole : entry ≡ logged S w (unmarked (event_of e))
+        pub entry_whole : entry ≡ logged S w (unmarked (uncut e))
         entry_whole = entry_is g w nodes queues places core.stands e can bytes delivered new others step_is done
 
         pub whole : (last : Network) → took.nodes ≡ grew.nodes → AreSentOut g.rights (is_up_at new) (node_of e) step_is.sends took last
             → IsCore g new last places (log ++ entry ∷ [])
         whole last lanes sends =
-            grown g nodes new queues last places places log core (unmarked (event_of e)) entry
+            grown g nodes new queues last places places log core (unmarked (uncut e)) entry
             (subst (λ f. IsTrue (enabled S w f)) (sym (form_is e)) can) few entry_whole
             (subst (λ f. StandsFor g (steps S w f) new last places) (sym (form_is e))
             (stepped g w nodes queues places core.stands e can bytes delivered new others step_is done grew took gains sent queue last lanes sends))
@@ -194,7 +194,7 @@ module _ (g : GivenModel) (nodes : List (Option NodeModel)) (queues : Network) (
       abbrev entry_failed : Logged
       entry_failed = record { event = events.CrashIn 0 e; bytes = bytes; notes = []; whole = false; marked = true }
 
-      pub entry_lost : entry_failed ≡ logged S w (marked (event_of e))
+      pub entry_lost : entry_failed ≡ logged S w (marked (uncut e))
       entry_lost =
           ap (λ (z : List ℕ). record { event = events.CrashIn 0 e; bytes = z; notes = []; whole = false; marked = true })
           (delivered ∙ sym (bytes_same S w queues e core.stands.queue)) ∙ sym (failed_logged S w e)
@@ -211,7 +211,7 @@ module _ (g : GivenModel) (nodes : List (Option NodeModel)) (queues : Network) (
         pub lost_by : (before after : NodeModel) → IsAt (node_of e) nodes before → IsAt (node_of e) new after → Stands g (failed (w.node (node_of e))) after
             → calls_journal S w e ≡ true → IsCore g new last places (log ++ entry_failed ∷ [])
         lost_by before after was is stands called =
-            grown g nodes new queues last places places log core (marked (event_of e)) entry_failed
+            grown g nodes new queues last places places log core (marked (uncut e)) entry_failed
             (subst (λ f. IsTrue (enabled S w f)) (sym (failed_form e)) (and_from _ _ (and_from _ _ can called) refl)) few entry_lost
             (subst (λ f. StandsFor g (steps S w f) new last places) (sym (failed_form e))
             (fallen g w (steps S w (Fails 0 e)) (node_of e) nodes new before after queues last places core.stands was is others

@@ -1,34 +1,13 @@
 -- What an event makes of all nodes: the move by which the run grows, and what became of the journals.
-use Rattle.std.specs.Prelude.{◌≡◌, ◌≤◌, ℕ, Bool, true, false, IsTrue, List, [], ◌∷◌, ◌++◌, Option, Some, None, Result, Ok, Err, IfOk, OnErr}
+use Rattle.std.specs.Prelude.{◌≡◌, ◌≤◌, ℕ, Bool, true, IsTrue, List, [], ◌∷◌, ◌++◌, Option, Some, None, Result, Ok, Err, IfOk, OnErr}
 use Rattle.fab_base.specs.Faults.{Rose}
 use Rattle.fab_net.specs.declared.event.Event.{Event}
-use Rattle.fab_net.specs.declared.event.Event.TheVariants as e
-use Rattle.fab_net.specs.declared.event.Inner.{Inner}
-use Rattle.fab_net.specs.declared.event.Inner.TheVariants as i
-use Rattle.fab_world.specs.Machine.{Move, node_of}
+use Rattle.fab_net.specs.Events.{node_at}
+use Rattle.fab_world.specs.Machine.{Move}
 use Rattle.fab_node.specs.Standing.{JournalModel}
 use Rattle.fab_core.specs.Cores.{CoreModel, marked, slot, unmarked}
 use Rattle.fab_core.specs.declared.applied.Applied.{Applied}
 use Rattle.fab_core.specs.declared.applied.Applied.TheVariants as a
-
--- an event of a node, done whole
-abbrev pub event_of : Inner → Event
-event_of (i.Begin n) = e.Begin n
-event_of (i.Resume n) = e.Resume n
-event_of (i.Deliver a b) = e.Deliver a b
-event_of (i.Idle n s) = e.Idle n s
-event_of (i.Recover n) = e.Recover n
-
--- the node that it is of
-abbrev pub node_at : Event → ℕ
-node_at (e.Begin n) = n
-node_at (e.Resume n) = n
-node_at (e.Deliver a b) = b
-node_at (e.Idle n s) = n
-node_at (e.Recover n) = n
-node_at (e.CrashIn keep inner) = node_of inner
-node_at (e.Post h) = h
-node_at (e.Crash n) = n
 
 -- a mark says that a call of the journal failed
 abbrev pub move_by : Applied → Event → Move

@@ -13,10 +13,9 @@ ghost use Rattle.fab_core.specs.Places.{AreOthers, HasRecordAt, IsCutToAt, IsDon
 ghost use Rattle.fab_core.specs.Moved.{IsCaused};
 ghost use Rattle.fab_nodes.specs.Transit.{OnlyGainsLanes, bytes_to};
 
-use crate::numbering::node_of;
 use fab_device::{Journal, JournalError};
 use fab_eval::Done;
-use fab_net::{Inner, Step};
+use fab_net::{Inner, Step, node_of};
 use fab_node::{Given, Node, NodePlan};
 use fab_nodes::make_room;
 use fab_queues::Queues;

@@ -5,16 +5,17 @@ ghost use Rattle.std.specs.Option.{option_copied};
 ghost use Rattle.fab_world.specs.Machine.{Enabled};
 ghost use Rattle.fab_world.specs.Serial.{attempts};
 ghost use Rattle.fab_core.specs.Cores.{EventHasDone, InnerHasDone, setting, unmarked, world};
-ghost use Rattle.fab_core.specs.Moved.{IsCaused, IsCut, IsMoved, event_of as event_by, move_by, node_at};
+ghost use Rattle.fab_net.specs.Events.{uncut as event_by, node_at};
+ghost use Rattle.fab_core.specs.Moved.{IsCaused, IsCut, IsMoved, move_by};
 
 use crate::acting::act_at;
 use crate::applied::Applied;
 use crate::core_state::Core;
-use crate::numbering::{node_of, whole_in};
+use crate::logging::whole_in;
 use fab_base::{NoMemory, Seq};
 use fab_device::{Journal, JournalError};
 use fab_eval::Done;
-use fab_net::{Event, Inner, Step};
+use fab_net::{Event, Inner, Step, node_of};
 use fab_nodes::{bytes_of, failed_in, let_go, note, send, take_front};
 use std::alloc::AllocError;
 

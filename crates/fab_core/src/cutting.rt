@@ -11,11 +11,10 @@ ghost use Rattle.fab_core.specs.Moved.{IsMoved};
 use crate::acting::act_cut_at;
 use crate::applied::Applied;
 use crate::core_state::Core;
-use crate::numbering::node_of;
 use fab_base::NoMemory;
 use fab_device::{Journal, JournalError};
 use fab_eval::Done;
-use fab_net::Inner;
+use fab_net::{Inner, node_of};
 use fab_nodes::{bytes_of, cut_in, failed_in, note};
 use std::alloc::AllocError;
 

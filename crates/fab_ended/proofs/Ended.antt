@@ -5,13 +5,13 @@ use Rattle.std.specs.Prelude.{slice_get}
 use Rattle.std.specs.List.{AllByRecursion, range_with_len}
 use Rattle.std.proofs.lemmas.Bool.{both_ways, cases_lt, ne_eqb}
 use Rattle.std.proofs.lemmas.Option.{slice_get-get_or}
+use Rattle.fab_base.proofs.Lists.{all_along, all_map}
 use Rattle.fab_net.specs.declared.event.Event.{Event}
 use Rattle.fab_net.specs.declared.event.Event.TheVariants as event
 use Rattle.fab_net.specs.declared.outcome.Denial.TheVariants.{Rights as NoRights, IllFormed}
 use Rattle.fab_net.specs.declared.outcome.ReqOutcome.{ReqOutcome}
 use Rattle.fab_net.specs.declared.outcome.ReqOutcome.TheVariants.{Committed, Failed, Conflict, Silent, Denied, Stopped, NodeDown, Unfinished}
 use Rattle.fab_rights.specs.Computed.{is_worker}
-use Rattle.fab_protocol.proofs.Lists.{all_along, all_map}
 use Rattle.fab_world.specs.Crashing.{CrashLine, IsOver}
 use Rattle.fab_world.specs.Machine.{Setting, World, Move, at_start, form_by, kept, outcome}
 use Rattle.fab_world.specs.Serial.{ArePosts, IsEvaluation, IsRun, IsSetting, world_of}

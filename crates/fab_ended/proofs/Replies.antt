@@ -12,9 +12,10 @@ use Rattle.fab_base.specs.declared.message.Why.{Why}
 use Rattle.fab_base.specs.declared.message.Why.TheVariants as why
 use Rattle.fab_base.specs.declared.object.Oid.{Oid}
 use Rattle.fab_base.specs.declared.object.Tid.{Tid}
-use Rattle.fab_base.specs.FieldSpelling.{AreItems, IsCreate, IsObject, IsOid, IsRead, IsTid, IsWrite}
+use Rattle.fab_base.specs.FieldSpelling.{AreItems, IsCreate, IsObject, IsOid, IsRead, IsTid, IsWrite, sent_version}
 use Rattle.fab_base.specs.MessageSpelling.{IsAnswer, IsBody}
 use Rattle.fab_base.specs.Tids.{is_above}
+use Rattle.fab_base.proofs.Lists.{all_along, all_append, all_map}
 use Rattle.fab_rights.specs.declared.rights.Rights.{Rights}
 use Rattle.fab_rights.specs.Computed.{knows, may_fetch}
 use Rattle.fab_protocol.specs.declared.said.Said.{Said}
@@ -22,7 +23,6 @@ use Rattle.fab_protocol.specs.Stores.{Item, Prepared, Read, Shelf, Write, Create
 use Rattle.fab_protocol.specs.Stores.{reads_in, reasons, reasons_in, reasons_of, replies, vote, voted, votes, writes_in}
 use Rattle.fab_protocol.specs.Tables.{row_of}
 use Rattle.fab_protocol.specs.Versions.{Row, name_of, version_of}
-use Rattle.fab_protocol.proofs.Lists.{all_along, all_append, all_map}
 use Rattle.fab_protocol.proofs.TableLaws.{row_of_all}
 use Rattle.fab_protocol.proofs.VersionLaws.{version_by_row, version_in}
 use Rattle.fab_integrity.proofs.Invariant.{In}
@@ -45,14 +45,14 @@ IsVote t _ = ⊥
 pub record Replies (n : ℕ) (Fits : Message → Type 0) (said : Said) : Type 0 where
   pub message : Message
   pub listed : In {A = ℕ × Message} (n, message) said.sends
-  pub body : IsBody 1 message
+  pub body : IsBody sent_version message
   pub short : IsShort message
   pub fits : Fits message
 
 -- a row that an Object can carry
 pub record CanAnswer (row : Row) : Type 0 where
   pub version : row.1 < 2 ^ 32
-  pub object : IsObject 1 row.2
+  pub object : IsObject sent_version row.2
 
 -- the first reason's answer, if it is one of these
 first_answers : (rs : List (Bool × Answer)) → AllByRecursion (λ r. IsAnswer r.1) rs → IsAnswer (first_of rs)
@@ -117,7 +117,7 @@ module _ (rights : Rights) (s n : ℕ) (shelf : Shelf) (rows : AllByRecursion Ca
         (h.0, (h.0, (spells_date i h.0, spells_locks i shelf.prepared prepared)))
         (spells_reasons earlier (Some (item_name i)) is h.1)
 
-    spells_all : (items : Items) → AreItems 1 items → AllByRecursion Spells (reasons rights s n t items shelf)
+    spells_all : (items : Items) → AreItems sent_version items → AllByRecursion Spells (reasons rights s n t items shelf)
     spells_all items are =
         let rs = reasons_in rights s n t shelf [] None (reads_in items) in
         let ws = reasons_in rights s n t shelf (map item_name (reads_in items)) None (writes_in items) in
@@ -128,10 +128,10 @@ module _ (rights : Rights) (s n : ℕ) (shelf : Shelf) (rows : AllByRecursion Ca
         (all_map (λ (i : Item). IsOid (item_name i)) (λ r. Read r.0 r.1) items.reads (all_along IsRead (λ r. IsOid r.0) (λ r h. h.oid) items.reads are.reads)))
         (spells_reasons (map item_name (reads_in items)) None (writes_in items)
         (all_map (λ (i : Item). IsOid (item_name i)) (λ w. Write w.0 w.1 w.2) items.writes
-        (all_along (IsWrite 1) (λ w. IsOid w.0) (λ w h. h.oid) items.writes are.writes))))
+        (all_along (IsWrite sent_version) (λ w. IsOid w.0) (λ w h. h.oid) items.writes are.writes))))
         (spells_reasons (map item_name (reads_in items ++ writes_in items)) None (creates_in items)
         (all_map (λ (i : Item). IsOid (item_name i)) (λ c. Create c.0 c.1) items.creates
-        (all_along (IsCreate 1) (λ c. IsOid c.0) (λ c h. h.oid) items.creates are.creates)))
+        (all_along (IsCreate sent_version) (λ c. IsOid c.0) (λ c h. h.oid) items.creates are.creates)))
 
     replies_vote : IsTid t → (answer : Answer) → IsAnswer answer → (said : Said) → In {A = ℕ × Message} (n, m.Vote t answer) said.sends
         → Replies n (IsVote t) said
@@ -139,7 +139,7 @@ module _ (rights : Rights) (s n : ℕ) (shelf : Shelf) (rows : AllByRecursion Ca
         record { message = m.Vote t answer; listed = listed; body = (tid, spells); short = vote_short t answer; fits = refl }
 
     -- a Prepare is answered
-    pub replies_asked : (items : Items) → IsTid t → AreItems 1 items → IsTid (last_of shelf n) → Replies n (IsVote t) (asked rights s n t items shelf)
+    pub replies_asked : (items : Items) → IsTid t → AreItems sent_version items → IsTid (last_of shelf n) → Replies n (IsVote t) (asked rights s n t items shelf)
     replies_asked items tid are last =
         cond_both (not (is_above t (last_of shelf n))) (votes n t (answers.OldTid (last_of shelf n)) None)
         (votes n t (vote rights s n t items shelf) (Some (voted t items (vote rights s n t items shelf)))) (Replies n (IsVote t))

@@ -3,6 +3,7 @@ use Rattle.std.proofs.Common.{◌≡◌, inl, inr, ℕ, zero, suc, ◌+◌, List
 use Rattle.std.proofs.Common.{refl, sym, ap, subst, arith, append_assoc}
 use Rattle.std.specs.List.{AllByRecursion, filter, range_with_len}
 use Rattle.std.proofs.lemmas.Bool.{both_ways}
+use Rattle.fab_base.proofs.Lists.{all_along, all_always, all_append, all_map}
 use Rattle.fab_tree.specs.declared.resolved.Resolved.{Resolved}
 use Rattle.fab_tree.specs.declared.resolved.Crash.{Crash}
 use Rattle.fab_tree.specs.declared.start.Start.{Start}
@@ -16,7 +17,6 @@ use Rattle.fab_net.specs.declared.outcome.ReqOutcome.{ReqOutcome}
 use Rattle.fab_net.specs.declared.outcome.ReqOutcome.TheVariants as no
 use Rattle.fab_rights.specs.declared.rights.Rights.{Rights}
 use Rattle.fab_rights.specs.Computed.{is_worker}
-use Rattle.fab_protocol.proofs.Lists.{all_along, all_always, all_append, all_map}
 use Rattle.fab_world.specs.Crashing.{KeepsLines}
 use Rattle.fab_world.specs.Machine.{Setting, World, Move, at_start, enabled, form_by, form_of, logs, may, outcome, step}
 use Rattle.fab_world.specs.Serial.{IsOrdinary, IsRun, world_of}

@@ -11,9 +11,10 @@ use Rattle.fab_base.specs.declared.message.Message.TheVariants as m
 use Rattle.fab_base.specs.declared.object.Object.{Object}
 use Rattle.fab_base.specs.declared.object.Oid.{Oid}
 use Rattle.fab_base.specs.declared.object.Tid.{Tid}
-use Rattle.fab_base.specs.FieldSpelling.{IsTid}
+use Rattle.fab_base.specs.FieldSpelling.{IsTid, sent_version}
 use Rattle.fab_base.specs.FlatMap.{is_among, map_of}
 use Rattle.fab_base.specs.MessageSpelling.{IsBody}
+use Rattle.fab_base.proofs.Lists.{all_along, all_map, few_pass}
 use Rattle.fab_language.specs.declared.ending.Ending.{Ending}
 use Rattle.fab_language.specs.declared.ending.Ending.TheVariants as endings
 use Rattle.fab_language.specs.Meaning.{Meant}
@@ -27,7 +28,6 @@ use Rattle.fab_protocol.specs.Caches.{cached_row}
 use Rattle.fab_protocol.specs.Parts.{items_at, stores_of}
 use Rattle.fab_protocol.specs.Stores.{Prepared, Shelf, asked, does, is_own, last_of, says, silent, unheard}
 use Rattle.fab_protocol.specs.Versions.{Row, objects_of, version_of}
-use Rattle.fab_protocol.proofs.Lists.{all_along, all_map}
 use Rattle.fab_protocol.proofs.Records.{worker_below}
 use Rattle.fab_protocol.proofs.Senders.{as_many}
 use Rattle.fab_world.specs.Attempts.{parts_of}
@@ -35,12 +35,12 @@ use Rattle.fab_world.specs.Machine.{Setting, World, Does, act, front_of, hears, 
 use Rattle.fab_world.specs.Machine.{option_list, parts, ready, shelf, steps}
 use Rattle.fab_world.specs.Serial.{AreFit, IsEvaluation, IsFit, IsFitName, IsSetting}
 use Rattle.fab_world.specs.Workers as workers
-use Rattle.fab_world.specs.Workers.{Act, Attempt, Kept, Phase, asks_all, begins, ends, gives_up, is_in, kept_of, needs, request_of, resumes_at, takes, telling, tid_of}
+use Rattle.fab_world.specs.Workers.{Act, Attempt, Kept, Phase, asks_all, kept_of, needs, request_of, resumes_at, takes, telling, tid_of}
 use Rattle.fab_integrity.proofs.Awaited.{all_stores, named_store}
 use Rattle.fab_integrity.proofs.Changes.{does_changes}
 use Rattle.fab_integrity.proofs.Invariant.{In, WorkerOk, standing}
 use Rattle.fab_integrity.proofs.Lasting.{kept_behind, keeps_behind}
-use Rattle.fab_integrity.proofs.Lists.{all_of, few_pass, in_left, map_in}
+use Rattle.fab_integrity.proofs.Lists.{all_of, in_left, map_in}
 use Rattle.fab_integrity.proofs.Maps.{ascends_put_all, few_rows}
 use Rattle.fab_integrity.proofs.Readings.{spelled_so}
 use Rattle.fab_integrity.proofs.Runs.{no_classes}
@@ -326,7 +326,7 @@ module _ (S : Setting) where
 
         -- a store hears what it sends
         asks : (act : Act) (l : ℕ) (message : Message) (Fits : Message → Type 0) → IsTrue (is_store S.rights l) → In {A = ℕ × Message} (l, message) act.sends
-            → IsBody 1 message → IsShort message → Fits message → Comes S ((lands S w n act).queue n l) Fits
+            → IsBody sent_version message → IsShort message → Fits message → Comes S ((lands S w n act).queue n l) Fits
         asks act l message Fits store listed body short fits =
             let muted = lands_muted S w (i.Resume n) act can in
             let same = muted.follows.others l (λ e. not_store n l me store (sym e)) in

@@ -4,9 +4,9 @@ use Rattle.std.proofs.Common.{Option, Some, None, option_map, unwrap_or, refl, s
 use Rattle.std.specs.Prelude.{IsFalse, slice_get, find}
 use Rattle.std.specs.List.{AllByRecursion, flat_map}
 use Rattle.std.proofs.lemmas.Bool.{and_parts, eqb-true, not-true}
+use Rattle.fab_base.proofs.Lists.{left_nil, right_nil, each_nil, at_index, true_if_empty}
 use Rattle.fab_tree.specs.declared.declaration.Node.{Node}
 use Rattle.fab_tree.specs.declared.declaration.Role.{Role}
-use Rattle.fab_tree.specs.declared.declaration.Role.TheVariants as r
 use Rattle.fab_tree.specs.declared.resolved.Principal.{Principal}
 use Rattle.fab_tree.specs.declared.start.Session.{Session}
 use Rattle.fab_tree.specs.declared.start.Start.{Start}
@@ -21,6 +21,7 @@ use Rattle.fab_language.specs.Numbers.{principals_from, resolved, session_of}
 use Rattle.fab_language.specs.Roles as roles
 use Rattle.fab_language.specs.Unknown as unknown
 use Rattle.fab_language.specs.Uses.{node_number}
+use Rattle.fab_language.proofs.Named.{honest_worker_node}
 use Rattle.fab_labelling.specs.Placement.{role_of}
 use Rattle.fab_labelling.specs.Readers.{place_from}
 use Rattle.fab_places.specs.Places.{AreRights}
@@ -28,16 +29,11 @@ use Rattle.fab_rights.specs.declared.rights.Rights.{Rights}
 use Rattle.fab_rights.specs.Computed.{is_worker}
 use Rattle.fab_rights.proofs.Bits.{has_bit_exact}
 use Rattle.fab_attempts.specs.Sessions.{requests_in, requests_of}
-use Rattle.fab_shapes.proofs.Lists.{at_index, each_nil, from_two, left_nil, right_nil}
+use Rattle.fab_shapes.proofs.Lists.{from_two}
 use Rattle.fab_shapes.proofs.Named.{found}
 use Rattle.fab_settings.specs.Settings.{is_hostile_node}
-use Rattle.fab_settings.proofs.Posts.{allowed, role_at}
+use Rattle.fab_settings.proofs.Posts.{role_at}
 use Rattle.fab_ended.specs.Bundles.{HasNoHostile}
-
-honest_node : (role : Role) → is_honest_worker role ≡ true → is_node role ≡ true
-honest_node r.Principal h = h
-honest_node (r.Worker hostile) h = refl
-honest_node (r.Store hostile) h = refl
 
 module _ (s : Start) where
   -- the node of this number was declared an honest worker
@@ -54,11 +50,11 @@ module _ (s : Start) where
   is_honest : (x : Session) → unknown.in_session s x ≡ [] → roles.in_session s x ≡ [] → IsHonest x
   is_honest x e f =
       let y = found (named node_name s.program.nodes x.worker) x.worker (left_nil (unknown.in_principal s x.worker) (flat_map (unknown.in_request s) x.requests) e) in
-      let fits = allowed (is_honest_worker y.0.role) _ (subst (λ o. roles.if_of_kind is_honest_worker o x.worker ≡ []) y.1 f) in
+      let fits = true_if_empty (is_honest_worker y.0.role) _ (subst (λ o. roles.if_of_kind is_honest_worker o x.worker ≡ []) y.1 f) in
       let number : node_number s x.worker ≡ 0 + node_number s x.worker = omega arith in
       record {
         role = y.0.role;
-        declared = ap (role_of (resolved s)) number ∙ role_at 0 s.program.nodes x.worker y.0 y.1 (honest_node y.0.role fits);
+        declared = ap (role_of (resolved s)) number ∙ role_at 0 s.program.nodes x.worker y.0 y.1 (honest_worker_node y.0.role fits);
         honest = fits;
       }
 

@@ -12,10 +12,10 @@ use Rattle.fab_base.specs.declared.message.Why.TheVariants as why
 use Rattle.fab_base.specs.declared.object.Object.{Object}
 use Rattle.fab_base.specs.declared.object.Oid.{Oid}
 use Rattle.fab_base.specs.declared.object.Tid.{Tid}
-use Rattle.fab_base.specs.FieldSpelling.{AreItems, IsCreate, IsObject, IsWrite, items_bytes, object_bytes, oid_bytes}
+use Rattle.fab_base.specs.FieldSpelling.{AreItems, IsCreate, IsObject, IsWrite, items_bytes, object_bytes, oid_bytes, sent_version}
 use Rattle.fab_base.specs.MessageSpelling.{byte_limit, spelled}
+use Rattle.fab_base.proofs.Lists.{all_along}
 use Rattle.fab_wire.proofs.Lengths.{items_le}
-use Rattle.fab_protocol.proofs.Lists.{all_along}
 
 -- few enough bytes to be read
 abbrev pub IsShort : Message → Type 0
@@ -46,16 +46,16 @@ items_few items written created =
     items_le items (All-from_recursion (λ (w : Oid × ℕ × Object). length w.2.fields ≤ 16) items.writes written)
     (All-from_recursion (λ (c : Oid × Object). length c.1.fields ≤ 16) items.creates created)
 
-pub object_short : (t : Tid) (o : Oid) (version : ℕ) (x : Object) → IsObject 1 x → IsShort (m.Object t o version x)
+pub object_short : (t : Tid) (o : Oid) (version : ℕ) (x : Object) → IsObject sent_version x → IsShort (m.Object t o version x)
 object_short t o version x fits =
     let few = items_few (record { reads = []; writes = []; creates = (o, x) ∷ [] }) tt (fits.count, tt) in
     let long = length-append (oid_bytes o ++ object_bytes x) [] in
     omega (arith, few, long)
 
 -- no more than 1,024 reads, and no more than 256 objects that are written or made
-pub prepare_short : (t : Tid) (items : Items) → AreItems 1 items → length items.writes + length items.creates ≤ 256 → IsShort (m.Prepare t items)
+pub prepare_short : (t : Tid) (items : Items) → AreItems sent_version items → length items.writes + length items.creates ≤ 256 → IsShort (m.Prepare t items)
 prepare_short t items are few =
     let most = items_few items
-    (all_along (IsWrite 1) (λ (w : Oid × ℕ × Object). length w.2.fields ≤ 16) (λ w h. let x = h.object in x.count) items.writes are.writes)
-    (all_along (IsCreate 1) (λ (c : Oid × Object). length c.1.fields ≤ 16) (λ c h. let x = h.object in x.count) items.creates are.creates) in
+    (all_along (IsWrite sent_version) (λ (w : Oid × ℕ × Object). length w.2.fields ≤ 16) (λ w h. let x = h.object in x.count) items.writes are.writes)
+    (all_along (IsCreate sent_version) (λ (c : Oid × Object). length c.1.fields ≤ 16) (λ c h. let x = h.object in x.count) items.creates are.creates) in
     omega (arith, most, are.reads_count, few)

@@ -5,6 +5,7 @@ use Rattle.std.specs.Prelude.{slice_get}
 use Rattle.std.specs.List.{list_all}
 use Rattle.std.proofs.lemmas.Bool.{and_parts, both_ways, eqb-true, false_from_ne_true, or_cases}
 use Rattle.std.proofs.lemmas.Option.{slice_get_past}
+use Rattle.fab_base.proofs.Lists.{all_split}
 use Rattle.fab_net.specs.declared.event.Event.{Event}
 use Rattle.fab_net.specs.declared.event.Event.TheVariants as event
 use Rattle.fab_net.specs.declared.event.Inner.{Inner}
@@ -12,7 +13,6 @@ use Rattle.fab_net.specs.declared.event.Inner.TheVariants as i
 use Rattle.fab_net.specs.declared.outcome.ReqOutcome.TheVariants.{Silent}
 use Rattle.fab_net.specs.declared.note.Commit.{Commit}
 use Rattle.fab_rights.specs.Computed.{is_node, is_store, is_worker, nodes_in}
-use Rattle.fab_protocol.proofs.Lists.{all_split}
 use Rattle.fab_world.specs.Crashing.{crashes_by, crashes_of, cut_at, events_of, if_after, is_cut_to, keeps_by, keeps_lines, line_now, may_follow}
 use Rattle.fab_world.specs.Machine.{Setting, World, Move, Form, Does, Cuts, Fails, Posts, Crashes, Never, act, at_start, enabled, form_by, form_of, is_empty, is_evaluating, is_running}
 use Rattle.fab_world.specs.Machine.{is_settled, kept, lacks, may, node_of, record_at, step, steps}

@@ -5,6 +5,7 @@ use Rattle.std.specs.List.{filter, list_all, range_with_len}
 use Rattle.std.proofs.lemmas.Bool.{and_from, cases_eq, eq-eqb, not_from_false, or_cases}
 use Rattle.fab_base.specs.declared.message.Message.{Message}
 use Rattle.fab_base.specs.MessageSpelling.{IsBody, spelled}
+use Rattle.fab_base.specs.FieldSpelling.{sent_version}
 use Rattle.fab_net.specs.declared.event.Inner.{Inner}
 use Rattle.fab_net.specs.declared.event.Inner.TheVariants as i
 use Rattle.fab_rights.specs.Computed.{is_node, is_store, is_worker, nodes_in}
@@ -106,13 +107,13 @@ module _ (S : Setting) where
 
   module _ (given : IsSetting S) where
     -- a message that can be spelled in so few bytes is read as itself
-    pub read_itself : (message : Message) → IsBody 1 message → IsShort message → S.read (spelled message) ≡ Some message
+    pub read_itself : (message : Message) → IsBody sent_version message → IsShort message → S.read (spelled message) ≡ Some message
     read_itself message body short =
         (given.read (spelled message) message).1 (record { short = short; spelled = (1, record { known = refl; body = body }, refl) })
 
     -- so it comes once it was sent to a node that is up
     pub sent_comes : (w : World) (n : ℕ) (act : Act) (b : ℕ) (message : Message) (Fits : Message → Type 0) → IsTrue (is_node S.rights b)
-        → S.hostile b ≡ false → ((mutes S w n act).node b).up ≡ true → In (b, message) act.sends → IsBody 1 message → IsShort message → Fits message
+        → S.hostile b ≡ false → ((mutes S w n act).node b).up ≡ true → In (b, message) act.sends → IsBody sent_version message → IsShort message → Fits message
         → Comes S ((lands S w n act).queue n b) Fits
     sent_comes w n act b message Fits node honest up h body short fits = record {
       bytes = spelled message;

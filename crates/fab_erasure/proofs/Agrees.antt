@@ -27,7 +27,8 @@ use Rattle.fab_laws.proofs.Shapes.{met}
 use Rattle.fab_erasure.specs.Erased as erase
 use Rattle.fab_erasure.specs.Erased.{returns_blank}
 use Rattle.fab_erasure.specs.Agreement.{Downgrading, downgrades_in, downgrades_of, IsIn, in_view, goes_into_view, downs_seen, touch_in_view, given_by, rows_shown, begins_in_view, result_seen, IsView, IsKept, IsFront, Agrees, ErasureAgrees}
-use Rattle.fab_erasure.proofs.Views.{filter_twice, split_left, get_shown, get_unshown, shown_ascends}
+use Rattle.fab_laws.proofs.Kept.{get_shown, get_unshown, shown_ascends}
+use Rattle.fab_erasure.proofs.Views.{filter_twice, split_left}
 use Rattle.fab_erasure.proofs.Near as n
 use Rattle.fab_erasure.proofs.Near.{Sight, Match, both_go, both_fail, both_miss, miss, cut, Hidden, went, fell, lost, halted}
 use Rattle.fab_erasure.proofs.Expressions.{IsLabelled}
@@ -468,7 +469,7 @@ module _ (sees shows : ℕ → Bool) (r : Resolved) (view : IsView sees shows r)
 
     plain_run : alone.Plain (sight all_given) (state_behind blank_run)
     plain_run =
-        let stays = alone.all_stay (sight all_given) labelled (λ i m e. (owing all_given i m e).placed) 64 request.method request.args in
+        let stays = alone.all_stay (sight all_given) (λ i m e. (owing all_given i m e).placed) 64 request.method request.args in
         (stays.by blank_start plain_start).plain
 
     abbrev Answer : Type 0

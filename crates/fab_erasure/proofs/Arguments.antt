@@ -18,12 +18,13 @@ use Rattle.fab_laws.specs.Shapes.{suits, AllSuit}
 use Rattle.fab_laws.proofs.Walk as w
 use Rattle.fab_laws.proofs.Walk.{on, off}
 use Rattle.fab_laws.proofs.Shapes.{Shaped, Has, Then, Lacks, Meets, kept, given_suit}
-use Rattle.fab_laws.proofs.Locality.{as_long}
+use Rattle.fab_laws.proofs.Grows.{grows_gives, grows_bind, values_grow}
 use Rattle.fab_erasure.specs.Erased as erase
 use Rattle.fab_erasure.specs.Erased.{shown_if}
 use Rattle.fab_erasure.proofs.Views.{split_left, split_right, both_seen}
+use Rattle.fab_erasure.proofs.Grows as grow
 use Rattle.fab_erasure.proofs.Near as n
-use Rattle.fab_erasure.proofs.Near.{Sight, Any, Whatever, kinds_of, Match, both_go, Hidden, went}
+use Rattle.fab_erasure.proofs.Near.{Sight, Whatever, kinds_of, Match, both_go, Hidden, went}
 use Rattle.fab_erasure.proofs.Expressions as x
 use Rattle.fab_erasure.proofs.Expressions.{IsSeenFailure, MayFail, IsLabelled, Kept, flow_seen}
 
@@ -115,9 +116,6 @@ module _ (sight : Sight) (view : IsLabelled sight.sees sight.shows sight.program
   abbrev Good : State → Type 0
   Good = n.Good sight
 
-  abbrev Grows : {A : Type 0} → M A → Type 0
-  Grows {A} = n.Grows sight {A = A}
-
   abbrev part : Expression → erase.Part
   part = erase.part sight.sees sight.shows sight.program.classes ls
 
@@ -129,22 +127,6 @@ module _ (sight : Sight) (view : IsLabelled sight.sees sight.shows sight.program
 
   abbrev blanks : List Expression → M (List Value)
   blanks = erase.values sight.sees sight.shows sight.program.classes ls
-
-  grows_gives : {A : Type 0} (a : A) → Grows (gives a)
-  grows_gives a t = as_long t t refl refl
-
-  grows_bind : {A B : Type 0} (m : M A) (g : A → M B) → Grows m → ((a : A) → Grows (g a)) → Grows (m >>= g)
-  grows_bind m g h k t = n.grows_then sight t (m t) g (h t) k
-
-  pub values_grow : (es : List Expression) → Grows (values es)
-  values_grow [] = grows_gives {A = List Value} []
-  values_grow (e ∷ es) = grows_bind (value e) (λ v. values es >>= λ vs. gives (v ∷ vs)) (known e).grows
-      (λ v. grows_bind (values es) (λ vs. gives (v ∷ vs)) (values_grow es) (λ vs. grows_gives {A = List Value} (v ∷ vs)))
-
-  pub blanks_grow : (es : List Expression) → Grows (blanks es)
-  blanks_grow [] = grows_gives {A = List Value} []
-  blanks_grow (e ∷ es) = grows_bind (part e).run (λ v. blanks es >>= λ vs. gives (v ∷ vs)) (known e).grows_too
-      (λ v. grows_bind (blanks es) (λ vs. gives (v ∷ vs)) (blanks_grow es) (λ vs. grows_gives {A = List Value} (v ∷ vs)))
 
   module _ (pc : List ℕ) (F : Option ℕ) where
     abbrev giving : List Expression → List ℕ → List ob.Owed
@@ -160,7 +142,7 @@ module _ (sight : Sight) (view : IsLabelled sight.sees sight.shows sight.program
         n.follow sight ls R Whatever S (value e s) ((part e).run t) (λ v. values es >>= λ vs. gives (v ∷ vs)) (λ v. blanks es >>= λ vs. gives (v ∷ vs)) first good
         (n.out_any sight (value e s))
         (λ v. grows_bind (values es) (λ vs. gives (v ∷ vs)) (values_grow es) (λ vs. grows_gives {A = List Value} (v ∷ vs)))
-        (λ v. grows_bind (blanks es) (λ vs. gives (v ∷ vs)) (blanks_grow es) (λ vs. grows_gives {A = List Value} (v ∷ vs)))
+        (λ v. grows_bind (blanks es) (λ vs. gives (v ∷ vs)) (grow.values_grow sight.sees sight.shows sight.program.classes ls es) (λ vs. grows_gives {A = List Value} (v ∷ vs)))
         (λ a b u v q m2 r z gd.
         n.follow sight ls Q Whatever S (values es u) (blanks es v) (λ vs. gives (a ∷ vs)) (λ vs. gives (b ∷ vs)) (rest u v m2) gd (n.out_any sight (values es u))
         (λ vs. grows_gives {A = List Value} (a ∷ vs)) (λ vs. grows_gives {A = List Value} (b ∷ vs))

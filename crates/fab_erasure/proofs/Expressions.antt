@@ -22,7 +22,7 @@ use Rattle.fab_tree.specs.declared.resolved.Form.TheOpen as f
 use Rattle.fab_tree.specs.declared.resolved.Operand.{Operand, fold-Operand, roll-Operand, fold-roll-Operand, map-Operand}
 use Rattle.fab_tree.specs.declared.resolved.Resolved.{Resolved}
 use Rattle.fab_labelling.specs.Obligations as ob
-use Rattle.fab_labelling.specs.Obligations.{Owed, flows, nowhere, Tail, all_flow, all_fail, division, label_of_local, label_of_class, class_of_sort, class_of_local}
+use Rattle.fab_labelling.specs.Obligations.{Owed, Tail, all_flow, all_fail, division, label_of_local, label_of_class, class_of_sort, class_of_local}
 use Rattle.fab_labelling.specs.declared.rule.LabelRule.{LabelRule}
 use Rattle.fab_labelling.specs.Sites.{form_sites, sites_in, all_sites}
 use Rattle.fab_language.specs.Meaning.{State, Run, goes, ends, M, and_then, gives, ◌>>=◌, local, read, access, field_of, int_of, holds, wrapped, truth, compares, operate, quotient, chained, form_step, value}
@@ -30,14 +30,14 @@ use Rattle.fab_laws.specs.Runs.{state_behind}
 use Rattle.fab_laws.specs.Kinds.{Kind, kind_of_sort}
 use Rattle.fab_laws.specs.Shapes.{suits, AllSuit, IsShaped}
 use Rattle.fab_laws.proofs.Shapes.{Shaped}
-use Rattle.fab_laws.proofs.Locality.{as_long, accesses}
+use Rattle.fab_laws.proofs.Grows.{Grows, grows_past, grows_gives, grows_bind, grows_operate, value_grows, chain_grows}
 use Rattle.fab_erasure.specs.Erased as erase
 use Rattle.fab_erasure.specs.Erased.{Part, part_of, shown_if}
 use Rattle.fab_erasure.specs.Agreement.{IsKept}
 use Rattle.fab_erasure.proofs.Views.{split_left, split_right, all_append, both_seen, none_seen}
-use Rattle.fab_erasure.proofs.Settles.{Settles, settles_gives, settles_local, settles_bind, settles_read, settles_operate, settles_part}
+use Rattle.fab_erasure.proofs.Grows as grow
 use Rattle.fab_erasure.proofs.Near as n
-use Rattle.fab_erasure.proofs.Near.{Sight, Any, Whatever, Alike, kinds_of, Match, both_go, both_fail, both_miss, miss, cut, Hidden, went, fell, lost, halted}
+use Rattle.fab_erasure.proofs.Near.{Sight, Whatever, kinds_of, Match, both_go, both_fail, both_miss, miss, cut, Hidden, went, fell}
 use Rattle.fab_erasure.proofs.Steps as steps
 
 -- the failure label is seen, if there is one
@@ -133,9 +133,6 @@ module _ (sight : Sight) (view : IsLabelled sight.sees sight.shows sight.program
   abbrev Good : State → Type 0
   Good = n.Good sight
 
-  abbrev Grows : {A : Type 0} → M A → Type 0
-  Grows {A} = n.Grows sight {A = A}
-
   abbrev IsShapedState : State → Type 0
   IsShapedState = Shaped sight.program sight.tid (kinds_of ls)
 
@@ -148,20 +145,11 @@ module _ (sight : Sight) (view : IsLabelled sight.sees sight.shows sight.program
   abbrev Same : Bool → Value → Value → Type 0
   Same b v w = b ≡ true → v ≡ w
 
-  grows_bind : {A B : Type 0} (m : M A) (g : A → M B) → Grows m → ((a : A) → Grows (g a)) → Grows (m >>= g)
-  grows_bind m g h k t = n.grows_then sight t (m t) g (h t) k
-
-  grows_gives : {A : Type 0} (a : A) → Grows (gives a)
-  grows_gives a t = as_long t t refl refl
-
   -- ---- what holds of an expression, from what it means and owes
 
   pub record Follows (m : M Value) (p : Part) (o : ob.Part) (sites : List ℕ) : Type 0 where
     pub seen_is : p.seen ≡ list_all sight.sees o.labels
     pub blank : p.seen ≡ false → (t : State) → n.Out sight (λ w. w ≡ Null) (p.run t)
-    pub grows : Grows m
-    pub grows_too : Grows p.run
-    pub settles : Settles p.run
     pub seen : (pc : List ℕ) (F : Option ℕ) → Owes (o.owes pc F) → IsSeenFailure sight.sees F → At true sites → (s t : State) → Near s t → Good (state_behind (m s))
         → Beside (Same p.seen) (m s) (p.run t)
     pub hidden : (pc : List ℕ) (F : Option ℕ) → Owes (o.owes pc F) → list_all sight.sees pc ≡ false → At false sites → (s : State) → IsShapedState s → Hides Whatever
@@ -170,9 +158,6 @@ module _ (sight : Sight) (view : IsLabelled sight.sees sight.shows sight.program
   -- the same of a run that isn't blanked yet
   pub record Raw (b : Bool) (m run : M Value) (o : ob.Part) (sites : List ℕ) : Type 0 where
     pub seen_is : b ≡ list_all sight.sees o.labels
-    pub grows : Grows m
-    pub grows_too : Grows run
-    pub settles : Settles run
     pub seen : (pc : List ℕ) (F : Option ℕ) → Owes (o.owes pc F) → IsSeenFailure sight.sees F → At true sites → (s t : State) → Near s t → Good (state_behind (m s))
         → Beside (Same b) (m s) (run t)
     pub hidden : (pc : List ℕ) (F : Option ℕ) → Owes (o.owes pc F) → list_all sight.sees pc ≡ false → At false sites → (s : State) → IsShapedState s → Hides Whatever
@@ -192,17 +177,14 @@ module _ (sight : Sight) (view : IsLabelled sight.sees sight.shows sight.program
   blanked b _ _ (both_fail u v h m) = both_fail u v h m
   blanked b _ _ (both_miss site o u v h m) = both_miss site o u v h m
   blanked b _ q (miss site o u p e g) = miss site o u (and_then p (λ v. gives (shown_if b v))) e
-      (n.fronts_on sight u (state_behind p) _ g (n.grows_past sight p (λ v. gives (shown_if b v)) (λ v. grows_gives (shown_if b v))))
+      (n.fronts_on sight u (state_behind p) _ g (grows_past p (λ v. gives (shown_if b v)) (λ v. grows_gives (shown_if b v))))
   blanked b _ q (cut stop u p g) = cut stop u (and_then p (λ v. gives (shown_if b v)))
-      (n.fronts_on sight u (state_behind p) _ g (n.grows_past sight p (λ v. gives (shown_if b v)) (λ v. grows_gives (shown_if b v))))
+      (n.fronts_on sight u (state_behind p) _ g (grows_past p (λ v. gives (shown_if b v)) (λ v. grows_gives (shown_if b v))))
 
   follows : (b : Bool) (m run : M Value) (o : ob.Part) (sites : List ℕ) → Raw b m run o sites → Follows m (part_of b run) o sites
   follows b m run o sites r = record {
     seen_is = r.seen_is;
     blank = λ e t. blanks b e (run t);
-    grows = r.grows;
-    grows_too = grows_bind run (λ v. gives (shown_if b v)) r.grows_too (λ v. grows_gives (shown_if b v));
-    settles = settles_part b run r.settles;
     seen = λ pc F k g at s t m1 good. blanked b (m s) (run t) (r.seen pc F k g at s t m1 good);
     hidden = r.hidden;
   }
@@ -214,9 +196,6 @@ module _ (sight : Sight) (view : IsLabelled sight.sees sight.shows sight.program
   constant : (v : Value) → Raw true (gives v) (gives v) (record { labels = []; owes = λ pc F. [] }) []
   constant v = record {
     seen_is = refl;
-    grows = grows_gives v;
-    grows_too = grows_gives v;
-    settles = settles_gives v;
     seen = λ pc F k g at s t m good. both_go v v s t m (λ e. refl);
     hidden = λ pc F k e at s h. went v s (here s h) tt;
   }
@@ -225,30 +204,12 @@ module _ (sight : Sight) (view : IsLabelled sight.sees sight.shows sight.program
       (record { labels = label_of_local (slice_get ls x.number); owes = λ pc F. [] }) []
   a_local x = record {
     seen_is = refl;
-    grows = λ t. as_long t t refl refl;
-    grows_too = λ t. as_long t t refl refl;
-    settles = settles_local x.number;
     seen = λ pc F k g at s t m good. both_go (unwrap_or (slice_get s.locals x.number) Null) (unwrap_or (slice_get t.locals x.number) Null) s t m
         (n.same_at sight ls s.locals t.locals x.number m.locals);
     hidden = λ pc F k e at s h. went (unwrap_or (slice_get s.locals x.number) Null) s (here s h) tt;
   }
 
   -- ---- a read
-
-  grows_read : (site field : ℕ) (v : Value) → Grows (read site field v)
-  grows_read site field (Int n) t = as_long t t refl refl
-  grows_read site field Null t = as_long t t refl refl
-  grows_read site field (Ref o) t = grows_bind (access site o) (λ x. gives (field_of field x)) (λ u. (accesses [] [] site o).grows u)
-      (λ x. grows_gives (field_of field x)) t
-
-  grows_choice : {A : Type 0} (b : Bool) (m k : M A) → Grows m → Grows k → Grows (if b then m else k)
-  grows_choice true m k g h = g
-  grows_choice false m k g h = h
-
-  grows_shown : (site field : ℕ) (v : Value) → Grows (erase.read_shown sight.sees sight.shows site field v)
-  grows_shown site field (Int n) t = as_long t t refl refl
-  grows_shown site field Null t = as_long t t refl refl
-  grows_shown site field (Ref o) t = grows_choice (sight.shows o.class) (read site field (Ref o)) (gives Null) (grows_read site field (Ref o)) (grows_gives Null) t
 
   out_of_view : (site : ℕ) (o : Oid) → sight.site_seen site ≡ false → (sight.site_seen site && sight.shows o.class) ≡ false
   out_of_view site o e = rw e refl
@@ -315,10 +276,6 @@ module _ (sight : Sight) (view : IsLabelled sight.sees sight.shows sight.program
     a_read : Raw sees_it (local x.number >>= read site field) (local x.number >>= erase.read_shown sight.sees sight.shows site field) owing (site ∷ [])
     a_read = record {
       seen_is = sym (all_append sight.sees (label_of_local (slice_get ls x.number)) (label_of_class class_behind));
-      grows = grows_bind (local x.number) (read site field) (λ t. as_long t t refl refl) (λ v. grows_read site field v);
-      grows_too = grows_bind (local x.number) (erase.read_shown sight.sees sight.shows site field) (λ t. as_long t t refl refl) (λ v. grows_shown site field v);
-      settles = settles_bind (local x.number) (erase.read_shown sight.sees sight.shows site field) (settles_local x.number)
-          (λ v. settles_read sight.sees sight.shows site field v);
       seen = λ pc F k g at s t m good.
           let l = both_seen sight.sees pc (label_of_local (slice_get ls x.number))
           (fail_seen sight.sees sight.shows sight.program x.at (pc ++ label_of_local (slice_get ls x.number)) F (reach_fails pc F k) g) in
@@ -336,9 +293,6 @@ module _ (sight : Sight) (view : IsLabelled sight.sees sight.shows sight.program
       (p.run >>= λ v. gives (g v)) o sites
   one_more m p o sites g h = record {
     seen_is = h.seen_is;
-    grows = grows_bind m (λ v. gives (g v)) h.grows (λ v. grows_gives (g v));
-    grows_too = grows_bind p.run (λ v. gives (g v)) h.grows_too (λ v. grows_gives (g v));
-    settles = settles_bind p.run (λ v. gives (g v)) h.settles (λ v. settles_gives (g v));
     seen = λ pc F k i at s t m1 good.
         n.follow sight ls (Same p.seen) Whatever (Same p.seen) (m s) (p.run t) (λ v. gives (g v)) (λ v. gives (g v)) (h.seen pc F k i at s t m1) good
         (n.out_any sight (m s)) (λ v. grows_gives (g v)) (λ v. grows_gives (g v))
@@ -348,19 +302,17 @@ module _ (sight : Sight) (view : IsLabelled sight.sees sight.shows sight.program
         (λ a u q w z. went (g a) u (here u q.shaped) tt);
   }
 
-  two_more : (m k : M Value) (p q : Part) (o r : ob.Part) (ns ks : List ℕ) (g : Value → Value → Value) → Follows m p o ns → Follows k q r ks
+  two_more : (m k : M Value) (p q : Part) (o r : ob.Part) (ns ks : List ℕ) (g : Value → Value → Value) → Grows k → Grows q.run → Follows m p o ns
+      → Follows k q r ks
       → Raw (p.seen && q.seen) (m >>= λ a. k >>= λ b. gives (g a b)) (p.run >>= λ a. q.run >>= λ b. gives (g a b))
       (record { labels = o.labels ++ r.labels; owes = λ pc F. o.owes pc F ++ r.owes pc F }) (ns ++ ks)
-  two_more m k p q o r ns ks g h i = record {
+  two_more m k p q o r ns ks g grow grow_too h i = record {
     seen_is = ap (λ b. b && q.seen) h.seen_is ∙ ap (λ b. list_all sight.sees o.labels && b) i.seen_is ∙ sym (all_append sight.sees o.labels r.labels);
-    grows = grows_bind m (λ a. k >>= λ b. gives (g a b)) h.grows (λ a. grows_bind k (λ b. gives (g a b)) i.grows (λ b. grows_gives (g a b)));
-    grows_too = grows_bind p.run (λ a. q.run >>= λ b. gives (g a b)) h.grows_too (λ a. grows_bind q.run (λ b. gives (g a b)) i.grows_too (λ b. grows_gives (g a b)));
-    settles = settles_bind p.run (λ a. q.run >>= λ b. gives (g a b)) h.settles (λ a. settles_bind q.run (λ b. gives (g a b)) i.settles (λ b. settles_gives (g a b)));
     seen = λ pc F c j at s t m1 good.
         n.follow sight ls (Same p.seen) Whatever (Same (p.seen && q.seen)) (m s) (p.run t) (λ a. k >>= λ b. gives (g a b)) (λ a. q.run >>= λ b. gives (g a b))
         (h.seen pc F (split_left _ (o.owes pc F) (r.owes pc F) c) j (split_left _ ns ks at) s t m1) good (n.out_any sight (m s))
-        (λ a. grows_bind k (λ b. gives (g a b)) i.grows (λ b. grows_gives (g a b)))
-        (λ a. grows_bind q.run (λ b. gives (g a b)) i.grows_too (λ b. grows_gives (g a b)))
+        (λ a. grows_bind k (λ b. gives (g a b)) grow (λ b. grows_gives (g a b)))
+        (λ a. grows_bind q.run (λ b. gives (g a b)) grow_too (λ b. grows_gives (g a b)))
         (λ a1 a2 u v z m2 x w gd.
         n.follow sight ls (Same q.seen) Whatever (Same (p.seen && q.seen)) (k u) (q.run v) (λ b. gives (g a1 b)) (λ b. gives (g a2 b))
         (i.seen pc F (split_right _ (o.owes pc F) (r.owes pc F) c) j (split_right _ ns ks at) u v m2) gd (n.out_any sight (k u)) (λ b. grows_gives (g a1 b))
@@ -375,18 +327,6 @@ module _ (sight : Sight) (view : IsLabelled sight.sees sight.shows sight.program
   }
 
   -- ---- operators
-
-  grows_quotient : (q : Option ℤ) → Grows (quotient q)
-  grows_quotient None t = as_long t t refl refl
-  grows_quotient (Some k) t = as_long t t refl refl
-
-  grows_operate : (o : Operator) (a b : Value) → Grows (operate o a b)
-  grows_operate Or a b t = as_long t t refl refl
-  grows_operate And a b t = as_long t t refl refl
-  grows_operate Add a b t = as_long t t refl refl
-  grows_operate Subtract a b t = as_long t t refl refl
-  grows_operate Multiply a b t = as_long t t refl refl
-  grows_operate Divide a b t = grows_quotient (java_quotient (int_of a) (int_of b)) t
 
   quotients : (b : Bool) (i j k : ℤ) (s t : State) → Near s t → (b ≡ true → i ≡ j) → Beside (Same b) (quotient (java_quotient i k) s) (quotient (java_quotient j k) t)
   quotients b i j (pos zero) s t m e = both_fail s t m.heap m.trace
@@ -512,20 +452,8 @@ module _ (sight : Sight) (view : IsLabelled sight.sees sight.shows sight.program
       ap (λ b. b && all_seen ks) k.1.part.seen_is ∙ ap (λ b. list_all sight.sees (operand_owed k.0).part.labels && b) (labels_seen ks)
       ∙ sym (all_append sight.sees (operand_owed k.0).part.labels (flat_map (λ (u : Tail). u.part.labels) (tails_of ks)))
 
-  chain_grows : (ks : List KnownOperand) (v : Value) → Grows (chained operate (values_of ks) v)
-  chain_grows [] v = grows_gives v
-  chain_grows (k ∷ ks) v = grows_bind (operand_value k.0).1 _ k.1.part.grows
-      (λ w. grows_bind (operate (operand_value k.0).0 v w) _ (grows_operate (operand_value k.0).0 v w) (λ u. chain_grows ks u))
-
-  chain_grows_too : (ks : List KnownOperand) (v : Value) → Grows (chained operate (runs_of ks) v)
-  chain_grows_too [] v = grows_gives v
-  chain_grows_too (k ∷ ks) v = grows_bind (operand_part k.0).1.run _ k.1.part.grows_too
-      (λ w. grows_bind (operate (operand_part k.0).0 v w) _ (grows_operate (operand_part k.0).0 v w) (λ u. chain_grows_too ks u))
-
-  chain_settles : (ks : List KnownOperand) (v : Value) → Settles (chained operate (runs_of ks) v)
-  chain_settles [] v = settles_gives v
-  chain_settles (k ∷ ks) v = settles_bind (operand_part k.0).1.run _ k.1.part.settles
-      (λ w. settles_bind (operate (operand_part k.0).0 v w) _ (settles_operate (operand_part k.0).0 v w) (λ u. chain_settles ks u))
+  chain_grows_too : (us : List Operand) (v : Value) → Grows (chained operate (map (λ (u : Operator × Part). (u.0, u.1.run)) (map operand_part us)) v)
+  chain_grows_too = grow.chain_grows sight.sees sight.shows sight.program.classes ls
 
   and_same : (a b c : Bool) → (a && (b && c)) ≡ ((a && b) && c)
   and_same true b c = refl
@@ -564,14 +492,14 @@ module _ (sight : Sight) (view : IsLabelled sight.sees sight.shows sight.program
         n.follow sight ls (Same p.seen) Whatever (Same (b && all_seen (k ∷ ks))) ((operand_value k.0).1 s) (p.run t)
         (λ y. operate o v y >>= chained operate (values_of ks)) (λ z. operate (operand_part k.0).0 w z >>= chained operate (runs_of ks))
         (k.1.part.seen pc F kept.0 g (split_left _ (sites_in_operand k.0) (sites_of_all ks) at) s t m) good (n.out_any sight ((operand_value k.0).1 s))
-        (λ y. grows_bind (operate o v y) (chained operate (values_of ks)) (grows_operate o v y) (λ x. chain_grows ks x))
-        (λ z. grows_bind (operate (operand_part k.0).0 w z) (chained operate (runs_of ks)) (grows_operate (operand_part k.0).0 w z) (λ x. chain_grows_too ks x))
+        (λ y. grows_bind (operate o v y) (chained operate (values_of ks)) (grows_operate o v y) (λ x. chain_grows (bare ks) x))
+        (λ z. grows_bind (operate (operand_part k.0).0 w z) (chained operate (runs_of ks)) (grows_operate (operand_part k.0).0 w z) (λ x. chain_grows_too (bare ks) x))
         (λ y z s1 t1 q m1 r x gd.
         n.follow sight ls (Same (b && p.seen)) Whatever (Same (b && all_seen (k ∷ ks))) (operate o v y s1) (operate (operand_part k.0).0 w z t1)
         (chained operate (values_of ks)) (chained operate (runs_of ks))
         (λ gd1. subst (λ op. Beside (Same (b && p.seen)) (operate o v y s1) (operate op w z t1)) (sym k.1.same)
         (operates u pc F o k.1.same_tail kept.1.0 g b p.seen k.1.part.seen_is v w y z s1 t1 m1 h r))
-        gd (n.out_any sight (operate o v y s1)) (λ x2. chain_grows ks x2) (λ x2. chain_grows_too ks x2)
+        gd (n.out_any sight (operate o v y s1)) (λ x2. chain_grows (bare ks) x2) (λ x2. chain_grows_too (bare ks) x2)
         (λ a1 a2 s2 t2 q2 m2 r2 x2 gd2. subst (λ d. Beside (Same d) (chained operate (values_of ks) a1 s2) (chained operate (runs_of ks) a2 t2))
         (sym (and_same b p.seen (all_seen ks)))
         (chain_seen ks kept.1.1 g (split_right _ (sites_in_operand k.0) (sites_of_all ks) at) (b && p.seen) a1 a2 r2 s2 t2 m2 gd2)))
@@ -595,14 +523,11 @@ module _ (sight : Sight) (view : IsLabelled sight.sees sight.shows sight.program
   a_chain k ks = record {
     seen_is = ap (λ b. b && all_seen ks) k.1.seen_is ∙ ap (λ b. list_all sight.sees (owed_by k.0).labels && b) (labels_seen ks) ∙ sym
         (all_append sight.sees (owed_by k.0).labels (flat_map (λ (u : Tail). u.part.labels) (tails_of ks)));
-    grows = grows_bind (value k.0) (chained operate (values_of ks)) k.1.grows (λ v. chain_grows ks v);
-    grows_too = grows_bind (part k.0).run (chained operate (runs_of ks)) k.1.grows_too (λ v. chain_grows_too ks v);
-    settles = settles_bind (part k.0).run (chained operate (runs_of ks)) k.1.settles (λ v. chain_settles ks v);
     seen = λ pc F c g at s t m good.
         n.follow sight ls (Same (part k.0).seen) Whatever (Same ((part k.0).seen && all_seen ks)) (value k.0 s) ((part k.0).run t) (chained operate (values_of ks))
         (chained operate (runs_of ks))
         (k.1.seen pc F (split_left _ ((owed_by k.0).owes pc F) (tails_owe pc F ks) c) g (split_left _ (sites_in k.0) (sites_of_all ks) at) s t m) good
-        (n.out_any sight (value k.0 s)) (λ v. chain_grows ks v) (λ v. chain_grows_too ks v)
+        (n.out_any sight (value k.0 s)) (λ v. chain_grows (bare ks) v) (λ v. chain_grows_too (bare ks) v)
         (λ v w u u2 q m2 r x gd. chain_seen pc F ks (split_right _ ((owed_by k.0).owes pc F) (tails_owe pc F ks) c) g
         (split_right _ (sites_in k.0) (sites_of_all ks) at) (part k.0).seen v w r u u2 m2 gd);
     hidden = λ pc F c e at s h.
@@ -629,7 +554,7 @@ module _ (sight : Sight) (view : IsLabelled sight.sees sight.shows sight.program
   by_form (f.Chain k others) = follows _ _ _ _ _ (a_chain k others)
   by_form (f.Compared k comparison l) =
       follows _ _ _ _ _ (two_more (value k.0) (value l.0) (part k.0) (part l.0) (owed_by k.0) (owed_by l.0) (sites_in k.0) (sites_in l.0)
-      (λ a b. truth (compares comparison a b)) k.1 l.1)
+      (λ a b. truth (compares comparison a b)) (value_grows l.0) (grow.value_grows sight.sees sight.shows sight.program.classes ls l.0) k.1 l.1)
 
   pub expressions : (e : Expression) → Follows (value e) (part e) (owed_by e) (sites_in e)
   expressions = ind-Expression (λ x. Follows (form_value x) (form_part x) (form_owed x) (sites_in_form x)) (λ x. Follows (value x) (part x) (owed_by x) (sites_in x))

@@ -1,4 +1,6 @@
 pub mod AllSeen
+pub mod Everywhere
+pub mod Grows
 pub mod Places
 pub mod Views
 pub mod Near

@@ -15,22 +15,23 @@ use Rattle.fab_labelling.specs.Obligations as ob
 use Rattle.fab_labelling.specs.Obligations.{Owed, all_flow, label_of_returns, parameter_labels, failure_of, authority_of, method_owes}
 use Rattle.fab_labelling.specs.declared.rule.LabelRule.TheVariants.{Write}
 use Rattle.fab_labelling.specs.Sites.{all_under, sites_in, method_sites, return_sites, block_sites}
-use Rattle.fab_language.specs.Meaning.{State, stopped, Run, goes, ends, M, gives, ◌>>=◌, value, block, returned, body_of, back_with, entered, called, locals_at_start}
+use Rattle.fab_language.specs.Meaning.{State, stopped, Run, goes, ends, M, gives, value, block, returned, body_of, back_with, entered, called, locals_at_start}
 use Rattle.fab_laws.specs.Runs.{state_behind}
 use Rattle.fab_laws.specs.Kinds.{Kind, nothing, takes, parameter_kinds, returns_kind, returned_kind, block_claims, method_claims}
 use Rattle.fab_laws.specs.Shapes.{suits, AllSuit}
 use Rattle.fab_laws.proofs.Walk as w
 use Rattle.fab_laws.proofs.Shapes.{Shaped, Has, Then, Lacks, Meets, kept, taken, suit_start}
-use Rattle.fab_laws.proofs.Locality.{Longer, as_long, all_calls}
+use Rattle.fab_laws.proofs.Grows.{Grows, grows_gives, returned_grows, calls_grow}
 use Rattle.fab_erasure.specs.Erased as erase
 use Rattle.fab_erasure.specs.Erased.{shown_if, returns_blank}
 use Rattle.fab_erasure.specs.Agreement.{downgrades_in}
 use Rattle.fab_erasure.proofs.Views.{split_left, split_right, both_seen}
 use Rattle.fab_erasure.proofs.Near as n
-use Rattle.fab_erasure.proofs.Near.{Sight, Any, Whatever, kinds_of, Match, both_go, both_fail, cut, Hidden, went, fell, lost, halted}
+use Rattle.fab_erasure.proofs.Near.{Sight, Any, Whatever, kinds_of, Match, both_go, cut, Hidden, went, halted}
 use Rattle.fab_erasure.proofs.Expressions as x
 use Rattle.fab_erasure.proofs.Expressions.{IsSeenFailure, MayFail, IsLabelled, Kept, flow_seen}
 use Rattle.fab_erasure.proofs.Arguments as args
+use Rattle.fab_erasure.proofs.Grows as grow
 use Rattle.fab_erasure.proofs.Arguments.{ArgsSame}
 use Rattle.fab_erasure.proofs.Rights.{Calls, ResultSame, ResultHidden}
 use Rattle.fab_erasure.proofs.Statements as blocks
@@ -48,9 +49,6 @@ module _ (sight : Sight) (view : IsLabelled sight.sees sight.shows sight.program
   abbrev Good : State → Type 0
   Good = n.Good sight
 
-  abbrev Grows : {A : Type 0} → M A → Type 0
-  Grows {A} = n.Grows sight {A = A}
-
   abbrev Call : Type 0
   Call = ℕ → List Value → M (Option Value)
 
@@ -63,12 +61,6 @@ module _ (sight : Sight) (view : IsLabelled sight.sees sight.shows sight.program
 
   abbrev Owes : List Owed → Type 0
   Owes = Kept sight.sees sight.shows sight.program
-
-  grows_gives : {A : Type 0} (a : A) → Grows (gives a)
-  grows_gives a t = as_long t t refl refl
-
-  grows_bind : {A B : Type 0} (m : M A) (g : A → M B) → Grows m → ((a : A) → Grows (g a)) → Grows (m >>= g)
-  grows_bind m g h k t = n.grows_then sight t (m t) g (h t) k
 
   -- what a method owes
   pub record MethodOwing (m : Method) : Type 0 where
@@ -160,15 +152,6 @@ module _ (sight : Sight) (view : IsLabelled sight.sees sight.shows sight.program
       | false ↦ λ e. refl
     ] refl
 
-    grows_returned : (result : Option Return) → Grows (returned result)
-    grows_returned None = grows_gives {A = Option Value} None
-    grows_returned (Some r) = grows_bind (value r.value) (λ v. gives (Some v)) (known r.value).grows (λ v. grows_gives (Some v))
-
-    grows_blank : (result : Option Return) → Grows (blank_returned result)
-    grows_blank None = grows_gives {A = Option Value} None
-    grows_blank (Some r) = grows_bind (part r.value).run (λ v. gives (Some (shown_if (erase.sees_result sight.sees sight.shows m.returns) v))) (known r.value).grows_too
-        (λ v. grows_gives (Some (shown_if (erase.sees_result sight.sees sight.shows m.returns) v)))
-
     return_seen : (result : Option Return) → Owes (return_owes m.returns result) → AllByRecursion (λ k. sight.site_seen k ≡ true) (return_sites result) → takes
         (returns_kind m.returns) (returned_kind sight.program.classes sight.program.methods (kinds_of ls) result) ≡ true → IsSeenFailure sight.sees F
         → (s t : State) → Near ls s t → Good (state_behind (returned result s)) → Beside ls (ResultSame sight view m) (returned result s) (blank_returned result t)
@@ -233,15 +216,12 @@ module _ (sight : Sight) (view : IsLabelled sight.sees sight.shows sight.program
     abbrev blank_of_body : M (Option Value)
     blank_of_body = erase.body_of sight.sees sight.shows sight.program.classes sight.tid blank m
 
-    grows_of_body : Grows blank_of_body
-    grows_of_body t = n.grows_then sight t (blank_body t) (λ _. blank_returned m.result) (stands.grows_too t) (λ _. grows_blank m.result)
-
     body_seen : sight.sees m.begin.number ≡ true → (s t : State) → Near ls s t → Good (state_behind (body_of sight.tid call m s)) → Beside ls (ResultSame sight view m)
         (body_of sight.tid call m s) (blank_of_body t)
     body_seen e s t near good =
         n.follow sight ls Any Whatever (ResultSame sight view m) (run_body s) (blank_body t) (λ _. returned m.result) (λ _. blank_returned m.result)
-        (stands.seen pc F block_owing (failure_seen e) (pc_is true e) s t near) good (n.out_any sight (run_body s)) (λ _. grows_returned m.result)
-        (λ _. grows_blank m.result)
+        (stands.seen pc F block_owing (failure_seen e) (pc_is true e) s t near) good (n.out_any sight (run_body s)) (λ _. returned_grows m.result)
+        (λ _. grow.returned_grows sight.sees sight.shows sight.program.classes ls m.returns m.result)
         (λ a b u v q near2 r y gd. return_seen m.result return_kept (placed_at true pc (return_sites m.result) (pc_is true e) return_placed) owing.met.0
         (failure_seen e) u v near2 gd)
 
@@ -261,11 +241,6 @@ module _ (sight : Sight) (view : IsLabelled sight.sees sight.shows sight.program
     good_back vs (goes a u) g = g
     good_back vs (ends e u) g = g
 
-    back_longer : (t : State) (vs : List Value) (r : Run (Option Value)) → Longer (record t { locals = vs }) (state_behind r) → Longer t
-        (state_behind (back_with t.locals r))
-    back_longer t vs (goes a u) l = record { touches = l.touches; downs = l.downs }
-    back_longer t vs (ends e u) l = record { touches = l.touches; downs = l.downs }
-
     abbrev inner : List Value → State → State
     inner vs s = record s { locals = locals_at_start m vs }
 
@@ -275,9 +250,6 @@ module _ (sight : Sight) (view : IsLabelled sight.sees sight.shows sight.program
     start_shaped : (outer : List Local) (vs : List Value) (s : State) → Shaped sight.program sight.tid (kinds_of outer) s → AllSuit (parameter_kinds (Some m)) vs
         → Shaped sight.program sight.tid (kinds_of ls) (inner vs s)
     start_shaped outer vs s h fit = record { locals = suit_start m.parameters m.locals vs fit; rows = h.rows }
-
-    pub enter_grows : (us : List Value) → Grows (erase.entered sight.sees sight.shows sight.program.classes sight.tid blank (Some m) us)
-    enter_grows us t = back_longer t (erase.locals_at_start sight.sees sight.shows m us) (blank_of_body (blank_inner us t)) (grows_of_body (blank_inner us t))
 
     pub enter_seen : (outer : List Local) → sight.sees m.begin.number ≡ true → (vs us : List Value) (s t : State) → Near outer s t → AllSuit (parameter_kinds (Some m))
         vs → ArgsSame sight.sees (parameter_labels m) vs us → Good (state_behind (entered sight.tid call (Some m) vs s))
@@ -312,13 +284,6 @@ module _ (sight : Sight) (view : IsLabelled sight.sees sight.shows sight.program
     typed_call depth = w.all_calls sight.program sight.tid (Shaped sight.program sight.tid) (Has sight.program sight.tid) (Then sight.program sight.tid)
         (Lacks sight.program sight.tid) (Meets sight.program sight.tid) (kept sight.program sight.tid) (λ i m e. (owing i m e).met) depth
 
-    skip_grows : (m : Option Method) (k : M (Option Value)) → Grows k → Grows (erase.unless_skipped sight.sees sight.shows m k)
-    skip_grows m k g = by (erase.skips sight.sees sight.shows m)
-      where
-        by : (b : Bool) → Grows (if b then gives (erase.blank_result sight.sees sight.shows m) else k)
-        by true = grows_gives (erase.blank_result sight.sees sight.shows m)
-        by false = g
-
     skipped : (m : Method) (k : M (Option Value)) (t : State) → sight.sees m.begin.number ≡ false → erase.unless_skipped sight.sees sight.shows (Some m) k t ≡ goes
         (returns_blank m.returns) t
     skipped m k t e = rw e refl
@@ -330,32 +295,25 @@ module _ (sight : Sight) (view : IsLabelled sight.sees sight.shows sight.program
         (ends (stopped Depth) s) (k t)
     too_deep outer R s t k g near = cut Depth s (k t) (n.fronts_on sight s t (state_behind (k t)) (n.fronts_at sight s t near.trace) (g t))
 
-    entered_grows : (call blank : Call) → Followed call blank → IsTyped call → (m : Option Method) (i : ℕ) → slice_get sight.program.methods i ≡ m → (us : List Value)
-        → Grows (erase.entered sight.sees sight.shows sight.program.classes sight.tid blank m us)
-    entered_grows call blank calls typed None i e us = λ t. as_long t t refl refl
-    entered_grows call blank calls typed (Some m) i e us = enter_grows call blank calls typed m (owing i m e) us
-
     pub all_followed : (depth : ℕ) → Followed (whole_call depth) (blank_call depth)
     all_followed zero = record {
-      grows = λ i vs t. (all_calls [] [] sight.program sight.tid zero i vs).grows t;
-      grows_too = λ i us. skip_grows (slice_get sight.program.methods i) (ends (stopped Depth)) (λ t. as_long t t refl refl);
+      grows = calls_grow sight.program sight.tid zero;
+      grows_too = grow.calls_grow sight.sees sight.shows sight.program sight.tid zero;
       seen = λ outer i m e b vs us s t near fit same good. too_deep outer (ResultSame sight view m) s t (blank_call zero i us)
-          (skip_grows (slice_get sight.program.methods i) (ends (stopped Depth)) (λ t. as_long t t refl refl)) near;
+          (grow.calls_grow sight.sees sight.shows sight.program sight.tid zero i us) near;
       hidden = λ outer i m e b vs s h fit. halted Depth s (n.trace_kept sight s);
       skipped = λ i m e b us t. subst (λ z. erase.unless_skipped sight.sees sight.shows z (ends (stopped Depth)) t ≡ goes (returns_blank m.returns) t) (sym e)
           (skipped m (ends (stopped Depth)) t b);
       none_seen = λ outer i e vs us s t near. too_deep outer (λ a b. (a ≡ None) × (b ≡ None)) s t (blank_call zero i us)
-          (skip_grows (slice_get sight.program.methods i) (ends (stopped Depth)) (λ t. as_long t t refl refl)) near;
+          (grow.calls_grow sight.sees sight.shows sight.program sight.tid zero i us) near;
       none_hidden = λ outer i e vs s h. halted Depth s (n.trace_kept sight s);
     }
     all_followed (suc depth) =
         let calls = all_followed depth in
         let typed = typed_call depth in
         record {
-          grows = λ i vs t. (all_calls [] [] sight.program sight.tid (suc depth) i vs).grows t;
-          grows_too = λ i us. skip_grows (slice_get sight.program.methods i)
-              (erase.entered sight.sees sight.shows sight.program.classes sight.tid (blank_call depth) (slice_get sight.program.methods i) us)
-              (entered_grows (whole_call depth) (blank_call depth) calls typed (slice_get sight.program.methods i) i refl us);
+          grows = calls_grow sight.program sight.tid (suc depth);
+          grows_too = grow.calls_grow sight.sees sight.shows sight.program sight.tid (suc depth);
           seen = λ outer i m e b vs us s t near fit same good.
               subst (λ z. Good (state_behind (entered sight.tid (whole_call depth) z vs s)) → Beside outer (ResultSame sight view m)
               (entered sight.tid (whole_call depth) z vs s) (erase.unless_skipped sight.sees sight.shows z

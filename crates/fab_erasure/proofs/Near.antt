@@ -20,7 +20,7 @@ use Rattle.fab_laws.specs.Runs.{state_behind}
 use Rattle.fab_laws.specs.Kinds.{Kind, kind_of_sort}
 use Rattle.fab_laws.specs.Shapes.{AllSuit}
 use Rattle.fab_laws.proofs.Shapes.{Shaped}
-use Rattle.fab_laws.proofs.Locality.{Longer, longer, as_long}
+use Rattle.fab_laws.proofs.Grows.{Longer, Grows, grows_past, after_longer}
 use Rattle.fab_erasure.specs.Agreement.{IsFront}
 use Rattle.fab_erasure.proofs.Views.{filter_twice, filter_within}
 
@@ -316,18 +316,6 @@ module _ (sight : Sight) where
     lost : (site : ℕ) (o : Oid) (u : State) → touch_seen (site, o) ≡ false → TraceQuiet s u → Hidden ls P may s (ends (missing site o) u)
     halted : (stop : Stop) (u : State) → TraceQuiet s u → Hidden ls P may s (ends (stopped stop) u)
 
-  -- what grows: touches and downgraded values
-  abbrev pub Grows : {A : Type 0} → M A → Type 0
-  Grows m = (t : State) → Longer t (state_behind (m t))
-
-  pub grows_then : {A B : Type 0} (t : State) (r : Run A) (g : A → M B) → Longer t (state_behind r) → ((a : A) → Grows (g a)) → Longer t (state_behind (and_then r g))
-  grows_then t (goes a u) g l k = longer t u (state_behind (g a u)) l (k a u)
-  grows_then t (ends e u) g l k = l
-
-  pub grows_past : {A B : Type 0} (r : Run A) (g : A → M B) → ((a : A) → Grows (g a)) → Longer (state_behind r) (state_behind (and_then r g))
-  grows_past (goes a u) g k = k a u
-  grows_past (ends e u) g k = as_long u u refl refl
-
   -- what is known of a value that comes out
   abbrev pub Out : {A : Type 0} → (A → Type 0) → Run A → Type 0
   Out P (goes a u) = P a
@@ -395,15 +383,6 @@ module _ (sight : Sight) where
   hidden_more ls P Q may mays s _ f g (halted stop u q) = halted stop u q
 
   -- ---- atomic blocks and calls put back
-
-  after_longer : (t : State) (r : Run (Unit {0})) (other : M (Unit {0})) → Grows other → Longer (state_behind r) (state_behind (or_else t r other))
-  after_longer t (goes u q) other k = as_long q q refl refl
-  after_longer t (ends failed q) other k = let l = k (record q { locals = t.locals; heap = t.heap }) in record { touches = l.touches; downs = l.downs }
-  after_longer t (ends (stopped stop) q) other k = as_long q q refl refl
-  after_longer t (ends (missing site o) q) other k = as_long q q refl refl
-
-  pub grows_else : (t : State) (r : Run (Unit {0})) (other : M (Unit {0})) → Longer t (state_behind r) → Grows other → Longer t (state_behind (or_else t r other))
-  grows_else t r other l k = longer t (state_behind r) (state_behind (or_else t r other)) l (after_longer t r other k)
 
   put_back : (ls : List Local) (s t u v : State) → Near ls s t → TraceNear u v → Near ls (record u { locals = s.locals; heap = s.heap })
       (record v { locals = t.locals; heap = t.heap })

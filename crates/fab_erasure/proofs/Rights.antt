@@ -1,5 +1,5 @@
 -- Calls and what is assigned, at a place that is seen and at a hidden one.
-use Rattle.std.proofs.Common.{◌≡◌, ℕ, List, [], ◌∷◌, ◌++◌, Option, Some, None, Bool, true, false, ◌&&◌, ◌||◌, if◌then◌else◌, map, refl, sym, ap, ◌∙◌, subst, true≢false, append-nil}
+use Rattle.std.proofs.Common.{◌≡◌, ℕ, List, [], ◌∷◌, ◌++◌, Option, Some, None, Bool, true, false, ◌&&◌, ◌||◌, if◌then◌else◌, map, refl, sym, ap, ◌∙◌, subst, true≢false}
 use Rattle.std.specs.Prelude.{slice_get, unwrap_or}
 use Rattle.std.specs.List.{list_all, flat_map, AllByRecursion}
 use Rattle.std.proofs.lemmas.Bool.{and_parts}
@@ -26,17 +26,18 @@ use Rattle.fab_laws.specs.Runs.{state_behind}
 use Rattle.fab_laws.specs.Kinds.{Kind, parameter_kinds, class_kinds, all_given, right_claims}
 use Rattle.fab_laws.specs.Shapes.{AllSuit}
 use Rattle.fab_laws.proofs.Shapes.{Shaped, Meets}
-use Rattle.fab_laws.proofs.Locality.{Longer, as_long}
+use Rattle.fab_laws.proofs.Grows.{Grows, grows_gives, grows_bind, grows_create, grows_noted}
 use Rattle.fab_erasure.specs.Erased as erase
 use Rattle.fab_erasure.specs.Erased.{shown_if, taken, returns_blank}
 use Rattle.fab_erasure.specs.Agreement.{Downgrading, downgrades_in_right, result_seen}
 use Rattle.fab_erasure.proofs.Views.{split_left, split_right}
 use Rattle.fab_erasure.proofs.Near as n
-use Rattle.fab_erasure.proofs.Near.{Sight, Turns, Any, Whatever, Alike, kinds_of, Match, both_go, both_fail, Hidden, went}
+use Rattle.fab_erasure.proofs.Near.{Sight, Turns, Any, Whatever, Alike, kinds_of, Match, both_go, Hidden, went}
 use Rattle.fab_erasure.proofs.Steps as steps
 use Rattle.fab_erasure.proofs.Expressions as x
 use Rattle.fab_erasure.proofs.Expressions.{IsSeenFailure, MayFail, IsLabelled, Kept, flow_seen, flow_hidden, fail_seen, fail_hidden}
 use Rattle.fab_erasure.proofs.Arguments as args
+use Rattle.fab_erasure.proofs.Grows as grow
 use Rattle.fab_erasure.proofs.Arguments.{ArgsSame, all_same}
 
 module _ (sight : Sight) (view : IsLabelled sight.sees sight.shows sight.program) where
@@ -51,9 +52,6 @@ module _ (sight : Sight) (view : IsLabelled sight.sees sight.shows sight.program
 
   abbrev Good : State → Type 0
   Good = n.Good sight
-
-  abbrev Grows : {A : Type 0} → M A → Type 0
-  Grows {A} = n.Grows sight {A = A}
 
   abbrev Call : Type 0
   Call = ℕ → List Value → M (Option Value)
@@ -109,12 +107,6 @@ module _ (sight : Sight) (view : IsLabelled sight.sees sight.shows sight.program
 
     abbrev returned : Option Method → List ℕ
     returned = ob.returned sight.program.classes sight.program.methods ls authority
-
-    grows_gives : {A : Type 0} (a : A) → Grows (gives a)
-    grows_gives a t = as_long t t refl refl
-
-    grows_bind : {A B : Type 0} (m : M A) (g : A → M B) → Grows m → ((a : A) → Grows (g a)) → Grows (m >>= g)
-    grows_bind m g h k t = n.grows_then sight t (m t) g (h t) k
 
     -- ---- one call
 
@@ -279,28 +271,7 @@ module _ (sight : Sight) (view : IsLabelled sight.sees sight.shows sight.program
         (steps.make_hidden sight ls may o (new o vs) s h hide (record { class = refl; fields = fit }) at) (n.out_any sight (settled (created o (new o vs) s.heap) s))
         (λ z u q y x2. went (Ref o) u (n.quiet_here sight ls u q.shaped) tt)
 
-    grows_create : (store class site : ℕ) (vs : List Value) → Grows (create sight.tid store class site vs)
-    grows_create store class site vs t =
-        let o = next_name sight.tid store class site t.heap in
-        n.grows_then sight t (settled (created o (new o vs) t.heap) t) (λ z. gives (Ref o)) (steps.settled_longer sight (created o (new o vs) t.heap) t)
-        (λ z. grows_gives (Ref o))
-
     -- ---- downgrades
-
-    pub grows_noted : (site : ℕ) (v : Value) → Grows (noted_down site v)
-    grows_noted site v t = record { touches = ([], sym (append-nil t.touches)); downs = ((site, v) ∷ [], refl) }
-
-    grows_taken : (b : Value) (vs : List Value) (t : State) → Longer t (state_behind (taken b vs t))
-    grows_taken b [] t = as_long t t refl refl
-    grows_taken b (v ∷ vs) t = as_long t (record t { given = vs }) refl refl
-
-    grows_downgraded : (b : Value) (from to : ℕ) (v : Value) → Grows (erase.downgraded sight.sees sight.shows sight.program.classes ls b from to v)
-    grows_downgraded b from to v t = by (sight.sees from) (sight.sees to)
-      where
-        by : (c d : Bool) → Longer t (state_behind ((if c then gives v else (if d then erase.take_given b else gives Null)) t))
-        by true d = as_long t t refl refl
-        by false true = grows_taken b t.given t
-        by false false = as_long t t refl refl
 
     abbrev IsTurned : Downgrading → Type 0
     IsTurned = Turns sight
@@ -327,26 +298,6 @@ module _ (sight : Sight) (view : IsLabelled sight.sees sight.shows sight.program
 
     abbrev blank_right : Value → Right → M Value
     blank_right = erase.right sight.sees sight.shows sight.program.classes ls sight.tid blank
-
-    pub right_grows : (r : Right) → Grows (right sight.tid call r)
-    right_grows (rights.Plain e) = (known e).grows
-    right_grows (rights.Call m es) = grows_bind (values es) (λ vs. call m.number vs >>= λ z. gives (unwrap_or z Null)) (args.values_grow sight view ls es)
-        (λ vs. grows_bind (call m.number vs) (λ z. gives (unwrap_or z Null)) (calls.grows m.number vs) (λ z. grows_gives (unwrap_or z Null)))
-    right_grows (rights.New class store es site at) = grows_bind (values es) (create sight.tid store.number class.number site) (args.values_grow sight view ls es)
-        (λ vs. grows_create store.number class.number site vs)
-    right_grows (rights.Downgrade d e from to site at) = grows_bind (value e) (noted_down site) (known e).grows (λ v. grows_noted site v)
-
-    pub blank_grows : (b : Value) (r : Right) → Grows (blank_right b r)
-    blank_grows b (rights.Plain e) = (known e).grows_too
-    blank_grows b (rights.Call m es) = grows_bind (blanks es) (λ vs. blank m.number vs >>= λ z. gives (unwrap_or z Null)) (args.blanks_grow sight view ls es)
-        (λ vs. grows_bind (blank m.number vs) (λ z. gives (unwrap_or z Null)) (calls.grows_too m.number vs) (λ z. grows_gives (unwrap_or z Null)))
-    blank_grows b (rights.New class store es site at) = grows_bind (blanks es)
-        (λ vs. create sight.tid store.number class.number site (erase.fields_shown sight.sees sight.shows class.number vs)) (args.blanks_grow sight view ls es)
-        (λ vs. grows_create store.number class.number site (erase.fields_shown sight.sees sight.shows class.number vs))
-    blank_grows b (rights.Downgrade d e from to site at) =
-        grows_bind (part e).run (λ v. erase.downgraded sight.sees sight.shows sight.program.classes ls b from.number to.number v >>= noted_down site)
-        (known e).grows_too (λ v. grows_bind (erase.downgraded sight.sees sight.shows sight.program.classes ls b from.number to.number v) (noted_down site)
-        (grows_downgraded b from.number to.number v) (λ w. grows_noted site w))
 
     abbrev Rights : Right → Value → Value → Type 0
     Rights r v w = list_all sight.sees (right_labels r) ≡ true → v ≡ w
@@ -382,8 +333,8 @@ module _ (sight : Sight) (view : IsLabelled sight.sees sight.shows sight.program
         (λ us. create sight.tid store.number class.number site (erase.fields_shown sight.sees sight.shows class.number us))
         (args.values_seen sight view ls pc F es (new_labels (slice_get sight.program.classes class.number) es)
         (new_kept pc F place es (slice_get sight.program.classes class.number) c.1) g at.1 s t m) good (args.out_values sight.program sight.tid ls es s m.shaped)
-        (λ vs. grows_create store.number class.number site vs)
-        (λ us. grows_create store.number class.number site (erase.fields_shown sight.sees sight.shows class.number us))
+        (λ vs. grows_create sight.tid store.number class.number site vs)
+        (λ us. grows_create sight.tid store.number class.number site (erase.fields_shown sight.sees sight.shows class.number us))
         (λ vs us u v q m2 same given gd.
         n.match_more sight ls Alike (Rights (rights.New class store es site place)) (create sight.tid store.number class.number site vs u)
         (create sight.tid store.number class.number site (erase.fields_shown sight.sees sight.shows class.number us) v) (λ y z r k. r)
@@ -395,7 +346,7 @@ module _ (sight : Sight) (view : IsLabelled sight.sees sight.shows sight.program
         (noted_down site) (λ w. erase.downgraded sight.sees sight.shows sight.program.classes ls b from.number to.number w >>= noted_down site)
         ((known e).seen pc F (down_value d e from.number to.number place pc F c) g at.1 s t m) good (n.out_any sight (value e s)) (λ v. grows_noted site v)
         (λ w. grows_bind (erase.downgraded sight.sees sight.shows sight.program.classes ls b from.number to.number w) (noted_down site)
-        (grows_downgraded b from.number to.number w) (λ z. grows_noted site z))
+        (grow.grows_downgraded sight.sees sight.shows sight.program.classes ls b from.number to.number w) (λ z. grows_noted site z))
         (λ v w u u2 q m2 r z gd.
         n.match_more sight ls (λ y2 z2. sight.sees to.number ≡ true → y2 ≡ z2) (Rights (rights.Downgrade d e from to site place)) (noted_down site v u)
         (and_then (erase.downgraded sight.sees sight.shows sight.program.classes ls b from.number to.number w u2) (noted_down site))

@@ -1,21 +1,25 @@
 -- An expression that came out once comes out so again, and changes nothing more.
-use Rattle.std.proofs.Common.{◌≡◌, ℕ, List, [], ◌∷◌, ◌++◌, Option, Some, None, Bool, true, false, ◌&&◌, ◌||◌, ◌==◌, ℤ, if◌then◌else◌, refl, sym, ap, ◌∙◌, subst, true≢false, append_assoc, append-nil, arith}
+use Rattle.std.proofs.Common.{◌≡◌, ℕ, List, [], ◌∷◌, ◌++◌, Option, Some, None, Bool, true, false, ◌&&◌, ◌||◌, ◌==◌, if◌then◌else◌, refl, sym, ap, ◌∙◌, subst, true≢false, append_assoc, append-nil, arith}
 use Rattle.std.specs.Prelude.{slice_get, unwrap_or}
 use Rattle.std.proofs.lemmas.Bool.Decides.{nat_tests}
 use Rattle.fab_base.specs.declared.object.Oid.{Oid}
 use Rattle.fab_base.specs.declared.object.Object.{Object}
 use Rattle.fab_base.specs.declared.object.Stop.TheVariants.{Reads}
-use Rattle.fab_base.specs.declared.object.Value.{Value}
-use Rattle.fab_base.specs.declared.object.Value.TheVariants.{Int, Null, Ref}
+use Rattle.fab_base.specs.declared.object.Value.TheVariants.{Null}
 use Rattle.fab_base.specs.FlatMap.{get, is_same}
-use Rattle.fab_map.proofs.Order.{same_self}
-use Rattle.fab_tree.specs.declared.expression.Operator.{Operator}
-use Rattle.fab_tree.specs.declared.expression.Operator.TheVariants.{Or, And, Add, Subtract, Multiply, Divide}
+use Rattle.fab_base.proofs.Names.{same_self}
 use Rattle.fab_language.specs.Heaps.{Heap, found, full, reach, reach_in, reach_before, is_among, touched, noted, is_full}
-use Rattle.fab_language.specs.Meaning.{State, End, failed, stopped, missing, Run, goes, ends, M, and_then, gives, ◌>>=◌, local, reached, access, field_of, read, operate, quotient}
+use Rattle.fab_language.specs.Meaning.{State, End, failed, stopped, missing, Run, goes, ends, M, and_then, gives, ◌>>=◌, local, reached, access, field_of}
+use Rattle.fab_tree.specs.declared.resolved.Class.{Class}
+use Rattle.fab_tree.specs.declared.resolved.Local.{Local}
+use Rattle.fab_tree.specs.declared.resolved.Expression.{Expression}
+use Rattle.fab_labelling.specs.Sites.{sites_in}
 use Rattle.fab_laws.specs.Changes.{has_pair}
+use Rattle.fab_laws.proofs.Everywhere.{OfReads, Anywhere}
 use Rattle.fab_laws.proofs.Names.{noted_front, touched_now, touched_front}
+use Rattle.fab_laws.proofs.Values.{all_any}
 use Rattle.fab_erasure.specs.Erased as erase
+use Rattle.fab_erasure.proofs.Everywhere as everywhere
 
 -- further touches alone
 abbrev pub After : State → State → Type 0
@@ -145,31 +149,16 @@ module _ (site : ℕ) (o : Oid) where
   pub settles_access : Settles (access site o)
   settles_access = record { by = λ t a u e. again_row (get t.heap.rows o) a t u refl e }
 
-shown_choice : {A : Type 0} (b : Bool) (m n : M A) → Settles m → Settles n → Settles (if b then m else n)
-shown_choice true m n h k = h
-shown_choice false m n h k = k
+-- so does every expression
+settles : (shows : ℕ → Bool) → OfReads (λ A m. Settles {A = A} m) Anywhere shows
+settles shows = record {
+  given = λ a. settles_gives a;
+  bound = λ m g h k. settles_bind m g h k;
+  fell = settles_ends failed;
+  named = settles_local;
+  got = λ site field o at show. settles_bind (access site o) (λ x. gives (field_of field x)) (settles_access site o) (λ x. settles_gives (field_of field x));
+}
 
-pub settles_read : (sees shows : ℕ → Bool) (site field : ℕ) (v : Value) → Settles (erase.read_shown sees shows site field v)
-settles_read sees shows site field (Int n) = settles_ends failed
-settles_read sees shows site field Null = settles_ends failed
-settles_read sees shows site field (Ref o) =
-    shown_choice (shows o.class) (read site field (Ref o)) (gives Null)
-    (settles_bind (access site o) (λ x. gives (field_of field x)) (settles_access site o) (λ x. settles_gives (field_of field x))) (settles_gives Null)
-
--- ---- operators
-
-settles_quotient : (q : Option ℤ) → Settles (quotient q)
-settles_quotient None = settles_ends failed
-settles_quotient (Some n) = settles_gives (Int n)
-
-pub settles_operate : (o : Operator) (a b : Value) → Settles (operate o a b)
-settles_operate Or a b = settles_gives _
-settles_operate And a b = settles_gives _
-settles_operate Add a b = settles_gives _
-settles_operate Subtract a b = settles_gives _
-settles_operate Multiply a b = settles_gives _
-settles_operate Divide a b = settles_quotient _
-
--- a value that isn't seen is blank
-pub settles_part : (b : Bool) (n : M Value) → Settles n → Settles (erase.part_of b n).run
-settles_part b n h = settles_bind n (λ v. gives (erase.shown_if b v)) h (λ v. settles_gives (erase.shown_if b v))
+pub settles_value : (sees shows : ℕ → Bool) (classes : List Class) (locals : List Local) (e : Expression) → Settles (erase.value sees shows classes locals e)
+settles_value sees shows classes locals e =
+    (everywhere.expressions (λ A m. Settles {A = A} m) Anywhere sees shows (settles shows) classes locals e).by (all_any (sites_in e))

@@ -1,5 +1,5 @@
 -- Statements: at a place that is seen the erased one follows the full one; at a hidden place nothing that is in view changes.
-use Rattle.std.proofs.Common.{◌≡◌, ℕ, zero, suc, ◌≤◌, List, [], ◌∷◌, ◌++◌, Option, Some, None, Bool, true, false, ◌&&◌, cond, if◌then◌else◌, map, refl, sym, ap, ◌∙◌, subst, true≢false, arith}
+use Rattle.std.proofs.Common.{◌≡◌, ℕ, zero, suc, ◌≤◌, List, [], ◌∷◌, ◌++◌, Option, Some, None, Bool, true, false, ◌&&◌, if◌then◌else◌, map, refl, sym, ap, ◌∙◌, subst, true≢false, arith}
 use Rattle.std.specs.Prelude.{slice_get, unwrap_or}
 use Rattle.std.specs.List.{list_all, flat_map, AllByRecursion}
 use Rattle.std.proofs.lemmas.Bool.{and_parts, and_from}
@@ -27,15 +27,16 @@ use Rattle.fab_laws.specs.Kinds.{Kind, Claim, takes, kind_at, field_kind, right_
 use Rattle.fab_laws.specs.Shapes.{suits, IsShaped}
 use Rattle.fab_laws.proofs.Walk as w
 use Rattle.fab_laws.proofs.Shapes.{Shaped, Has, Then, Lacks, Meets, kept, taken, suit_at, with_suits}
-use Rattle.fab_laws.proofs.Locality.{as_long, charges, accesses}
+use Rattle.fab_laws.proofs.Grows.{as_long, Grows, grows_bind, grows_seq, grows_cond, grows_paid, grows_local, grows_assign, grows_write, grows_turns, grows_loop, grows_atomic, grows_settled, value_grows, values_grow, right_grows}
 use Rattle.fab_erasure.specs.Erased as erase
 use Rattle.fab_erasure.specs.Erased.{shown_if}
 use Rattle.fab_erasure.specs.Agreement.{Downgrading, downgrades_in, downgrade_step, downgrades_in_right}
 use Rattle.fab_erasure.specs.Agreement as agreement
 use Rattle.fab_erasure.proofs.Views.{split_left, split_right, both_seen, none_seen, under_seen, under_hidden, under_unseen}
-use Rattle.fab_erasure.proofs.Settles.{after_here}
+use Rattle.fab_erasure.proofs.Grows as grow
+use Rattle.fab_erasure.proofs.Settles.{after_here, settles_value}
 use Rattle.fab_erasure.proofs.Near as n
-use Rattle.fab_erasure.proofs.Near.{Sight, Any, Whatever, Alike, kinds_of, Match, both_go, both_fail, cut, Hidden, went, fell, lost, halted}
+use Rattle.fab_erasure.proofs.Near.{Sight, Any, Whatever, kinds_of, Match, both_go, both_fail, cut, Hidden, went, fell, halted}
 use Rattle.fab_erasure.proofs.Steps as steps
 use Rattle.fab_erasure.proofs.Expressions as x
 use Rattle.fab_erasure.proofs.Expressions.{IsSeenFailure, MayFail, IsLabelled, Kept, flow_seen, flow_hidden, fail_seen, fail_hidden, never_fails, class_by}
@@ -56,9 +57,6 @@ module _ (sight : Sight) (view : IsLabelled sight.sees sight.shows sight.program
 
   abbrev Good : State → Type 0
   Good = n.Good sight
-
-  abbrev Grows : {A : Type 0} → M A → Type 0
-  Grows {A} = n.Grows sight {A = A}
 
   abbrev IsShapedState : State → Type 0
   IsShapedState = Shaped sight.program sight.tid (kinds_of ls)
@@ -82,11 +80,6 @@ module _ (sight : Sight) (view : IsLabelled sight.sees sight.shows sight.program
   placed_at b pc [] e h = tt
   placed_at b pc (k ∷ ks) e h = (h.0 ∙ e, placed_at b pc ks e h.1)
 
-  -- ---- what grows
-
-  grows_gives : {A : Type 0} (a : A) → Grows (gives a)
-  grows_gives a t = as_long t t refl refl
-
   abbrev done : Unit {0}
   done = tt
 
@@ -95,52 +88,6 @@ module _ (sight : Sight) (view : IsLabelled sight.sees sight.shows sight.program
 
   grows_nothing : Grows nothing
   grows_nothing t = as_long t t refl refl
-
-  grows_bind : {A B : Type 0} (m : M A) (g : A → M B) → Grows m → ((a : A) → Grows (g a)) → Grows (m >>= g)
-  grows_bind m g h k t = n.grows_then sight t (m t) g (h t) k
-
-  grows_seq : {A B : Type 0} (m : M A) (k : M B) → Grows m → Grows k → Grows (m >> k)
-  grows_seq m k h i t = n.grows_then sight t (m t) (λ _. k) (h t) (λ _. i)
-
-  grows_charge : Grows charge
-  grows_charge t = (charges [] []).grows t
-
-  grows_paid : {A : Type 0} (m : M A) → Grows m → Grows (charge >> m)
-  grows_paid m h = grows_seq charge m grows_charge h
-
-  grows_cond : {A : Type 0} (b : Bool) (m k : M A) → Grows m → Grows k → Grows (cond b m k)
-  grows_cond true m k g h = g
-  grows_cond false m k g h = h
-
-  grows_local : (i : ℕ) → Grows (local i)
-  grows_local i t = as_long t t refl refl
-
-  grows_assign : (i : ℕ) (v : Value) → Grows (assign i v)
-  grows_assign i v t = as_long t _ refl refl
-
-  grows_write : (site field : ℕ) (v o : Value) → Grows (write site field v o)
-  grows_write site field v (Int k) t = as_long t t refl refl
-  grows_write site field v Null t = as_long t t refl refl
-  grows_write site field v (Ref o) t = grows_bind (access site o) (λ y. replace o (with_field field v y)) (λ u. (accesses [] [] site o).grows u)
-      (λ y u. steps.settled_longer sight _ u) t
-
-  grows_write_shown : (site field : ℕ) (v o : Value) → Grows (erase.write_shown sight.sees sight.shows site field v o)
-  grows_write_shown site field v (Int k) t = as_long t t refl refl
-  grows_write_shown site field v Null t = as_long t t refl refl
-  grows_write_shown site field v (Ref o) t = grows_cond (sight.shows o.class) (write site field v (Ref o)) nothing (grows_write site field v (Ref o)) grows_nothing t
-
-  grows_turns : (k : ℕ) (test : M Value) (body : M (Unit {0})) → Grows test → Grows body → Grows (turns k test body)
-  grows_turns zero test body g h = λ t. as_long t t refl refl
-  grows_turns (suc k) test body g h =
-      grows_paid (test >>= λ v. if holds v then body >> turns k test body else gives tt)
-      (grows_bind test (λ v. if holds v then body >> turns k test body else gives tt) g (λ v.
-      grows_cond (holds v) (body >> turns k test body) nothing (grows_seq body (turns k test body) h (grows_turns k test body g h)) grows_nothing))
-
-  grows_loop : (test : M Value) (body : M (Unit {0})) → Grows test → Grows body → Grows (loop test body)
-  grows_loop test body g h t = grows_turns t.fuel test body g h t
-
-  grows_atomic : (body other : M (Unit {0})) → Grows body → Grows other → Grows (atomically body other)
-  grows_atomic body other g h t = n.grows_else sight t (body t) other (g t) h
 
   -- ---- what a statement owes, at a place
 
@@ -174,6 +121,9 @@ module _ (sight : Sight) (view : IsLabelled sight.sees sight.shows sight.program
 
   known : (e : Expression) → x.Follows sight view ls (value e) (part e) (owed_by e) (sites_in e)
   known = x.expressions sight view ls
+
+  blank_grows : (e : Expression) → Grows (part e).run
+  blank_grows = grow.value_grows sight.sees sight.shows sight.program.classes ls
 
   here : (s : State) → IsShapedState s → n.Quiet sight ls s s
   here = n.quiet_here sight ls
@@ -292,9 +242,9 @@ module _ (sight : Sight) (view : IsLabelled sight.sees sight.shows sight.program
 
     assigns : Stands (charge >> full_assign) (charge >> blank_assign) assign_owes (λ p. all_under p (right_sites r)) (downgrades_in_right r) assign_claims
     assigns =
-        let g = grows_bind (right sight.tid call r) (assign i) (called.right_grows sight view ls authority call blank calls r) (λ v. grows_assign i v) in
+        let g = grows_bind (right sight.tid call r) (assign i) (right_grows sight.tid call calls.grows r) (λ v. grows_assign i v) in
         let h = grows_bind blank_right (λ v. assign i (shown_if (list_all sight.sees label) v))
-        (called.blank_grows sight view ls authority call blank calls (erase.blank_of sight.sees sight.shows sight.program.classes ls (slice_get ls i)) r)
+        (grow.right_grows sight.sees sight.shows sight.program.classes ls sight.tid blank calls.grows_too (erase.blank_of sight.sees sight.shows sight.program.classes ls (slice_get ls i)) r)
         (λ v. grows_assign i (shown_if (list_all sight.sees label) v)) in
         record {
           grows = grows_paid full_assign g;
@@ -392,8 +342,8 @@ module _ (sight : Sight) (view : IsLabelled sight.sees sight.shows sight.program
         let at = (placed_at true pc (site ∷ sites_in e) pcs w2.placed).0 in
         n.follow sight ls (steps.Found sight o) Whatever Any (access site o s) (access site o t) (λ y. replace o (with_field field v y))
         (λ y. replace o (with_field field z y))
-        (λ g. steps.access_seen sight ls site o s t m at show) good (n.out_any sight (access site o s)) (λ y u. steps.settled_longer sight _ u)
-        (λ y u. steps.settled_longer sight _ u)
+        (λ g. steps.access_seen sight ls site o s t m at show) good (n.out_any sight (access site o s)) (λ y u. grows_settled _ u)
+        (λ y u. grows_settled _ u)
         (λ y y2 u u2 d m2 r x2 g. subst (λ y3. Beside Any (replace o (with_field field v y) u) (replace o y3 u2))
         (ap (λ v2. with_field field v2 y) e2 ∙ ap (with_field field z) r.0)
         (steps.replace_seen sight ls o (with_field field v y) u u2 m2 show (shape pc F w2 s m.shaped o v y q k r.1)))
@@ -423,12 +373,12 @@ module _ (sight : Sight) (view : IsLabelled sight.sees sight.shows sight.program
     blank_write = (part e).run >>= λ v. local i.number >>= erase.write_shown sight.sees sight.shows site field v
 
     grow_full : Grows full_write
-    grow_full = grows_bind (value e) (λ v. local i.number >>= λ o. write site field v o) (known e).grows
+    grow_full = grows_bind (value e) (λ v. local i.number >>= λ o. write site field v o) (value_grows e)
         (λ v. grows_bind (local i.number) (λ o. write site field v o) (grows_local i.number) (λ o. grows_write site field v o))
 
     grow_blank : Grows blank_write
-    grow_blank = grows_bind (part e).run (λ v. local i.number >>= erase.write_shown sight.sees sight.shows site field v) (known e).grows_too
-        (λ v. grows_bind (local i.number) (erase.write_shown sight.sees sight.shows site field v) (grows_local i.number) (λ o. grows_write_shown site field v o))
+    grow_blank = grows_bind (part e).run (λ v. local i.number >>= erase.write_shown sight.sees sight.shows site field v) (blank_grows e)
+        (λ v. grows_bind (local i.number) (erase.write_shown sight.sees sight.shows site field v) (grows_local i.number) (λ o. grow.grows_write_shown sight.sees sight.shows site field v o))
 
     writes_seen : (pc : List ℕ) (F : Option ℕ) → WriteOwing pc F → IsSeenFailure sight.sees F → list_all sight.sees pc ≡ true → (s t : State) → Near s t → Good
         (state_behind (full_write s)) → Beside Any (full_write s) (blank_write t)
@@ -438,7 +388,7 @@ module _ (sight : Sight) (view : IsLabelled sight.sees sight.shows sight.program
         ((known e).seen pc F (value_kept pc F w2) f (placed_at true pc (site ∷ sites_in e) pcs w2.placed).1 s t m) good
         (args.out_value sight.program sight.tid ls e s m.shaped)
         (λ v. grows_bind (local i.number) (λ o. write site field v o) (grows_local i.number) (λ o. grows_write site field v o))
-        (λ v. grows_bind (local i.number) (erase.write_shown sight.sees sight.shows site field v) (grows_local i.number) (λ o. grows_write_shown site field v o))
+        (λ v. grows_bind (local i.number) (erase.write_shown sight.sees sight.shows site field v) (grows_local i.number) (λ o. grow.grows_write_shown sight.sees sight.shows site field v o))
         (λ v z u u2 q m2 same fit gd.
         let l = (both_seen sight.sees pc local_label (fail_seen sight.sees sight.shows sight.program i.at (pc ++ local_label) F (fails_kept pc F w2) f)).1 in
         subst (λ o. Beside Any (write site field v (value_in u) u) (erase.write_shown sight.sees sight.shows site field z o u2))
@@ -469,10 +419,10 @@ module _ (sight : Sight) (view : IsLabelled sight.sees sight.shows sight.program
   call_stands i es =
       let m : M (Unit {0}) = values es >>= λ vs. call i.number vs >> gives tt in
       let k : M (Unit {0}) = erase.values sight.sees sight.shows sight.program.classes ls es >>= λ vs. blank i.number vs >> gives tt in
-      let g : Grows m = grows_bind (values es) (λ vs. call i.number vs >> gives tt) (args.values_grow sight view ls es)
+      let g : Grows m = grows_bind (values es) (λ vs. call i.number vs >> gives tt) (values_grow es)
       (λ vs. grows_seq (call i.number vs) nothing (calls.grows i.number vs) grows_nothing) in
       let h : Grows k = grows_bind (erase.values sight.sees sight.shows sight.program.classes ls es) (λ vs. blank i.number vs >> gives tt)
-      (args.blanks_grow sight view ls es) (λ vs. grows_seq (blank i.number vs) nothing (calls.grows_too i.number vs) grows_nothing) in
+      (grow.values_grow sight.sees sight.shows sight.program.classes ls es) (λ vs. grows_seq (blank i.number vs) nothing (calls.grows_too i.number vs) grows_nothing) in
       record {
         grows = grows_paid m g;
         grows_too = grows_paid k h;
@@ -557,10 +507,10 @@ module _ (sight : Sight) (view : IsLabelled sight.sees sight.shows sight.program
       blank_if = (part e).run >>= λ v. if (part e).seen then (if holds v then ka else kb) else gives tt
 
       grow_if : Grows full_if
-      grow_if = grows_bind (value e) (λ v. if holds v then ma else mb) (known e).grows (λ v. grows_cond (holds v) ma mb a.grows b.grows)
+      grow_if = grows_bind (value e) (λ v. if holds v then ma else mb) (value_grows e) (λ v. grows_cond (holds v) ma mb a.grows b.grows)
 
       grow_blank_if : Grows blank_if
-      grow_blank_if = grows_bind (part e).run (λ v. if (part e).seen then (if holds v then ka else kb) else gives tt) (known e).grows_too
+      grow_blank_if = grows_bind (part e).run (λ v. if (part e).seen then (if holds v then ka else kb) else gives tt) (blank_grows e)
           (λ v. grows_cond (part e).seen (if holds v then ka else kb) nothing (grows_cond (holds v) ka kb a.grows_too b.grows_too) grows_nothing)
 
       if_by : (pc : List ℕ) (F : Option ℕ) → IfOwing pc F → IsSeenFailure sight.sees F → list_all sight.sees pc ≡ true → (v z : Value) (u u2 : State) → Near u u2 → Good
@@ -703,10 +653,10 @@ module _ (sight : Sight) (view : IsLabelled sight.sees sight.shows sight.program
     blank_next k v = if holds v then ka >> turns k run ka else gives tt
 
     grow_turns : (k : ℕ) → Grows (turns k (value e) ma)
-    grow_turns k = grows_turns k (value e) ma (known e).grows a.grows
+    grow_turns k = grows_turns k (value e) ma (value_grows e) a.grows
 
     grow_blanks : (k : ℕ) → Grows (turns k run ka)
-    grow_blanks k = grows_turns k run ka (known e).grows_too a.grows_too
+    grow_blanks k = grows_turns k run ka (blank_grows e) a.grows_too
 
     grow_next : (k : ℕ) (v : Value) → Grows (next k v)
     grow_next k v = grows_cond (holds v) (ma >> turns k (value e) ma) nothing (grows_seq ma (turns k (value e) ma) a.grows (grow_turns k)) grows_nothing
@@ -728,8 +678,8 @@ module _ (sight : Sight) (view : IsLabelled sight.sees sight.shows sight.program
     turns_seen pc F o f pcs c zero j le s t m good = out_of_fuel s t (turns j run ka) (grow_blanks j) m
     turns_seen pc F o f pcs c (suc k) zero le s t m good = absurd (omega arith)
     turns_seen pc F o f pcs c (suc k) (suc j) le s t m good =
-        paid_seen (value e >>= next k) (run >>= blank_next j) (grows_bind (value e) (next k) (known e).grows (grow_next k))
-        (grows_bind run (blank_next j) (known e).grows_too (grow_blank_next j)) (λ s1 t1 m1 good1.
+        paid_seen (value e >>= next k) (run >>= blank_next j) (grows_bind (value e) (next k) (value_grows e) (grow_next k))
+        (grows_bind run (blank_next j) (blank_grows e) (grow_blank_next j)) (λ s1 t1 m1 good1.
         n.follow sight ls (λ v z. (part e).seen ≡ true → v ≡ z) Whatever Any (value e s1) (run t1) (next k) (blank_next j) (test_seen pc F o f pcs s1 t1 m1) good1
         (n.out_any sight (value e s1)) (grow_next k) (grow_blank_next j)
         (λ v z u u2 q m2 same y gd.
@@ -774,7 +724,7 @@ module _ (sight : Sight) (view : IsLabelled sight.sees sight.shows sight.program
     turns_rest pc F o f pcs c (suc k) z v again s m good =
         n.follow sight ls Any Whatever Any (charge s) (goes done v) (λ _. value e >>= next k) (λ _. nothing)
         (λ g. n.hidden_beside sight ls Whatever Any ⊥ s v (charge s) tt (λ never. never) m (λ y p. tt) (steps.charge_hidden sight ls ⊥ s m.shaped))
-        good (n.out_any sight (charge s)) (λ _. grows_bind (value e) (next k) (known e).grows (grow_next k)) (λ _. grows_nothing) (λ y y2 u u2 q m2 r p gd.
+        good (n.out_any sight (charge s)) (λ _. grows_bind (value e) (next k) (value_grows e) (grow_next k)) (λ _. grows_nothing) (λ y y2 u u2 q m2 r p gd.
         subst (λ w2. Beside Any ((value e >>= next k) u) (goes done w2)) (gone_to done y2 v u2 q)
         (tested pc F o f pcs z v u again (subst (λ w2. Near u w2) (sym (gone_to done y2 v u2 q)) m2) (next k) gd (grow_next k)
         (λ x2 u3 m3 gd3. onward pc F o f pcs c (holds x2) (turns k (value e) ma) (grow_turns k) u3 v m3 gd3
@@ -783,15 +733,15 @@ module _ (sight : Sight) (view : IsLabelled sight.sees sight.shows sight.program
     turns_first : (pc : List ℕ) (F : Option ℕ) → WhileOwing pc F → IsSeenFailure sight.sees F → list_all sight.sees pc ≡ true → (part e).seen ≡ false → (k : ℕ)
         (s t : State) → Near s t → Good (state_behind (turns k (value e) ma s)) → Beside Any (turns k (value e) ma s) ((charge >> (run >> nothing)) t)
     turns_first pc F o f pcs c zero s t m good = out_of_fuel s t (charge >> (run >> nothing))
-        (grows_paid (run >> nothing) (grows_seq run nothing (known e).grows_too grows_nothing)) m
+        (grows_paid (run >> nothing) (grows_seq run nothing (blank_grows e) grows_nothing)) m
     turns_first pc F o f pcs c (suc k) s t m good =
-        paid_seen (value e >>= next k) (run >> nothing) (grows_bind (value e) (next k) (known e).grows (grow_next k))
-        (grows_seq run nothing (known e).grows_too grows_nothing) (λ s1 t1 m1 good1.
+        paid_seen (value e >>= next k) (run >> nothing) (grows_bind (value e) (next k) (value_grows e) (grow_next k))
+        (grows_seq run nothing (blank_grows e) grows_nothing) (λ s1 t1 m1 good1.
         n.follow sight ls (λ v z. (part e).seen ≡ true → v ≡ z) Whatever Any (value e s1) (run t1) (next k) (λ _. nothing) (test_seen pc F o f pcs s1 t1 m1) good1
         (n.out_any sight (value e s1)) (grow_next k) (λ _. grows_nothing)
         (λ x2 z u v q m2 same y gd.
         onward pc F o f pcs c (holds x2) (turns k (value e) ma) (grow_turns k) u v m2 gd
-        (λ u4 m4 gd4. turns_rest pc F o f pcs c k z v (((known e).settles.by t1 z v q).1 v (after_here v)) u4 m4 gd4))) s t m good
+        (λ u4 m4 gd4. turns_rest pc F o f pcs c k z v (((settles_value sight.sees sight.shows sight.program.classes ls e).by t1 z v q).1 v (after_here v)) u4 m4 gd4))) s t m good
 
     abbrev full_while : M (Unit {0})
     full_while = loop (value e) ma
@@ -819,9 +769,9 @@ module _ (sight : Sight) (view : IsLabelled sight.sees sight.shows sight.program
 
     while_stands : Stands full_while blank_while while_owes while_sites da ca
     while_stands = record {
-      grows = grows_loop (value e) ma (known e).grows a.grows;
-      grows_too = grows_cond (part e).seen (loop run ka) (charge >> (run >> nothing)) (grows_loop run ka (known e).grows_too a.grows_too)
-          (grows_paid (run >> nothing) (grows_seq run nothing (known e).grows_too grows_nothing));
+      grows = grows_loop (value e) ma (value_grows e) a.grows;
+      grows_too = grows_cond (part e).seen (loop run ka) (charge >> (run >> nothing)) (grows_loop run ka (blank_grows e) a.grows_too)
+          (grows_paid (run >> nothing) (grows_seq run nothing (blank_grows e) grows_nothing));
       seen = λ pc F o f pcs s t m good. while_by pc F o f pcs s t m good (part e).seen refl;
       hidden = λ pc F o pcs s h. turns_hidden pc F o pcs s.fuel s h;
     }

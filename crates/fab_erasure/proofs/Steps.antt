@@ -11,7 +11,7 @@ use Rattle.fab_base.specs.declared.object.Object.{Object}
 use Rattle.fab_base.specs.declared.object.Stop.TheVariants.{Fuel, Reads, Writes}
 use Rattle.fab_base.specs.declared.object.Value.{Value}
 use Rattle.fab_base.specs.FlatMap.{FlatMap, get, put, is_same, ascends}
-use Rattle.fab_map.proofs.Order.{one_name}
+use Rattle.fab_base.proofs.NameOrder.{one_name}
 use Rattle.fab_map.proofs.Rows.{get-put_same, get-put_other, ascends-put}
 use Rattle.fab_tree.specs.declared.resolved.Local.{Local}
 use Rattle.fab_labelling.specs.Obligations.{label_of_local}
@@ -23,11 +23,11 @@ use Rattle.fab_laws.specs.Shapes.{suits, IsShaped, AreShaped}
 use Rattle.fab_laws.proofs.Names.{noted_front, with_written, with_new}
 use Rattle.fab_laws.proofs.Changes.{few_after}
 use Rattle.fab_laws.proofs.Shapes.{Shaped, put_shaped, suit_set}
-use Rattle.fab_laws.proofs.Locality.{Longer, as_long, charges}
+use Rattle.fab_laws.proofs.Grows.{Longer, as_long, grows_charge, grows_settled}
 use Rattle.fab_erasure.specs.Erased.{taken}
 use Rattle.fab_erasure.proofs.Views.{last_seen, last_unseen, filter_shorter, count_seen, among_seen, not_full, noted_seen, noted_unseen}
 use Rattle.fab_erasure.proofs.Near as n
-use Rattle.fab_erasure.proofs.Near.{Sight, Any, Whatever, Alike, kinds_of, Match, both_go, both_fail, both_miss, miss, cut, Hidden, went, fell, lost, halted}
+use Rattle.fab_erasure.proofs.Near.{Sight, Any, Whatever, Alike, kinds_of, Match, both_go, both_miss, cut, Hidden, went, lost, halted}
 
 not_both : (b : Bool) → b ≡ true → b ≡ false → ⊥
 not_both b h k = absurd (true≢false (sym h ∙ k))
@@ -104,7 +104,7 @@ module _ (sight : Sight) where
 
       by : (b : Bool) → (s.fuel == 0) ≡ b → Beside {A = Unit {0}} {B = Unit {0}} ls Any (cond b (ends (stopped Fuel) s) (goes tt (record s { fuel = s.fuel - 1 })))
           (charge t)
-      by true e = cut Fuel s (charge t) (fronts ls s t (state_behind (charge t)) m ((charges [] []).grows t))
+      by true e = cut Fuel s (charge t) (fronts ls s t (state_behind (charge t)) m (grows_charge t))
       by false e = by_left (t.fuel == 0) (fuel_left s.fuel t.fuel m.trace.fuel e)
 
   pub charge_hidden : (ls : List Local) (may : Type 0) (s : State) → Shaped sight.program sight.tid (kinds_of ls) s → Hides ls Whatever may s (charge s)
@@ -233,10 +233,6 @@ module _ (sight : Sight) where
     | false ↦ λ e. get-put_other o p y a e
   ] refl
 
-  pub settled_longer : (v : Option Heap) (t : State) → Longer t (state_behind (settled v t))
-  settled_longer None t = as_long t t refl refl
-  settled_longer (Some g) t = as_long t (record t { heap = g }) refl refl
-
   room_left : (a b c d : ℕ) → a ≤ c → b ≤ d → nat_le 256 (c + d) ≡ false → nat_le 256 (a + b) ≡ false
   room_left a b c d x y h = let lt = leb-false 256 (c + d) h in below (a + b) (omega arith)
     where
@@ -287,7 +283,7 @@ module _ (sight : Sight) where
 
     by_room : (b : Bool) → is_spent s.heap ≡ b → is_changed o t.heap ≡ false → Beside {A = Unit {0}} {B = Unit {0}} ls Any
         (settled (if b then None else Some (with_written o y s.heap)) s) (settled (if is_spent t.heap then None else Some (with_written o y t.heap)) t)
-    by_room true e c = cut Writes s _ (fronts ls s t _ m (settled_longer (if is_spent t.heap then None else Some (with_written o y t.heap)) t))
+    by_room true e c = cut Writes s _ (fronts ls s t _ m (grows_settled (if is_spent t.heap then None else Some (with_written o y t.heap)) t))
     by_room false e c = rw (spent_less s.heap t.heap m.heap e)
         (both_go tt tt (record s { heap = with_written o y s.heap }) (record t { heap = with_written o y t.heap })
         (behind (with_written o y s.heap) (with_written o y t.heap) near_written refl) tt)
@@ -357,7 +353,7 @@ module _ (sight : Sight) where
 
     new_by : (b : Bool) → is_spent s.heap ≡ b → Beside {A = Unit {0}} {B = Unit {0}} ls Any (settled (if b then None else Some (with_new o y s.heap)) s)
         (settled (if is_spent t.heap then None else Some (with_new o z t.heap)) t)
-    new_by true e = cut Writes s _ (fronts ls s t _ m (settled_longer (if is_spent t.heap then None else Some (with_new o z t.heap)) t))
+    new_by true e = cut Writes s _ (fronts ls s t _ m (grows_settled (if is_spent t.heap then None else Some (with_new o z t.heap)) t))
     new_by false e = rw (spent_less s.heap t.heap m.heap e) (both_go tt tt (record s { heap = with_new o y s.heap }) (record t { heap = with_new o z t.heap }) (record {
       heap = near_new;
       trace = record { touches = m.trace.touches; downs = m.trace.downs; given = m.trace.given; fuel = m.trace.fuel; few = m.trace.few };

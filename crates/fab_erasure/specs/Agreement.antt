@@ -22,6 +22,7 @@ use Rattle.fab_language.specs.Heaps.{is_among, touched}
 use Rattle.fab_language.specs.Meaning.{Meant, meaning}
 use Rattle.fab_labelling.specs.Obligations.{Claim, flows, conf, nowhere, declassifies, endorses, holds, answers_for, owed}
 use Rattle.fab_labelling.specs.Sites.{sites_of}
+pub use Rattle.fab_laws.specs.Fewer.{IsFront}
 use Rattle.fab_laws.specs.Shapes.{is_fitting, IsFitting, AreShaped}
 use Rattle.fab_erasure.specs.Erased.{erased, skips, shown_if, sees_result}
 
@@ -123,10 +124,6 @@ module _ (sees shows : ℕ → Bool) (r : Resolved) where
     pub fitting : is_fitting r ≡ true
 
 -- ---- the agreement
-
-pub record IsFront {A : Type 0} (xs ys : List A) : Type 0 where
-  pub rest : List A
-  pub is : xs ++ rest ≡ ys
 
 -- it wasn't stopped, and no object is missing out of view
 abbrev pub IsSettled : (ℕ → Bool) → (ℕ → Bool) → Resolved → Ending → Type 0

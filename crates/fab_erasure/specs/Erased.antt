@@ -25,8 +25,7 @@ use Rattle.fab_tree.specs.declared.resolved.Method.{Method}
 use Rattle.fab_tree.specs.declared.resolved.Resolved.{Resolved}
 use Rattle.fab_tree.specs.declared.resolved.Request.{Request}
 use Rattle.fab_language.specs.Meaning.{State, Run, goes, ends, failed, stopped, M, gives, ◌>>=◌, ◌>>◌, charge, local, assign, read, write, create, noted_down}
-use Rattle.fab_language.specs.Meaning.{wrapped, int_of, truth, holds, compares, operate, chained, in_order, loop, atomically, default, back_with, Meant, meant_by, state_at_start}
-use Rattle.std.specs.Prelude.{pos, ◌-ℤ◌}
+use Rattle.fab_language.specs.Meaning.{negated, truth, holds, compares, operate, chained, in_order, loop, atomically, default, back_with, Meant, meant_by, state_at_start}
 use Rattle.fab_base.specs.declared.object.Stop.TheVariants.{Depth}
 use Rattle.fab_labelling.specs.Obligations.{class_of_local, label_of_local, label_of_class}
 
@@ -94,7 +93,7 @@ module _ (sees shows : ℕ → Bool) where
     form_step f.Null = part_of true (gives Null)
     form_step (f.Local x) = part_of (sees_local x) (local x.number)
     form_step (f.Read x field site) = part_of (sees_read x) (local x.number >>= read_shown site field)
-    form_step (f.Negative p) = part_of p.seen (p.run >>= λ v. gives (wrapped (pos 0 -ℤ int_of v)))
+    form_step (f.Negative p) = part_of p.seen (p.run >>= λ v. gives (negated v))
     form_step (f.Not p) = part_of p.seen (p.run >>= λ v. gives (truth (not (holds v))))
     form_step (f.Chain p others) =
         part_of (p.seen && list_all (λ u. u.1.seen) others) (p.run >>= chained operate (map (λ u. (u.0, u.1.run)) others))

@@ -12,7 +12,7 @@ use Rattle.fab_base.specs.declared.object.Object.{Object}
 use Rattle.fab_base.specs.declared.object.Tid.{Tid}
 use Rattle.fab_base.specs.declared.object.Value.{Value}
 use Rattle.fab_base.specs.FlatMap.{get, put, is_same}
-use Rattle.fab_map.proofs.Order.{one_name}
+use Rattle.fab_base.proofs.NameOrder.{one_name}
 use Rattle.fab_map.proofs.Rows.{get-put_other}
 use Rattle.fab_map.proofs.Made.{get-map_of}
 use Rattle.fab_language.specs.Heaps.{Heap, full, found, reach_in, reach_before, noted, is_among, is_full, is_changed, is_spent, touched, index_at, replaced, with_row}

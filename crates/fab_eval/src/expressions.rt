@@ -6,10 +6,10 @@ ghost use Rattle.fab_eval.specs.Points.{Point};
 
 use crate::halt::{End, Halt};
 use crate::state::State;
-use fab_base::{Seq, Value, java_sub};
+use fab_base::{Seq, Value};
 use fab_tree::Operator;
 use fab_tree::resolved::{Expression, Form, Operand};
-use fab_values::{compares, holds, int_of, operate, truth};
+use fab_values::{compares, holds, negated, operate, truth};
 
 /// The value of an expression.
 #[cycle(value)]
@@ -32,7 +32,7 @@ pub(crate) fn value(state: &mut State, expression: &Expression) -> Result<Value,
         }
         Form::Negative(operand) => {
             let v = value(state, operand.get())?;
-            Ok(Value::Int(java_sub(0, int_of(v))))
+            Ok(negated(v))
         }
         Form::Not(operand) => {
             let v = value(state, operand.get())?;

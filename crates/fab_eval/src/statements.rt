@@ -1,6 +1,6 @@
 //! Statements and calls.
 ghost use Rattle.std.specs.Prelude.{◌≡◌, ◌≤◌, IfOk, Some};
-ghost use Rattle.fab_language.specs.Meaning.{block, body_of, called, default, entered, locals_at_start, loop, right, statement, value};
+ghost use Rattle.fab_language.specs.Meaning.{block, body_of, called, entered, locals_at_start, loop, right, statement, value};
 ghost use Rattle.fab_eval.specs.Gives.{Gives, Keeps, went_on};
 ghost use Rattle.fab_values.specs.Pieces.{assignment, attempt, choice, making};
 
@@ -8,8 +8,8 @@ use crate::expressions::{value, values};
 use crate::halt::{End, Halt};
 use crate::state::State;
 use fab_base::{NoMemory, Seq, Stop, Value};
-use fab_tree::resolved::{Expression, Method, Resolved, Return, Right, Sort, Statement};
-use fab_values::holds;
+use fab_tree::resolved::{Expression, Method, Resolved, Return, Right, Statement};
+use fab_values::{default, holds};
 
 /// The statements of a block, in order.
 #[cycle(run)]
@@ -300,14 +300,4 @@ fn locals_at_start(method: &Method, args: Seq<Value>) -> Result<Vec<Value>, NoMe
         i += 1;
     }
     Ok(values)
-}
-
-/// What a local holds before it is assigned.
-fn default(sort: Sort) -> Value
-    ensures { result ≡ default sort }
-{
-    match sort {
-        Sort::Int => Value::Int(0),
-        Sort::Class(_) => Value::Null,
-    }
 }

@@ -10,7 +10,8 @@ use Rattle.fab_base.specs.declared.object.Tid.{Tid}
 use Rattle.fab_base.specs.declared.object.Object.{Object}
 use Rattle.fab_base.specs.FlatMap.{FlatMap, is_same, get, map_of}
 use Rattle.fab_base.specs.contracts.object.OidPartialEq as oids
-use Rattle.fab_map.proofs.Order.{one_name, same_flips}
+use Rattle.fab_base.proofs.NameOrder.{one_name}
+use Rattle.fab_base.proofs.Names.{same_flips}
 use Rattle.fab_map.proofs.Made.{get-map_of}
 use Rattle.fab_language.specs.Heaps.{is_among}
 use Rattle.fab_nested.specs.Nested.{Answers, names_of, objects_of}

@@ -3,8 +3,10 @@ use Rattle.std.proofs.Common.{◌≡◌, suc, ◌<◌, ◌≤◌, true, false, �
 use Rattle.std.proofs.lemmas.Bool.{true≢false}
 use Rattle.fab_base.specs.declared.object.Oid.{Oid}
 use Rattle.fab_base.specs.FlatMap.{is_same}
-use Rattle.fab_map.proofs.Order.{same_self, one_name}
+use Rattle.fab_base.proofs.Names.{same_self}
+use Rattle.fab_base.proofs.NameOrder.{one_name}
 use Rattle.fab_language.specs.Heaps.{is_among, without}
+use Rattle.fab_language.proofs.Touches.{among_without}
 use Rattle.fab_laws.specs.Changes.{AreApart}
 use Rattle.fab_laws.proofs.Names.{or_true}
 
@@ -27,14 +29,6 @@ one_less o (p ∷ ps) h =
       | true ↦ λ _. omega (arith, shorter o ps)
       | false ↦ λ e. omega (arith, one_less o ps e)
     ] h
-
-among_without : (o p : Oid) (xs : List Oid) → is_same p o ≡ false → is_among o (without p xs) ≡ is_among o xs
-among_without o p [] h = refl
-among_without o p (x ∷ xs) h =
-    elim (is_same x p) as (λ b. is_same x p ≡ b → is_among o (if b then without p xs else x ∷ without p xs) ≡ is_among o (x ∷ xs)) [
-      | true ↦ λ e. among_without o p xs h ∙ sym (ap (λ b. b || is_among o xs) (ap (λ q. is_same q o) (one_name x p e) ∙ h))
-      | false ↦ λ e. ap (λ b. is_same x o || b) (among_without o p xs h)
-    ] refl
 
 -- a name that is among these and one that isn't differ
 apart_from : (o p : Oid) (xs : List Oid) → is_among p xs ≡ true → is_among o xs ≡ false → is_same o p ≡ false

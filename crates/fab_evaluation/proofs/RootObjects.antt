@@ -5,7 +5,7 @@ use Rattle.std.specs.Map.{keys_of}
 use Rattle.fab_base.specs.declared.object.Oid.{Oid}
 use Rattle.fab_base.specs.declared.object.Tid.{Tid}
 use Rattle.fab_base.specs.FlatMap.{is_same, get, map_of}
-use Rattle.fab_map.proofs.Order.{one_name}
+use Rattle.fab_base.proofs.NameOrder.{one_name}
 use Rattle.fab_map.proofs.Made.{get-map_of}
 use Rattle.fab_tree.specs.declared.start.Root.{Root as WrittenRoot}
 use Rattle.fab_tree.specs.declared.start.Start.{Start}

@@ -8,6 +8,7 @@ use Rattle.std.proofs.lemmas.List.Concat.{flat_map-cons}
 use Rattle.std.proofs.lemmas.List.Sums.{sum_by-cons}
 use Rattle.std.proofs.lemmas.Slice.Eq.{bytes_eq-Decides}
 use Rattle.fab_base.specs.declared.object.Tid.{Tid}
+use Rattle.fab_base.proofs.Lists.{left_nil, right_nil, each_nil, all_append, all_always, all_along}
 use Rattle.fab_tree.specs.declared.name.Name.{Name}
 use Rattle.fab_tree.specs.declared.declaration.Role.{Role}
 use Rattle.fab_tree.specs.declared.declaration.Role.TheVariants as r
@@ -39,36 +40,10 @@ use Rattle.fab_evaluation.proofs.RootObjects.{unmade_at_start}
 
 -- ---- lists
 
-all_append : {A : Type 0} (P : A → Type 0) (xs ys : List A) → AllByRecursion P xs → AllByRecursion P ys → AllByRecursion P (xs ++ ys)
-all_append P [] ys h k = k
-all_append P (x ∷ xs) ys h k = (h.0, all_append P xs ys h.1 k)
-
-all_map : {A : Type 0} (P Q : A → Type 0) → ((x : A) → P x → Q x) → (xs : List A) → AllByRecursion P xs → AllByRecursion Q xs
-all_map P Q f [] h = tt
-all_map P Q f (x ∷ xs) h = (f x h.0, all_map P Q f xs h.1)
-
-all_any : {A : Type 0} (P : A → Type 0) → ((x : A) → P x) → (xs : List A) → AllByRecursion P xs
-all_any P f [] = tt
-all_any P f (x ∷ xs) = (f x, all_any P f xs)
-
 -- each list that is made of an item has this, so the joined list has it
 all_flat : {A B : Type 0} (P : B → Type 0) (f : A → List B) (Q : A → Type 0) → ((x : A) → Q x → AllByRecursion P (f x)) → (xs : List A) → AllByRecursion Q xs → AllByRecursion P (flat_map f xs)
 all_flat P f Q h [] k = tt
 all_flat P f Q h (x ∷ xs) k = subst (AllByRecursion P) (sym (flat_map-cons f x xs)) (all_append P (f x) (flat_map f xs) (h x k.0) (all_flat P f Q h xs k.1))
-
-front_empty : {A : Type 0} (xs ys : List A) → xs ++ ys ≡ [] → xs ≡ []
-front_empty [] ys h = refl
-front_empty (x ∷ xs) ys h = absurd (cc)
-
-back_empty : {A : Type 0} (xs ys : List A) → xs ++ ys ≡ [] → ys ≡ []
-back_empty [] ys h = h
-back_empty (x ∷ xs) ys h = absurd (cc)
-
-each_empty : {A B : Type 0} (f : A → List B) (xs : List A) → flat_map f xs ≡ [] → AllByRecursion (λ x. f x ≡ []) xs
-each_empty f [] h = tt
-each_empty f (x ∷ xs) h =
-    let g = sym (flat_map-cons f x xs) ∙ h in
-    (front_empty (f x) (flat_map f xs) g, each_empty f xs (back_empty (f x) (flat_map f xs) g))
 
 -- lists one behind the other
 abbrev joined : {A : Type 0} → List A → List (List A) → List A
@@ -77,7 +52,7 @@ joined xs (ys ∷ rest) = joined (xs ++ ys) rest
 
 parts_empty : {A : Type 0} (xs : List A) (rest : List (List A)) → joined xs rest ≡ [] → AllByRecursion (λ ys. ys ≡ []) (xs ∷ rest)
 parts_empty xs [] h = (h, tt)
-parts_empty xs (ys ∷ rest) h = let g = parts_empty (xs ++ ys) rest h in (front_empty xs ys g.0, (back_empty xs ys g.0, g.1))
+parts_empty xs (ys ∷ rest) h = let g = parts_empty (xs ++ ys) rest h in (left_nil xs ys g.0, (right_nil xs ys g.0, g.1))
 
 -- ---- requests of one worker, and of several
 
@@ -91,7 +66,7 @@ other_worker : (x y : Request) (w : ℕ) → x.worker ≡ w → w ≢ y.worker �
 other_worker x y w e h g = h (sym e ∙ ap (λ (t : Tid). t.worker) g)
 
 others : (x : Request) (w : ℕ) (ys : List Request) → x.worker ≡ w → NotOf w ys → AllByRecursion (λ y. tid_of x ≢ tid_of y) ys
-others x w ys e h = all_map (λ y. w ≢ y.worker) (λ y. tid_of x ≢ tid_of y) (λ y g. other_worker x y w e g) ys h
+others x w ys e h = all_along (λ y. w ≢ y.worker) (λ y. tid_of x ≢ tid_of y) (λ y g. other_worker x y w e g) ys h
 
 -- requests of a worker that are apart, before those of others that are apart
 apart_both : (w : ℕ) (xs ys : List Request) → OfWorker w xs → AreApart xs → NotOf w ys → AreApart ys → AreApart (xs ++ ys)
@@ -173,7 +148,7 @@ module _ (s : Start) where
   of_nodes nodes = flat_map (λ node. at_node node s.sessions) nodes
 
   not_of_node : (n m : ℕ) → n ≢ m → NotOf n (at_node m s.sessions)
-  not_of_node n m h = all_map (λ (y : Request). y.worker ≡ m) (λ y. n ≢ y.worker) (λ y e g. h (g ∙ e)) (at_node m s.sessions) (of_node m s.sessions)
+  not_of_node n m h = all_along (λ (y : Request). y.worker ≡ m) (λ y. n ≢ y.worker) (λ y e g. h (g ∙ e)) (at_node m s.sessions) (of_node m s.sessions)
 
   apart_nodes : Alone number s.sessions → (nodes : List ℕ) → Different nodes → AreApart (of_nodes nodes)
   apart_nodes alone [] d = tt
@@ -269,7 +244,7 @@ module _ (s : Start) where
   honest x role false q t = absurd (cc)
 
   is_at : (x : Session) → unknown.in_session s x ≡ [] → roles.in_session s x ≡ [] → IsAt x
-  is_at x h k = step (named node_name s.program.nodes x.worker) refl (front_empty (unknown.in_principal s x.worker) (flat_map (unknown.in_request s) x.requests) h) k
+  is_at x h k = step (named node_name s.program.nodes x.worker) refl (left_nil (unknown.in_principal s x.worker) (flat_map (unknown.in_request s) x.requests) h) k
     where
       step : (o : Option Node) → named node_name s.program.nodes x.worker ≡ o → unknown.if_found o x.worker ≡ [] → roles.if_of_kind is_honest_worker o x.worker ≡ [] → IsAt x
       step None e g j = absurd (cc)
@@ -310,7 +285,7 @@ module _ (s : Start) where
   unlike_behind : (x : Session) (front ys : List Session) → Among x front → repeats_behind session_name front ys ≡ [] → Unlike x ys
   unlike_behind x front [] a h = tt
   unlike_behind x front (y ∷ ys) a h =
-      (a (λ z. is_same_name z.worker y.worker) (no_repeat _ y.worker _ h), unlike_behind x (front ++ y ∷ []) ys (λ p k. a p (front_none p front y k).0) (back_empty _ _ h))
+      (a (λ z. is_same_name z.worker y.worker) (no_repeat _ y.worker _ h), unlike_behind x (front ++ y ∷ []) ys (λ p k. a p (front_none p front y k).0) (right_nil _ _ h))
 
   abbrev AllUnlike : List Session → Type 0
   AllUnlike [] = Unit {0}
@@ -319,7 +294,7 @@ module _ (s : Start) where
   all_unlike : (front xs : List Session) → repeats_behind session_name front xs ≡ [] → AllUnlike xs
   all_unlike front [] h = tt
   all_unlike front (x ∷ xs) h =
-      let rest = back_empty _ _ h in
+      let rest = right_nil _ _ h in
       (unlike_behind x (front ++ x ∷ []) xs (λ p k. (front_none p front x k).1) rest, all_unlike (front ++ x ∷ []) xs rest)
 
   numbers_differ : (x : Session) (ys : List Session) → IsAt x → AllByRecursion IsAt ys → Unlike x ys → AllByRecursion (λ y. number x ≢ number y) ys
@@ -341,13 +316,13 @@ module _ (s : Start) where
       parts_empty (flat_map (unknown.in_delegation s) p.delegations)
       (flat_map (unknown.in_label_text s) p.labels ∷ flat_map (unknown.in_class s) p.classes ∷ flat_map (unknown.in_method s) p.methods
       ∷ flat_map (unknown.in_root s) s.roots ∷ flat_map (unknown.in_session s) s.sessions ∷ flat_map (unknown.in_post s) s.posts ∷ flat_map (unknown.in_crash s) s.crashes ∷ flat_map (unknown.in_event s) s.schedule ∷ []) all.0 in
-      each_empty (unknown.in_session s) s.sessions parts.1.1.1.1.1.0
+      each_nil (unknown.in_session s) s.sessions parts.1.1.1.1.1.0
 
   placed_sessions : faults s ≡ [] → AllByRecursion (λ x. roles.in_session s x ≡ []) s.sessions
   placed_sessions h =
       let all = parts_empty (unknown.unknown s) (doubled.doubled s ∷ roles.misplaced s ∷ arity.miscounted s ∷ types.mistyped s ∷ []) h in
       let parts = parts_empty (flat_map (roles.in_method s) s.program.methods) (flat_map (roles.in_root s) s.roots ∷ flat_map (roles.in_session s) s.sessions ∷ flat_map (roles.in_post s) s.posts ∷ flat_map (roles.in_crash s) s.crashes ∷ flat_map (roles.in_event s) s.schedule ∷ []) all.1.1.0 in
-      each_empty (roles.in_session s) s.sessions parts.1.1.0
+      each_nil (roles.in_session s) s.sessions parts.1.1.0
 
   single_sessions : faults s ≡ [] → repeats session_name (filter (is_workers s) s.sessions) ≡ []
   single_sessions h =
@@ -365,7 +340,7 @@ module _ (s : Start) where
   requests_apart h = apart_nodes (alone h) (numbers_from 0 s.program.nodes) (different_from 0 s.program.nodes)
 
   pub old_at_start : faults s ≡ [] → IsOld (map_at_start (resolved s)) (requests_of (resolved s))
-  old_at_start h = record { unmade = all_any (λ x. IsUnmade (tid_of x) (map_at_start (resolved s))) (λ x. unmade_at_start s (tid_of x) refl) (requests_of (resolved s)); apart = requests_apart h }
+  old_at_start h = record { unmade = all_always (λ x. IsUnmade (tid_of x) (map_at_start (resolved s))) (λ x. unmade_at_start s (tid_of x) refl) (requests_of (resolved s)); apart = requests_apart h }
 
 -- so it is for a bundle with numbers for names
 pub is_old : (q : Resolved) → IsResolved q → IsOld (map_at_start q) (requests_of q)

@@ -11,7 +11,8 @@ use Rattle.fab_lined.proofs.Begun.{one}
 use Rattle.fab_lined.proofs.Lines.{count_last}
 use Rattle.fab_world.specs.Machine.{Move, form_of}
 use Rattle.fab_world.specs.Crashing.{crashes_of, events_of, is_counted, is_crash}
-use Rattle.fab_core.specs.Moved.{move_by, node_at}
+use Rattle.fab_net.specs.Events.{node_at}
+use Rattle.fab_core.specs.Moved.{move_by}
 use Rattle.fab_core.specs.declared.applied.Applied.{Applied}
 use Rattle.fab_exchange.specs.Tallies.{counted_in, crashed_in}
 use Rattle.fab_exchange.specs.Exchanges.{AreCounts, none_yet}

@@ -1,20 +1,19 @@
 -- A run that keeps the lines of an accepted bundle has few attempts and recoveries: 64 nodes with at most 100,000 requests and 1,000 lines each.
-use Rattle.std.proofs.Common.{◌≡◌, ℕ, suc, ◌+◌, ◌*◌, ◌≤◌, ◌<◌, List, [], ◌∷◌, length, map, Bool, true, false, cond, ◌==◌, Some, None}
-use Rattle.std.proofs.Common.{refl, ap, subst, arith, ltb-false}
-use Rattle.std.specs.List.{AllByRecursion, filter, find, range_with_len, sum_by}
+use Rattle.std.proofs.Common.{◌≡◌, ℕ, ◌+◌, ◌*◌, ◌≤◌, ◌<◌, List, [], ◌∷◌, length, ◌==◌, None}
+use Rattle.std.proofs.Common.{refl, subst, arith}
+use Rattle.std.specs.List.{filter, range_with_len, sum_by}
 use Rattle.std.proofs.lemmas.List.{length-map}
 use Rattle.std.proofs.lemmas.List.Sums.{sum_by-cons}
+use Rattle.fab_base.proofs.Lists.{few_pass}
 use Rattle.fab_tree.specs.declared.start.Start.{Start}
-use Rattle.fab_tree.specs.declared.start.RequestText.{RequestText}
 use Rattle.fab_tree.specs.declared.start.Session.{Session}
-use Rattle.fab_tree.specs.declared.resolved.Asked.{Asked}
 use Rattle.fab_tree.specs.declared.resolved.Crash.{Crash}
 use Rattle.fab_tree.specs.declared.resolved.Resolved.{Resolved}
-use Rattle.fab_tree.specs.Limits.{first_passed, order, passes}
-use Rattle.fab_language.specs.Numbers.{asked_from, crash_of, resolved, session_of}
-use Rattle.fab_language.specs.Uses.{node_number}
-use Rattle.fab_attempts.specs.Sessions.{requests_in, requests_of}
-use Rattle.fab_integrity.proofs.Lists.{few_pass}
+use Rattle.fab_tree.specs.Limits.{first_passed}
+use Rattle.fab_tree.proofs.Within.{is_within}
+use Rattle.fab_language.specs.Numbers.{crash_of, resolved}
+use Rattle.fab_attempts.specs.Sessions.{requests_of}
+use Rattle.fab_attempts.proofs.Programs.{asked_within}
 use Rattle.fab_lined.specs.Lined.{begins_of, recoveries_of}
 use Rattle.fab_lined.proofs.Begun.{are_few}
 use Rattle.fab_lined.proofs.Lines.{few_crashes}
@@ -27,39 +26,15 @@ use Rattle.fab_node.specs.Standing.{GivenModel, IsGiven}
 use Rattle.fab_core.specs.Cores.{setting}
 use Rattle.fab_core.proofs.Tables.{node_below}
 
-none_passes : {A : Type 0} (test : A → Bool) (xs : List A) → find test xs ≡ None → AllByRecursion (λ x. test x ≡ false) xs
-none_passes test [] e = tt
-none_passes test (x ∷ xs) e = by (test x) refl e (none_passes test xs)
-  where
-    by : (b : Bool) → test x ≡ b → cond b (Some x) (find test xs) ≡ None → (find test xs ≡ None → AllByRecursion (λ y. test y ≡ false) xs)
-        → AllByRecursion (λ y. test y ≡ false) (x ∷ xs)
-    by true g h later = absurd (cc)
-    by false g h later = (g, later h)
-
-as_many_asked : (s : Start) (worker k : ℕ) (xs : List RequestText) → length (map (λ (a : Asked). a.request) (asked_from s worker k xs)) ≡ length xs
-as_many_asked s worker k [] = refl
-as_many_asked s worker k (x ∷ xs) = ap suc (as_many_asked s worker (suc k) xs)
-
-asked_within : (s : Start) (n : ℕ) (xs : List Session) → length (requests_in (find (λ x. x.worker.number == n) (map (session_of s) xs))) ≤ sum_by (λ (x : Session). length x.requests) xs
-asked_within s n [] = omega arith
-asked_within s n (x ∷ xs) =
-    let all = sum_by-cons (λ (y : Session). length y.requests) x xs in
-    let here = as_many_asked s (node_number s x.worker) 1 x.requests in
-    let others = asked_within s n xs in
-    elim (node_number s x.worker == n) as (λ b. length (requests_in (cond b (Some (session_of s x)) (find (λ y. y.worker.number == n) (map (session_of s) xs)))) ≤ sum_by (λ (y : Session). length y.requests) (x ∷ xs)) [
-      | true ↦ omega (arith, all, here)
-      | false ↦ omega (arith, all, others)
-    ]
-
 module _ (s : Start) (limits : first_passed s ≡ None) where
   few_requests : (n : ℕ) → length (requests_of (resolved s) n) ≤ 100000
   few_requests n =
-      let all = ltb-false 100000 _ (none_passes (passes s) order limits).1.1.1.1.1.1.1.1.1.1.0 in
+      let all : sum_by (λ (x : Session). length x.requests) s.sessions ≤ 100000 = (is_within s limits).requests in
       let own = asked_within s n s.sessions in omega (arith, all, own)
 
   few_lines : (n : ℕ) → length (lines_of (resolved s) n) ≤ 1000
   few_lines n =
-      let all = ltb-false 1000 _ (none_passes (passes s) order limits).1.1.1.1.1.1.1.1.1.1.1.1.0 in
+      let all : length s.crashes ≤ 1000 = (is_within s limits).crashes in
       let mapped = length-map s.crashes (crash_of s) in
       let own = few_pass (λ (c : Crash). c.node == n) (resolved s).crashes in
       let seen : length (lines_of (resolved s) n) ≡ length (filter (λ (c : Crash). c.node == n) (resolved s).crashes) = length-map (filter (λ (c : Crash). c.node == n) (resolved s).crashes) (λ (c : Crash). record { after = c.after; keep = c.keep }) in

@@ -3,7 +3,8 @@ use Rattle.std.proofs.Common.{◌≡◌, ◌⊎◌, ℕ, ◌<◌, List, [], ◌�
 use Rattle.std.proofs.Common.{refl, sym, ap, ◌∙◌, subst, inl, inr, arith, true≢false}
 use Rattle.std.specs.Prelude.{if◌then◌else◌, option_map}
 use Rattle.std.specs.List.{find, range_with_len}
-use Rattle.std.proofs.lemmas.Bool.{and_from, and_parts, both_ways, cases_Bool, eq-eqb, eqb-true, false≢true, not_from_false, or_cases}
+use Rattle.std.proofs.lemmas.Bool.{and_from, and_parts, both_ways, cases_Bool, eq-eqb, eqb-true, false≢true, not_from_false, or_cases, and_right}
+use Rattle.fab_base.proofs.Lists.{some_same}
 use Rattle.fab_net.specs.declared.event.Inner.{Inner}
 use Rattle.fab_net.specs.declared.event.Inner.TheVariants as i
 use Rattle.fab_rights.specs.Computed.{is_node, nodes_in}
@@ -38,16 +39,13 @@ some_else : (a b : Option Found) (x : Found) → or_else a b ≡ Some x → (a �
 some_else None b x h = inr h
 some_else (Some y) b x h = inl h
 
-same_some : {A : Type 0} (x y : A) → Some x ≡ Some y → x ≡ y
-same_some x y h = cc
-
 some_so : (b : Bool) (y x : Found) → if_so b y ≡ Some x → (b ≡ true) × (y ≡ x)
-some_so true y x h = (refl, same_some y x h)
+some_so true y x h = (refl, some_same y x h)
 some_so false y x h = absurd (cc)
 
 some_map : {A : Type 0} (g : A → Found) (o : Option A) (x : Found) → option_map g o ≡ Some x → (y : A) × (o ≡ Some y) × (g y ≡ x)
 some_map g None x h = absurd (cc)
-some_map g (Some y) x h = (y, refl, same_some (g y) x h)
+some_map g (Some y) x h = (y, refl, some_same (g y) x h)
 
 none_found : {A : Type 0} (p : A → Bool) (xs : List A) → find p xs ≡ None → (x : A) → In x xs → p x ≡ false
 none_found p [] h x there = absurd there
@@ -63,12 +61,8 @@ some_found p [] x h = absurd (cc)
 some_found p (y ∷ ys) x h = by (p y) refl h (λ k. some_found p ys x k)
   where
     by : (b : Bool) → p y ≡ b → cond b (Some y) (find p ys) ≡ Some x → (find p ys ≡ Some x → p x ≡ true) → p x ≡ true
-    by true e k later = ap p (sym (same_some y x k)) ∙ e
+    by true e k later = ap p (sym (some_same y x k)) ∙ e
     by false e k later = later k
-
-right_false : (a b : Bool) → b ≡ false → (a && b) ≡ false
-right_false true b h = h
-right_false false b h = refl
 
 -- ---- what is found of node n
 
@@ -141,7 +135,7 @@ module _ (g : GivenModel) (moves : List Move) where
 
   crash_out : (n : ℕ) → crashes g moves n ≡ false → due g moves (Crashes n) ≡ false
   unfolding crashes
-  crash_out n isnt = right_false (is_running S w n) (must_crash S lines w moves n) isnt
+  crash_out n isnt = and_right (is_running S w n) (must_crash S lines w moves n) isnt
 
   -- a line is used at a node that is running
   used_there : (b : Bool) (line : Option CrashLine) → crashes_by S lines (if b then line else None) ≡ true → b ≡ true
@@ -232,7 +226,7 @@ module _ (g : GivenModel) (moves : List Move) where
     own_finds x is = by (crashes g moves n) refl is
       where
         by : (b : Bool) → crashes g moves n ≡ b → (if b then Some f.Crash else rest) ≡ Some x → Finds n x
-        by true must h = subst (Finds n) (same_some f.Crash x h) must
+        by true must h = subst (Finds n) (some_same f.Crash x h) must
         by false isnt h = at_first x isnt h
 
     none_own : own_at g moves n ≡ None → (crashes g moves n ≡ false) × (rest ≡ None)

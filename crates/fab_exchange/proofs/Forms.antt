@@ -15,7 +15,8 @@ use Rattle.fab_world.specs.Crashing.{CrashLine, goes_on, keeps_by, line_now, may
 use Rattle.fab_settings.specs.Settings.{lines_of}
 use Rattle.fab_node.specs.Standing.{GivenModel}
 use Rattle.fab_core.specs.Cores.{CoreModel, EventHasDone, InnerHasDone, marked, setting, unmarked, world, world_by}
-use Rattle.fab_core.specs.Moved.{event_of, move_by}
+use Rattle.fab_net.specs.Events.{uncut}
+use Rattle.fab_core.specs.Moved.{move_by}
 use Rattle.fab_core.specs.Telling.{length_in}
 use Rattle.fab_core.specs.declared.applied.Applied.{Applied}
 use Rattle.fab_core.specs.declared.applied.Applied.TheVariants as a
@@ -111,14 +112,14 @@ came_resume a.Cut event h = marked_resume event h
 
 -- ---- an event that is done whole
 
-pub whole_of : (x : Inner) → IsOf x (event_of x)
+pub whole_of : (x : Inner) → IsOf x (uncut x)
 whole_of (i.Begin n) = refl
 whole_of (i.Resume n) = refl
 whole_of (i.Deliver a b) = refl
 whole_of (i.Idle n s) = refl
 whole_of (i.Recover n) = refl
 
-pub whole_has_done : (g : GivenModel) (w : World) (x : Inner) (over : Option Done) → InnerHasDone g w x over → EventHasDone g w (event_of x) over
+pub whole_has_done : (g : GivenModel) (w : World) (x : Inner) (over : Option Done) → InnerHasDone g w x over → EventHasDone g w (uncut x) over
 whole_has_done g w (i.Begin n) over h = tt
 whole_has_done g w (i.Resume n) over h = h
 whole_has_done g w (i.Deliver a b) over h = tt
@@ -128,7 +129,7 @@ whole_has_done g w (i.Recover n) over h = tt
 -- ---- what is formed
 
 module _ (m : CoreModel) (x : Inner) (over : Option Done) (has : InnerHasDone m.given (world m) x over) where
-  pub formed_whole : form_at m.given m.moves x ≡ Does x → IsFormed m x over (event_of x)
+  pub formed_whole : form_at m.given m.moves x ≡ Does x → IsFormed m x over (uncut x)
   formed_whole is = record { is = whole_of x; form = form_is x ∙ sym is; done = whole_has_done m.given (world m) x over has }
 
   pub formed_cut : (bytes most : ℕ) → form_at m.given m.moves x ≡ Cuts (min bytes most) x → IsFormed m x over (e.CrashIn (min bytes most) x)

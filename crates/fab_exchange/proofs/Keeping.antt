@@ -16,7 +16,8 @@ use Rattle.fab_world.specs.Serial.{IsRun}
 use Rattle.fab_world.specs.Crashing.{KeepsLines, is_counted, is_crash, may_follow}
 use Rattle.fab_node.specs.Standing.{GivenModel, JournalModel}
 use Rattle.fab_core.specs.Cores.{CoreModel, failed_in, marked, setting, slot, unmarked, world_by}
-use Rattle.fab_core.specs.Moved.{IsCaused, IsCut, faults_in, move_by, node_at, sure_in}
+use Rattle.fab_net.specs.Events.{node_at}
+use Rattle.fab_core.specs.Moved.{IsCaused, IsCut, faults_in, move_by, sure_in}
 use Rattle.fab_core.specs.Telling.{JournalsGain, OnlyGainRoom}
 use Rattle.fab_core.specs.declared.applied.Applied.{Applied}
 use Rattle.fab_core.specs.declared.applied.Applied.TheVariants as a

@@ -11,7 +11,8 @@ use Rattle.fab_rights.specs.Computed.{is_node}
 use Rattle.fab_world.specs.Machine.{Enabled, Node, form_of, node_of}
 use Rattle.fab_node.specs.Standing.{GivenModel, JournalModel}
 use Rattle.fab_core.specs.Cores.{CoreModel, is_honest, setting, slot, unmarked, world, world_by}
-use Rattle.fab_core.specs.Moved.{IsCaused, IsCut, faults_in, move_by, node_at, sure_in}
+use Rattle.fab_net.specs.Events.{node_at}
+use Rattle.fab_core.specs.Moved.{IsCaused, IsCut, faults_in, move_by, sure_in}
 use Rattle.fab_core.specs.Telling.{IsJournalAt, JournalsGain, OnlyGainRoom}
 use Rattle.fab_core.specs.declared.applied.Applied.{Applied}
 use Rattle.fab_core.specs.declared.applied.Applied.TheVariants as a

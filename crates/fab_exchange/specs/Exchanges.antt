@@ -7,7 +7,8 @@ use Rattle.fab_world.specs.Crashing.{KeepsLines, crashes_of, events_of}
 use Rattle.fab_settings.specs.Settings.{lines_of}
 use Rattle.fab_node.specs.Standing.{JournalModel}
 use Rattle.fab_core.specs.Cores.{CoreModel, setting, slot}
-use Rattle.fab_core.specs.Moved.{faults_in, node_at, sure_in}
+use Rattle.fab_net.specs.Events.{node_at}
+use Rattle.fab_core.specs.Moved.{faults_in, sure_in}
 use Rattle.fab_exchange.specs.declared.counting.Count.{Count}
 
 -- a journal call failed in an event of this node

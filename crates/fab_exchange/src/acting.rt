@@ -9,13 +9,13 @@ ghost use Rattle.fab_exchange.specs.Exchanges.{AreCounts};
 ghost use Rattle.fab_exchange.specs.Turns.{AreAsSure, ChangeAt, HasCome, NoneCame, node_with};
 
 use crate::counting::Count;
-use crate::events::{counted_in, crashed_in, node_at, node_of, whole};
+use crate::events::{counted_in, crashed_in, whole};
 use crate::exchange::Exchange;
 use fab_base::NoMemory;
 use fab_core::{Applied, Core};
 use fab_device::Journal;
 use fab_eval::Done;
-use fab_net::{Event, Inner};
+use fab_net::{Event, Inner, node_at, node_of};
 
 /// Counts an event, which came whole or was cut for its journal.
 fn tally(counts: &mut Vec<Count>, event: Event, applied: Applied)

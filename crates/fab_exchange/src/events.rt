@@ -1,7 +1,6 @@
-//! The events of nodes: which node one is of, and what it adds to the counts.
+//! The events of nodes, and what one adds to the counts.
 ghost use Rattle.std.specs.Prelude.{◌≡◌};
-ghost use Rattle.fab_world.specs.Machine.{node_of as node_in};
-ghost use Rattle.fab_core.specs.Moved.{event_of as whole_by, node_at as node_by};
+ghost use Rattle.fab_net.specs.Events.{uncut as whole_by};
 ghost use Rattle.fab_core.specs.Planning.{IsUncut};
 ghost use Rattle.fab_exchange.specs.Tallies.{counted_in, crashed_in};
 
@@ -19,30 +18,6 @@ pub(crate) fn whole(inner: Inner) -> Event
         Inner::Deliver(sender, receiver) => Event::Deliver(sender, receiver),
         Inner::Idle(worker, node) => Event::Idle(worker, node),
         Inner::Recover(node) => Event::Recover(node),
-    }
-}
-
-/// The node that does it.
-pub(crate) fn node_of(inner: Inner) -> u16
-    ensures { result ≡ node_in inner }
-{
-    match inner {
-        Inner::Begin(node) | Inner::Resume(node) | Inner::Recover(node) => node,
-        Inner::Deliver(_, receiver) => receiver,
-        Inner::Idle(worker, _) => worker,
-    }
-}
-
-/// The node that an event is of.
-pub(crate) fn node_at(event: Event) -> u16
-    ensures { result ≡ node_by event }
-{
-    match event {
-        Event::Begin(node) | Event::Resume(node) | Event::Recover(node) => node,
-        Event::Post(node) | Event::Crash(node) => node,
-        Event::Deliver(_, receiver) => receiver,
-        Event::Idle(worker, _) => worker,
-        Event::CrashIn(_, inner) => node_of(inner),
     }
 }
 

@@ -18,7 +18,7 @@ use Rattle.fab_erasure.specs.Agreement.{IsIn, in_view, touch_in_view}
 use Rattle.fab_erasure.proofs.Views.{split_left, split_right}
 use Rattle.fab_fewer.specs.Asking.{IsKeptByAccess, is_asked_in_view, LearnsAsking, AsksInView, AsksAreInView}
 use Rattle.fab_fewer.proofs.Asking as a
-use Rattle.fab_fewer.proofs.Fewer.{ended_missing, failed_missing, stopped_missing, missing_one, missing_site}
+use Rattle.fab_laws.proofs.Locality.{ended_missing, failed_missing, stopped_missing, missing_one, missing_site}
 
 all_of : {A : Type 0} (P : A → Type 0) (xs : List A) → ((x : A) → IsIn x xs → P x) → AllByRecursion P xs
 all_of P [] h = tt

@@ -1,300 +1,67 @@
--- What a request does over fewer objects.
-use Rattle.std.proofs.Common.{◌≡◌, ◌≢◌, ◌⊎◌, inl, inr, ℕ, List, [], ◌∷◌, ◌++◌, Option, Some, None, Bool, true, false, ◌||◌, if◌then◌else◌, map, filter, refl, sym, ap, ◌∙◌, subst, true≢false, not}
-use Rattle.std.specs.List.{AllByRecursion}
+-- What somebody sees of a request over fewer objects.
+use Rattle.std.proofs.Common.{◌≡◌, ℕ, List, [], ◌∷◌, ◌++◌, Some, None, Bool, true, false, refl, sym, ap, ◌∙◌, subst, not}
 use Rattle.fab_base.specs.declared.object.Oid.{Oid}
 use Rattle.fab_base.specs.declared.object.Object.{Object}
-use Rattle.fab_base.specs.declared.object.Stop.{Stop}
-use Rattle.fab_base.specs.declared.object.Stop.TheVariants.{Fuel, Depth, Reads, Writes}
 use Rattle.fab_base.specs.declared.object.Tid.{Tid}
 use Rattle.fab_base.specs.declared.object.Value.{Value}
 use Rattle.fab_base.specs.FlatMap.{FlatMap, get, is_same}
-use Rattle.fab_map.proofs.Order.{one_name, same_self}
+use Rattle.fab_base.proofs.NameOrder.{one_name}
+use Rattle.fab_base.proofs.Names.{same_self}
 use Rattle.fab_tree.specs.declared.resolved.Request.{Request}
 use Rattle.fab_tree.specs.declared.resolved.Resolved.{Resolved}
-use Rattle.fab_language.specs.declared.ending.Ending.{Ending}
-use Rattle.fab_language.specs.declared.ending.Ending.TheVariants.{Ended, Failed, Stopped, Missing}
-use Rattle.fab_language.specs.Heaps.{Heap, is_among, is_changed, touched}
-use Rattle.fab_language.specs.Meaning.{State, failed, stopped, missing, Run, goes, ends, Meant, meant_at, meant_by, meaning, state_at_start}
-use Rattle.fab_laws.specs.Closed.{HasOne}
-use Rattle.fab_laws.specs.Locality.{IsPart, LacksToo, AgreesOn, IsSameOver}
-use Rattle.fab_laws.specs.Runs.{state_behind}
-use Rattle.fab_laws.proofs.Names.{among_once, or_true}
-use Rattle.fab_erasure.specs.Erased.{called, erased}
-use Rattle.fab_erasure.proofs.AllSeen.{all_seen}
-use Rattle.fab_erasure.proofs.Views.{get_shown, get_unshown}
-use Rattle.fab_fewer.specs.Fewer.{AreKnown, KnowsTouched, LacksLast, LacksAt, IsOverFewer, DoesOverFewer, DoesTheSame, less, DoesWithout, KnowsAllTouched, MeaningOverFewer}
-use Rattle.fab_fewer.proofs.Touches.{none_some, none_one, not_the_same, known_one, one_first, Lacking, known_or}
-use Rattle.fab_fewer.proofs.Walk as w
-use Rattle.fab_fewer.proofs.Walk.{both_go, both_end, short, last}
+use Rattle.fab_labelling.specs.Sites.{method_sites}
+use Rattle.fab_language.specs.Meaning.{State, Meant}
+use Rattle.fab_laws.specs.Locality.{IsPart, IsSameOver}
+use Rattle.fab_laws.proofs.Everywhere.{Anywhere}
+use Rattle.fab_laws.proofs.Fewer.{over, Near, Fewer, Keeps, both_go, steps}
+use Rattle.fab_laws.proofs.Kept.{get_shown, get_unshown}
+use Rattle.fab_laws.proofs.Locality as l
+use Rattle.fab_laws.proofs.Locality.{IsLocal, missing_full}
+use Rattle.fab_laws.proofs.Touches.{none_some}
+use Rattle.fab_erasure.specs.Erased as erase
+use Rattle.fab_erasure.specs.Erased.{called, erased, taken}
+use Rattle.fab_erasure.proofs.Everywhere as everywhere
+use Rattle.fab_erasure.proofs.Everywhere.{nowhere}
+use Rattle.fab_erasure.proofs.Grows.{grows_given}
+use Rattle.fab_fewer.specs.Fewer.{AreKnown, LacksAt, DoesOverFewer, DoesTheSame, less, DoesWithout, KnowsAllTouched, MeaningOverFewer}
 
--- ---- endings
-
-pub ended_missing : (v : Option Value) (site : ℕ) (o : Oid) → Ended v ≡ Missing site o → ⊥
-ended_missing v site o e = cc
-
-pub failed_missing : (site : ℕ) (o : Oid) → Failed ≡ Missing site o → ⊥
-failed_missing site o e = cc
-
-pub stopped_missing : (stop : Stop) (site : ℕ) (o : Oid) → Stopped stop ≡ Missing site o → ⊥
-stopped_missing stop site o e = cc
-
-pub missing_one : (site other : ℕ) (o p : Oid) → Missing site o ≡ Missing other p → o ≡ p
-missing_one site other o p e = cc
-
-pub missing_site : (site other : ℕ) (o p : Oid) → Missing site o ≡ Missing other p → site ≡ other
-missing_site site other o p e = cc
-
-pub missing_full : (site : ℕ) (o : Oid) → Missing site o ≡ Stopped Reads → ⊥
-missing_full site o e = cc
-
--- it was stopped for one touch too many, or it wasn't
-pub full_or : (e : Ending) → (e ≡ Stopped Reads) ⊎ (e ≢ Stopped Reads)
-full_or (Ended v) = inr (λ e. cc)
-full_or Failed = inr (λ e. cc)
-full_or (Stopped stop) = by_stop stop
+-- the given values are the same
+takes : (few many : FlatMap) (part : IsPart few many) (blank : Value) → Keeps few many part (erase.take_given blank)
+takes few many part blank = record { grows = grows_given blank; by = λ t k n w. by_given t k n w t.given }
   where
-    by_stop : (stop : Stop) → (Stopped stop ≡ Stopped Reads) ⊎ (Stopped stop ≢ Stopped Reads)
-    by_stop Fuel = inr (λ e. cc)
-    by_stop Depth = inr (λ e. cc)
-    by_stop Reads = inl refl
-    by_stop Writes = inr (λ e. cc)
-full_or (Missing site o) = inr (λ e. cc)
+    by_given : (t : State) (k : FlatMap) → Near few many part t.heap k → AreKnown few t.touches → (vs : List Value)
+        → Fewer few many part (taken blank vs t) (taken blank vs (over k t))
+    by_given t k n w [] = both_go blank t k n w
+    by_given t k n w (v ∷ vs) = both_go v (record t { given = vs }) k n w
 
-touches_of : (r : Run (Option Value)) → (meant_by r).touches ≡ (state_behind r).touches
-touches_of (goes v t) = refl
-touches_of (ends e t) = refl
-
-downs_of : (r : Run (Option Value)) → (meant_by r).downs ≡ (state_behind r).downs
-downs_of (goes v t) = refl
-downs_of (ends e t) = refl
-
--- ---- of two runs
-
-module _ (few many : FlatMap) (part : IsPart few many) where
-  abbrev Two : Run (Option Value) → Run (Option Value) → Type 0
-  Two = w.Fewer few many part
-
-  found_at : (o : Oid) (a : Heap) (k : FlatMap) → w.Near few many part a k → get k o ≡ (if is_changed o a then get a.rows o else get few o)
-  found_at o a k n = elim (is_changed o a) as (λ b. is_changed o a ≡ b → get k o ≡ (if b then get a.rows o else get few o)) [ true ↦ n.same o | false ↦ n.few_else o ] refl
-
-  alike : (e : Ending) (t : State) (k : FlatMap) → w.Near few many part t.heap k → IsSameOver few (meant_at e t) (meant_at e (w.over k t))
-  alike e t k n = record { ending = refl; touches = refl; downs = refl; written = refl; made = refl; map = λ o. found_at o t.heap k n }
-
-  -- where all is known, nothing is lacked
-  all_known : (ts before : List (ℕ × Oid)) (site : ℕ) (o : Oid) (after : List (ℕ × Oid)) → AreKnown few ts → ts ≡ before ++ (site, o) ∷ after → get few o ≡ None → ⊥
-  all_known ts before site o after w e z = none_one few o z (known_one few ts before (site, o) after e w)
-
-  like : (e : Ending) (t : State) (k : FlatMap) → w.Near few many part t.heap k → AreKnown few t.touches → IsOverFewer few many (meant_at e t) (meant_at e (w.over k t))
-  like e t k n w = record {
-    same = λ v i. alike e t k n;
-    ascending = λ v i. n.up;
-    full = λ v i. inl (alike e t k n);
-    lacks = λ before site o after i v z. absurd (all_known t.touches before site o after w i z);
-  }
-
-  fewer_lacks : (site : ℕ) (o : Oid) (u : State) (r : Run (Option Value)) → get few o ≡ None → AreKnown few u.touches → w.Began few many part u site o (state_behind r)
-      → IsOverFewer few many (meant_by r) (meant_at (Missing site o) u)
-  fewer_lacks site o u r z w b =
-      let is = touches_of r ∙ b.touches.1 in
-      record {
-        same = λ v i. absurd (none_one few o z (known_one few (meant_by r).touches u.touches (site, o) b.touches.0 is v));
-        ascending = λ v i. absurd (none_one few o z (known_one few (meant_by r).touches u.touches (site, o) b.touches.0 is v));
-        full = λ v i. absurd (none_one few o z (known_one few (meant_by r).touches u.touches (site, o) b.touches.0 is v));
-        lacks = λ before other p after i v y.
-            let first = one_first few u.touches before (site, o) (other, p) b.touches.0 after w v z y (sym is ∙ i) in
-            record {
-              ending = ap (λ (t : ℕ × Oid). Missing t.0 t.1) first.1;
-              touches = first.0;
-              downs = record { rest = b.downs.0; is = sym b.downs.1 ∙ sym (downs_of r) };
-            };
-      }
-
-  fewer_last : (site : ℕ) (o : Oid) (t : State) (k : FlatMap) → get few o ≡ None → HasOne many o → w.Near few many part t.heap k → AreKnown few t.touches
-      → IsOverFewer few many (meant_at (Stopped Reads) t) (meant_at (Missing site o) (w.over k t))
-  fewer_last site o t k z c n w = record {
-    same = λ v i. absurd (i refl);
-    ascending = λ v i. absurd (i refl);
-    full = λ v i. inr (record { site = site; object = o; unknown = z; there = c; ending = refl; touches = refl; downs = refl; written = refl; made = refl });
-    lacks = λ before other p after i v y. absurd (all_known t.touches before other p after w i y);
-  }
-
-  over_fewer : (r q : Run (Option Value)) → Two r q → IsOverFewer few many (meant_by r) (meant_by q)
-  over_fewer _ _ (both_go v t k n w) = like (Ended v) t k n w
-  over_fewer _ _ (both_end failed t k n w i) = like Failed t k n w
-  over_fewer _ _ (both_end (stopped stop) t k n w i) = like (Stopped stop) t k n w
-  over_fewer _ _ (both_end (missing site o) t k n w i) = like (Missing site o) t k n w
-  over_fewer r _ (short site o u z i w b c) = fewer_lacks site o u z i w b
-  over_fewer _ _ (last site o t k i c n w) = fewer_last site o t k i c n w
-
-  -- the same state is behind both
-  pub record Knows (meant : Meant) : Type 0 where
-    pub touched : AreKnown few meant.touches
-    pub missing : (site : ℕ) (o : Oid) → meant.ending ≡ Missing site o → get many o ≡ None
-
-  knows : (r q : Run (Option Value)) → Two r q → state_behind r ≡ state_behind q → Knows (meant_by r)
-  knows _ _ (both_go v t k n w) e = record { touched = w; missing = λ site o i. absurd (ended_missing v site o i) }
-  knows _ _ (both_end failed t k n w i) e = record { touched = w; missing = λ site o j. absurd (failed_missing site o j) }
-  knows _ _ (both_end (stopped stop) t k n w i) e = record { touched = w; missing = λ site o j. absurd (stopped_missing stop site o j) }
-  knows _ _ (both_end (missing site o) t k n w i) e = record { touched = w; missing = λ other p j. subst (λ q. get many q ≡ None) (missing_one site other o p j) i }
-  knows r _ (short site o u z i w b c) e = absurd (not_the_same u.touches (site, o) b.touches.0 (sym (ap (λ (t : State). t.touches) e) ∙ b.touches.1))
-  knows _ _ (last site o t k i c n w) e = record { touched = w; missing = λ other p j. absurd (stopped_missing Reads other p j) }
-
-  at_start : w.Near few many part (record { rows = many; written = []; made = [] }) few
-  at_start = record {
-    there = λ o e. absurd (true≢false (sym e));
-    same = λ o e. absurd (true≢false (sym e));
-    many_else = λ o e. refl;
-    few_else = λ o e. refl;
-    written = λ o e. absurd (true≢false (sym e));
-    up = λ h. h;
-  }
-
-  module _ (sees shows : ℕ → Bool) (r : Resolved) (request : Request) (tid : Tid) (fuel : ℕ) (given : List Value) where
-    abbrev start : FlatMap → State
-    start m = record (state_at_start m fuel) { given = given }
-
-    abbrev run : FlatMap → Run (Option Value)
-    run m = called sees shows r tid 64 request.method request.args (start m)
-
-    pub two : Two (run many) (run few)
-    two = (w.all_calls few many part sees shows r tid 64 request.method request.args).by (start many) few at_start tt
-
-    pub does : IsOverFewer few many (erased sees shows r many request tid fuel given) (erased sees shows r few request tid fuel given)
-    does = over_fewer (run many) (run few) two
-
-itself : (m : FlatMap) → IsPart m m
-itself m o x e = e
+module _ (sees shows : ℕ → Bool) (r : Resolved) (request : Request) (tid : Tid) where
+  local : IsLocal (called sees shows r tid 64 request.method request.args)
+  local few many part =
+      everywhere.all_calls (λ A m. Keeps few many part {A = A} m) Anywhere sees shows
+      (record { steps = steps few many part Anywhere shows; took = takes few many part }) r tid
+      (λ i m e. nowhere sees (method_sites r.classes m)) 64 request.method request.args
 
 pub does_over_fewer : DoesOverFewer
-does_over_fewer sees shows r request tid fuel given few many part = does few many part sees shows r request tid fuel given
+does_over_fewer sees shows r request tid fuel given = l.law (called sees shows r tid 64 request.method request.args) (local sees shows r request tid) fuel given
 
 pub knows_all_touched : KnowsAllTouched
 knows_all_touched sees shows r known request tid fuel given =
-    let k = knows known known (itself known) (run known known (itself known) sees shows r request tid fuel given known) (run known known (itself known) sees shows r request tid fuel given known)
-    (two known known (itself known) sees shows r request tid fuel given) refl in
-    record { touched = k.touched; missing = k.missing }
+    l.knows_own (called sees shows r tid 64 request.method request.args) (local sees shows r request tid) fuel given known
+
+pub does_the_same : DoesTheSame
+does_the_same sees shows r request tid fuel given = l.same_over (called sees shows r tid 64 request.method request.args) (local sees shows r request tid) fuel given
 
 pub meaning_over_fewer : MeaningOverFewer
-meaning_over_fewer r request tid fuel few many part =
-    subst (λ q. IsOverFewer few many (meaning r many request tid fuel) q) (all_seen r few request tid fuel)
-    (subst (λ q. IsOverFewer few many q (erased (λ l. true) (λ c. true) r few request tid fuel [])) (all_seen r many request tid fuel)
-    (does_over_fewer (λ l. true) (λ c. true) r request tid fuel [] few many part))
-
--- ---- two maps that agree
+meaning_over_fewer = l.meaning_over_fewer
 
 module _ (sees shows : ℕ → Bool) (r : Resolved) (request : Request) (tid : Tid) (fuel : ℕ) (given : List Value) where
-  abbrev over : FlatMap → Meant
-  over m = erased sees shows r m request tid fuel given
-
-  law : (few many : FlatMap) → IsPart few many → IsOverFewer few many (over many) (over few)
-  law few many part = does_over_fewer sees shows r request tid fuel given few many part
-
-  knows_own : (m : FlatMap) → KnowsTouched m (over m)
-  knows_own m = knows_all_touched sees shows r m request tid fuel given
-
-  same_or : (few many : FlatMap) → (part : IsPart few many) → AreKnown few (over many).touches → IsSameOver few (over many) (over few) ⊎ LacksLast few many (over many) (over few)
-  same_or few many part w = by_full (full_or (over many).ending)
-    where
-      by_full : ((over many).ending ≡ Stopped Reads) ⊎ ((over many).ending ≢ Stopped Reads) → IsSameOver few (over many) (over few) ⊎ LacksLast few many (over many) (over few)
-      by_full (inl e) = (law few many part).full w e
-      by_full (inr e) = inl ((law few many part).same w e)
-
-  -- over one map it is what it is
-  own : (m : FlatMap) → IsSameOver m (over m) (over m)
-  own m = by_case (same_or m m (itself m) (knows_own m).touched)
-    where
-      by_case : IsSameOver m (over m) (over m) ⊎ LacksLast m m (over m) (over m) → IsSameOver m (over m) (over m)
-      by_case (inl s) = s
-      by_case (inr l) = absurd (none_one m l.object l.unknown l.there)
-
-  module _ (this that few : FlatMap) (s : IsSameOver few (over this) (over few)) where
-    is_changed_by : Meant → Oid → Bool
-    is_changed_by m o = is_among o m.made || is_among o m.written
-
-    -- both do what is done over the few
-    both : IsSameOver few (over that) (over few) → IsSameOver that (over this) (over that)
-    both z = record {
-      ending = sym z.ending ∙ s.ending;
-      touches = sym z.touches ∙ s.touches;
-      downs = sym z.downs ∙ s.downs;
-      written = written;
-      made = made;
-      map = λ o. by_change o (is_among o (over this).made || is_among o (over this).written) refl;
-    }
-      where
-        written : (over that).written ≡ (over this).written
-        written = sym z.written ∙ s.written
-
-        made : (over that).made ≡ (over this).made
-        made = sym z.made ∙ s.made
-
-        changes : (o : Oid) → (is_among o (over that).made || is_among o (over that).written) ≡ (is_among o (over this).made || is_among o (over this).written)
-        changes o = ap (λ l. is_among o l || is_among o (over that).written) made ∙ ap (λ l. is_among o (over this).made || is_among o l) written
-
-        by_change : (o : Oid) (b : Bool) → (is_among o (over this).made || is_among o (over this).written) ≡ b → get (over that).map o ≡ (if b then get (over this).map o else get that o)
-        by_change o true e =
-            sym (z.map o ∙ ap (λ b. if b then get (over that).map o else get few o) (changes o ∙ e))
-            ∙ s.map o ∙ ap (λ b. if b then get (over this).map o else get few o) e
-        by_change o false e = (own that).map o ∙ ap (λ b. if b then get (over that).map o else get that o) (changes o ∙ e)
-
-    meets : IsPart few that → LacksToo that (over this) → IsSameOver that (over this) (over that)
-    meets part lacks = by_known (known_or few (over that).touches)
-      where
-        by_last : IsSameOver few (over that) (over few) ⊎ LacksLast few that (over that) (over few) → IsSameOver that (over this) (over that)
-        by_last (inl z) = both z
-        by_last (inr l) = absurd (none_one that l.object (lacks l.site l.object (sym s.ending ∙ l.ending)) l.there)
-
-        by_known : AreKnown few (over that).touches ⊎ Lacking few (over that).touches → IsSameOver that (over this) (over that)
-        by_known (inl w) = by_last (same_or few that part w)
-        by_known (inr l) =
-            let missed = (law few that part).lacks l.before l.one.0 l.one.1 l.after l.is l.known l.unknown in
-            absurd (none_one that l.one.1 (lacks l.one.0 l.one.1 (sym s.ending ∙ missed.ending)) (known_one that (over that).touches l.before l.one l.after l.is (knows_own that).touched))
-
-  -- the rows of what is touched
-  module _ (this that : FlatMap) (agrees : AgreesOn this that (over this)) where
-    is_touched : Oid → Bool
-    is_touched o = is_among o (touched (over this).touches)
-
-    touched_rows : FlatMap
-    touched_rows = filter (λ (row : Oid × Object). is_among row.0 (touched (over this).touches)) this
-
-    part_of_both : (o : Oid) (x : Object) (b : Bool) → is_among o (touched (over this).touches) ≡ b → get touched_rows o ≡ Some x → (get this o ≡ Some x) × (get that o ≡ Some x)
-    unfolding touched_rows
-    part_of_both o x true i e =
-        let here = sym (get_shown (λ p. is_among p (touched (over this).touches)) o this i) ∙ e in
-        (here, agrees.at_touched o x i here)
-    part_of_both o x false i e = absurd (none_some x (sym (get_unshown (λ p. is_among p (touched (over this).touches)) o this i) ∙ e))
-
-    still_known : (ts : List (ℕ × Oid)) → AllByRecursion (λ t. is_among t.1 (touched (over this).touches) ≡ true) ts → AreKnown this ts → AreKnown touched_rows ts
-    unfolding touched_rows
-    still_known [] i w = tt
-    still_known (t ∷ ts) i w = ((w.0.0, get_shown (λ p. is_among p (touched (over this).touches)) t.1 this i.0 ∙ w.0.1), still_known ts i.1 w.1)
-
-    all_touched : AllByRecursion (λ t. is_among t.1 (touched (over this).touches) ≡ true) (over this).touches
-    all_touched = each (over this).touches (λ o i. among_once o (map (λ (t : ℕ × Oid). t.1) (over this).touches) ∙ i)
-      where
-        each : (ts : List (ℕ × Oid)) → ((o : Oid) → is_among o (map (λ (t : ℕ × Oid). t.1) ts) ≡ true → is_among o (touched (over this).touches) ≡ true)
-            → AllByRecursion (λ t. is_among t.1 (touched (over this).touches) ≡ true) ts
-        each [] f = tt
-        each (t ∷ ts) f = (
-          f t.1 (ap (λ b. b || is_among t.1 (map (λ (t : ℕ × Oid). t.1) ts)) (same_self t.1)),
-          each ts (λ o i. f o (ap (λ b. is_same t.1 o || b) i ∙ or_true (is_same t.1 o))),
-        )
-
-    by_full : ((over this).ending ≡ Stopped Reads) ⊎ ((over this).ending ≢ Stopped Reads) → IsSameOver that (over this) (over that)
-    by_full (inl e) = meets this that this (own this) (agrees.at_full e) agrees.at_missing
-    by_full (inr e) =
-        let s = (law touched_rows this (λ o x i. (part_of_both o x (is_among o (touched (over this).touches)) refl i).0)).same
-        (still_known (over this).touches all_touched (knows_own this).touched) e in
-        meets this that touched_rows s (λ o x i. (part_of_both o x (is_among o (touched (over this).touches)) refl i).1) agrees.at_missing
-
-    pub same_over : IsSameOver that (over this) (over that)
-    same_over = by_full (full_or (over this).ending)
+  abbrev done : FlatMap → Meant
+  done m = erased sees shows r m request tid fuel given
 
   -- ---- the many without the first object that is lacked
 
   module _ (few many : FlatMap) (part : IsPart few many) (before : List (ℕ × Oid)) (site : ℕ) (o : Oid) (after : List (ℕ × Oid))
-      (is : (over many).touches ≡ before ++ (site, o) ∷ after) (known : AreKnown few before) (unknown : get few o ≡ None) where
+      (is : (done many).touches ≡ before ++ (site, o) ∷ after) (known : AreKnown few before) (unknown : get few o ≡ None) where
     other : (p : Oid) (x : Object) → get few p ≡ Some x → not (is_same p o) ≡ true
     other p x e = by_name (is_same p o) refl
       where
@@ -317,16 +84,14 @@ module _ (sees shows : ℕ → Bool) (r : Resolved) (request : Request) (tid : T
     known_in_less (t ∷ ts) k = ((k.0.0, few_in_less t.1 k.0.0 k.0.1), known_in_less ts k.1)
 
     -- the same object is lacked there
-    there : LacksAt before site o (over many) (over (less o many))
-    there = (law (less o many) many less_in_many).lacks before site o after is (known_in_less before known)
+    there : LacksAt before site o (done many) (done (less o many))
+    there = (does_over_fewer sees shows r request tid fuel given (less o many) many less_in_many).lacks before site o after is (known_in_less before known)
         (get_unshown (λ q. not (is_same q o)) o many (ap not (same_self o)))
 
-    pub same_without : IsSameOver few (over (less o many)) (over few)
-    same_without = (law few (less o many) few_in_less).same (subst (AreKnown few) (sym there.touches) known) (λ e. missing_full site o (sym there.ending ∙ e))
+    pub same_without : IsSameOver few (done (less o many)) (done few)
+    same_without = (does_over_fewer sees shows r request tid fuel given few (less o many) few_in_less).same (subst (AreKnown few) (sym there.touches) known)
+        (λ e. missing_full site o (sym there.ending ∙ e))
 
 pub does_without : DoesWithout
 does_without sees shows r request tid fuel given few many part before site o after is known unknown =
     same_without sees shows r request tid fuel given few many part before site o after is known unknown
-
-pub does_the_same : DoesTheSame
-does_the_same sees shows r request tid fuel given this that agrees = same_over sees shows r request tid fuel given this that agrees

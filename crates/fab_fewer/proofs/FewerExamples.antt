@@ -24,7 +24,7 @@ use Rattle.fab_language.specs.declared.ending.Ending.TheVariants.{Ended, Stopped
 use Rattle.fab_language.specs.Meaning.{Meant, meaning}
 use Rattle.fab_language.proofs.Forms.{expression_at, local_means, read_means, assign_means, write_means}
 use Rattle.fab_fewer.specs.Fewer.{AreKnown, KnowsTouched, LacksLast, IsOverFewer, less}
-use Rattle.fab_fewer.proofs.Touches.{none_one, one_first}
+use Rattle.fab_laws.proofs.Touches.{none_one, one_first}
 
 -- ---- two roots of one class, which has a number
 

@@ -8,7 +8,7 @@ use Rattle.fab_base.specs.declared.object.Stop.TheVariants.{Reads}
 use Rattle.fab_base.specs.declared.object.Tid.{Tid}
 use Rattle.fab_base.specs.declared.object.Value.{Value}
 use Rattle.fab_base.specs.FlatMap.{FlatMap, get, is_same, ascends}
-use Rattle.fab_map.proofs.Order.{one_name}
+use Rattle.fab_base.proofs.NameOrder.{one_name}
 use Rattle.fab_tree.specs.declared.resolved.Request.{Request}
 use Rattle.fab_tree.specs.declared.resolved.Resolved.{Resolved}
 use Rattle.fab_language.specs.declared.ending.Ending.{Ending}
@@ -17,16 +17,16 @@ use Rattle.fab_language.specs.Heaps.{is_among, touched}
 use Rattle.fab_language.specs.Meaning.{gives, Meant, meant_by, meaning, state_at_start}
 use Rattle.fab_laws.specs.Locality.{IsPart, IsSameOver}
 use Rattle.fab_laws.specs.Shapes.{IsFitting, AreShaped}
-use Rattle.fab_laws.proofs.Locality.{goes_on}
+use Rattle.fab_laws.proofs.Kept.{get_shown}
+use Rattle.fab_laws.proofs.Locality.{goes_on, meaning_knows, missing_full}
 use Rattle.fab_erasure.specs.Erased as erase
 use Rattle.fab_erasure.specs.Erased.{erased, blank_result, skips, called}
 use Rattle.fab_erasure.specs.Agreement.{touch_in_view, touches_in_view, goes_into_view, given_by, rows_shown, begins_in_view, IsView, IsSettled, IsFront, Agrees}
 use Rattle.fab_erasure.proofs.Agrees.{erasure_agrees}
-use Rattle.fab_erasure.proofs.AllSeen.{all_seen}
-use Rattle.fab_erasure.proofs.Views.{get_shown, among_seen}
-use Rattle.fab_fewer.specs.Fewer.{AreKnown, KnowsTouched, IsOverFewer}
+use Rattle.fab_erasure.proofs.Views.{among_seen}
+use Rattle.fab_fewer.specs.Fewer.{AreKnown, IsOverFewer}
 use Rattle.fab_fewer.specs.InPart.{IsSameInView, AgreesInPart, WroteInView, ViewsReplay}
-use Rattle.fab_fewer.proofs.Fewer.{missing_full, does_over_fewer, knows_all_touched}
+use Rattle.fab_fewer.proofs.Fewer.{does_over_fewer}
 
 ended_full : (v : Option Value) → Ended v ≡ Stopped Reads → ⊥
 ended_full v e = cc
@@ -162,7 +162,7 @@ front_of p xs ys m = record { rest = filter p m.0; is = sym (ap (filter p) m.1 �
 
 pub views_replay : ViewsReplay
 views_replay sees shows r view = record {
-  known = λ answers request tid fuel. subst (KnowsTouched answers) (all_seen r answers request tid fuel) (knows_all_touched (λ l. true) (λ c. true) r answers request tid fuel []);
+  known = λ answers request tid fuel. meaning_knows r request tid fuel answers;
   grows = λ answers more request tid fuel part.
       let g = goes_on answers more r request tid fuel part in
       record {

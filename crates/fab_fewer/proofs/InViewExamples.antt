@@ -27,7 +27,7 @@ use Rattle.fab_erasure.specs.Agreement.{in_view, touches_in_view}
 use Rattle.fab_fewer.specs.Asking.{IsKeptByAccess, LearnsAsking, AsksInView}
 use Rattle.fab_fewer.specs.Fewer.{AreKnown}
 use Rattle.fab_fewer.specs.InPart.{IsSameInView, AgreesInPart, GrowsInView}
-use Rattle.fab_fewer.proofs.Touches.{none_one, known_one}
+use Rattle.fab_laws.proofs.Touches.{none_one, known_one}
 
 -- label 0 is seen, and so is class 0
 abbrev sees : ℕ → Bool

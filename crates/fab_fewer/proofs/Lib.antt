@@ -1,5 +1,3 @@
-pub mod Touches
-pub mod Walk
 pub mod Fewer
 pub mod InPart
 pub mod Blanks

@@ -1,5 +1,5 @@
 -- A bundle within the limits whose names are all declared has principals behind all its numbers.
-use Rattle.std.proofs.Common.{◌≡◌, ℕ, zero, suc, ◌<◌, ◌≤◌, Bool, true, false, not, cond, List, [], ◌∷◌, ◌++◌, length, map, Option, Some, None, All, Contains, slice_get, refl, sym, ap, ◌∙◌, subst, arith}
+use Rattle.std.proofs.Common.{◌≡◌, ℕ, suc, ◌<◌, ◌≤◌, Bool, true, false, not, cond, List, [], ◌∷◌, ◌++◌, length, map, Option, Some, None, All, Contains, slice_get, refl, sym, ap, ◌∙◌, subst, arith}
 use Rattle.std.specs.List.{flat_map, filter, find, position_or_len}
 use Rattle.std.specs.Option.{is_none}
 use Rattle.std.proofs.lemmas.Bool.{ltb-false, false≢true}
@@ -7,7 +7,7 @@ use Rattle.std.proofs.lemmas.List.Elements.{All-nil, All-cons, All-map, All-filt
 use Rattle.std.proofs.lemmas.List.Folds.{find_at}
 use Rattle.std.proofs.lemmas.Option.{slice_get_within, get_or_from_slice_get}
 use Rattle.fab_base.specs.declared.limit.What.TheVariants.{Principals}
-use Rattle.fab_tree.specs.declared.name.Name.{Name}
+use Rattle.fab_base.proofs.Lists.{left_nil, right_nil}
 use Rattle.fab_tree.specs.declared.declaration.Node.{Node}
 use Rattle.fab_tree.specs.declared.declaration.Delegation.{Delegation}
 use Rattle.fab_tree.specs.declared.declaration.PolicyText.{PolicyText}
@@ -16,26 +16,19 @@ use Rattle.fab_tree.specs.declared.start.Start.{Start}
 use Rattle.fab_tree.specs.declared.resolved.NamedLabel.{NamedLabel}
 use Rattle.fab_tree.specs.declared.resolved.Resolved.{Resolved}
 use Rattle.fab_tree.specs.Limits.{is_node, passes, first_passed}
-use Rattle.fab_language.specs.Names.{named, number_of, node_name, is_same_name}
+use Rattle.fab_language.specs.Names.{node_name}
 use Rattle.fab_language.specs.Uses.{principal_number}
-use Rattle.fab_language.specs.Unknown.{if_found, in_principal, in_delegation, in_policy, in_label_text, in_class, in_method, in_root, in_session, in_post, in_crash, in_event, unknown}
+use Rattle.fab_language.specs.Unknown.{in_principal, in_delegation, in_policy, in_label_text, in_class, in_method, in_root, in_session, in_post, in_crash, in_event, unknown}
 use Rattle.fab_language.specs.Doubled.{doubled}
 use Rattle.fab_language.specs.Roles.{misplaced}
 use Rattle.fab_language.specs.Arity.{miscounted}
 use Rattle.fab_language.specs.Types.{mistyped}
 use Rattle.fab_language.specs.Faults.{faults}
 use Rattle.fab_language.specs.Numbers.{principals_from, pair_of, policy_of, is_of_readers, said_by, label_of, resolved}
+use Rattle.fab_language.proofs.Named.{number_below}
 use Rattle.fab_flows.specs.Numbers.{AreOwned, HasOwners, HasPrincipals}
 
 -- ---- empty lists
-
-pub left_nil : {A : Type 0} (xs ys : List A) → xs ++ ys ≡ [] → xs ≡ []
-left_nil [] ys e = refl
-left_nil (x ∷ xs) ys e = absurd (omega (arith, ap length e))
-
-pub right_nil : {A : Type 0} (xs ys : List A) → xs ++ ys ≡ [] → ys ≡ []
-right_nil [] ys e = e
-right_nil (x ∷ xs) ys e = absurd (omega (arith, ap length e))
 
 -- lists made of each element that are empty together are empty each
 pub each_nil : {X A : Type 0} (f : X → List A) (xs : List X) → flat_map f xs ≡ [] → All (λ x. f x ≡ []) xs
@@ -43,12 +36,6 @@ each_nil f [] e = All-nil (λ x. f x ≡ [])
 each_nil f (x ∷ xs) e = All-cons (λ y. f y ≡ []) x xs (left_nil (f x) (flat_map f xs) e) (each_nil f xs (right_nil (f x) (flat_map f xs) e))
 
 -- ---- a name that is found
-
-pub number_below : {A : Type 0} (name : A → Name) (items : List A) (x : Name) → if_found (named name items x) x ≡ [] → number_of name items x < length items
-number_below name [] x e = absurd (omega (arith, ap length e))
-number_below name (y ∷ ys) x e =
-    (elim (is_same_name (name y) x) as (λ v. if_found (cond v (Some y) (named name ys x)) x ≡ [] → cond v zero (suc (number_of name ys x)) < suc (length ys))
-    [ true ↦ λ f. omega arith | false ↦ λ f. let below = number_below name ys x f in omega arith ]) e
 
 -- ---- the principals
 

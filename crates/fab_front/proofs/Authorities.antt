@@ -2,6 +2,7 @@
 use Rattle.std.proofs.Common.{◌≡◌, ℕ, ◌<◌, ◌≤◌, List, [], ◌∷◌, ◌++◌, length, None, All, sym, subst, arith}
 use Rattle.std.specs.List.{flat_map}
 use Rattle.std.proofs.lemmas.List.Elements.{All-nil, All-cons, All-map, All-weaker}
+use Rattle.fab_base.proofs.Lists.{left_nil, right_nil}
 use Rattle.fab_tree.specs.declared.name.Name.{Name}
 use Rattle.fab_tree.specs.declared.program.Method.{Method}
 use Rattle.fab_tree.specs.declared.start.Start.{Start}
@@ -19,7 +20,8 @@ use Rattle.fab_language.specs.Types.{mistyped}
 use Rattle.fab_language.specs.Faults.{faults}
 use Rattle.fab_language.specs.MethodNumbers.{method_of, methods_of}
 use Rattle.fab_language.specs.Numbers.{resolved}
-use Rattle.fab_flows.proofs.Declared.{left_nil, right_nil, each_nil, number_below, few_principals, first_of}
+use Rattle.fab_language.proofs.Named.{number_below}
+use Rattle.fab_flows.proofs.Declared.{each_nil, few_principals, first_of}
 use Rattle.fab_flows.specs.Numbers.{HasPrincipals}
 use Rattle.fab_authority.specs.Authority.{HasFew}
 

@@ -3,6 +3,7 @@ use Rattle.std.proofs.Common.{ℕ, List, [], ◌∷◌, ◌++◌, map, length, O
 use Rattle.std.specs.Prelude.{slice_get}
 use Rattle.std.specs.List.{AllByRecursion, flat_map}
 use Rattle.std.proofs.lemmas.List.Elements.{recursion_from_All}
+use Rattle.fab_base.proofs.Lists.{all_split, all_flat}
 use Rattle.fab_tree.specs.declared.resolved.Right.{Right}
 use Rattle.fab_tree.specs.declared.resolved.Right.TheVariants as rights
 use Rattle.fab_tree.specs.declared.resolved.Statement.{Statement, ind-Statement, roll-Statement, fold-roll-Statement, map-Statement}
@@ -16,7 +17,7 @@ use Rattle.fab_labelling.specs.Obligations.{Owed, part, under, all_flow, to_each
 use Rattle.fab_labelling.specs.Claims.{Holds, IsWellLabelled}
 use Rattle.fab_laws.specs.Kinds.{Kind, parameter_kinds, class_kinds, local_kinds, Claim, each_given, kind_of, right_claims, all_of, statement_claims_step, statement_claims, block_claims, method_claims, claims_of}
 use Rattle.fab_laws.proofs.Values.{all_joined, all_more}
-use Rattle.fab_shapes.proofs.Lists.{in_both, in_each, of_each}
+use Rattle.fab_shapes.proofs.Lists.{in_each}
 use Rattle.fab_held.specs.Held.{IsHeld, MakesHeld}
 
 module _ (r : Resolved) where
@@ -68,7 +69,7 @@ module _ (r : Resolved) where
     each : (ks : List Known) (pc : List ℕ) (failure : Option ℕ) → AllKept (all_owe (plain ks) pc failure) → AllMade (all_claims (plain ks))
     each [] pc failure h = tt
     each (k ∷ ks) pc failure h =
-        let p = in_both Kept (owes k.0 pc failure) (all_owe (plain ks) pc failure) h in
+        let p = all_split Kept (owes k.0 pc failure) (all_owe (plain ks) pc failure) h in
         all_joined (MakesHeld r) (claims k.0) (all_claims (plain ks)) (k.1.makes pc failure p.0) (each ks pc failure p.1)
 
     abbrev pieces : s.Statement-F Known → s.Statement-F Statement
@@ -79,23 +80,23 @@ module _ (r : Resolved) where
         → AllMade (statement_claims_step r.classes r.methods kinds (map-Statement Statement (List Claim) claims (pieces y)))
     layer (s.Assign x w at) pc failure h =
         let flowing = to_each (all_flow Write at (pc ++ right_labels r.classes r.methods locals authority w)) (label_of_local (slice_get locals x)) in
-        (tt, right_made w pc failure (in_both Kept (right_owes r.classes r.methods locals authority pc failure w) flowing h).0)
+        (tt, right_made w pc failure (all_split Kept (right_owes r.classes r.methods locals authority pc failure w) flowing h).0)
     layer (s.Write x field e site) pc failure h = (tt, tt)
     layer (s.Call x es) pc failure h = (tt, given_made (parameter_kinds (slice_get r.methods x.number)) (map (kind_of r.classes r.methods kinds) es))
     layer (s.If e a b) pc failure h =
         let inside = under pc (part r.classes locals e).labels in
         let tested = (part r.classes locals e).owes pc failure in
-        let p = in_both Kept (tested ++ all_owe (plain a) inside failure) (all_owe (plain b) inside failure) h in
-        let q = in_both Kept tested (all_owe (plain a) inside failure) p.0 in
+        let p = all_split Kept (tested ++ all_owe (plain a) inside failure) (all_owe (plain b) inside failure) h in
+        let q = all_split Kept tested (all_owe (plain a) inside failure) p.0 in
         all_joined (MakesHeld r) (all_claims (plain a)) (all_claims (plain b)) (each a inside failure q.1) (each b inside failure p.1)
     layer (s.While e a) pc failure h =
         let inside = under pc (part r.classes locals e).labels in
-        each a inside failure (in_both Kept ((part r.classes locals e).owes pc failure) (all_owe (plain a) inside failure) h).1
+        each a inside failure (all_split Kept ((part r.classes locals e).owes pc failure) (all_owe (plain a) inside failure) h).1
     layer (s.Atomic x a b at) pc failure h =
         let inside = under pc (x.number ∷ []) in
         let begun = all_flow Atomic at pc x.number in
-        let p = in_both Kept (begun ++ all_owe (plain a) inside (Some x.number)) (all_owe (plain b) inside failure) h in
-        let q = in_both Kept begun (all_owe (plain a) inside (Some x.number)) p.0 in
+        let p = all_split Kept (begun ++ all_owe (plain a) inside (Some x.number)) (all_owe (plain b) inside failure) h in
+        let q = all_split Kept begun (all_owe (plain a) inside (Some x.number)) p.0 in
         all_joined (MakesHeld r) (all_claims (plain a)) (all_claims (plain b)) (each a inside (Some x.number) q.1) (each b inside failure p.1)
     layer (s.Fail at) pc failure h = tt
 
@@ -109,7 +110,7 @@ module _ (r : Resolved) where
     block_made : (xs : List Statement) (pc : List ℕ) (failure : Option ℕ) → AllKept (block_owes r.classes r.methods locals authority xs pc failure) → AllMade (block_claims r.classes r.methods kinds xs)
     block_made [] pc failure h = tt
     block_made (x ∷ xs) pc failure h =
-        let p = in_both Kept (owes x pc failure) (all_owe xs pc failure) h in
+        let p = all_split Kept (owes x pc failure) (all_owe xs pc failure) h in
         all_joined (MakesHeld r) (claims x) (all_claims xs) ((statements x).makes pc failure p.0) (block_made xs pc failure p.1)
 
   method_made : (m : Method) → AllKept (method_owes r.classes r.methods m) → AllMade (method_claims r.classes r.methods m)
@@ -117,7 +118,7 @@ module _ (r : Resolved) where
       let pc = m.begin.number ∷ [] in
       let body = block_owes r.classes r.methods m.locals (authority_of m) m.body pc (failure_of m) in
       let result = return_owes r.classes r.methods m.locals (authority_of m) m.returns m.result pc (failure_of m) in
-      (tt, block_made m.locals (authority_of m) (local_kinds m) m.body pc (failure_of m) (in_both Kept body result h).0)
+      (tt, block_made m.locals (authority_of m) (local_kinds m) m.body pc (failure_of m) (all_split Kept body result h).0)
 
   -- ---- the whole
 
@@ -126,11 +127,11 @@ module _ (r : Resolved) where
     methods_and_roots =
         let methods = flat_map (method_owes r.classes r.methods) r.methods in
         let sessions = flat_map (session_owes (length r.nodes)) r.sessions in
-        in_both Kept methods (map root_owes r.roots) (in_both Kept (methods ++ map root_owes r.roots) sessions (recursion_from_All Kept (owed r) well)).0
+        all_split Kept methods (map root_owes r.roots) (all_split Kept (methods ++ map root_owes r.roots) sessions (recursion_from_All Kept (owed r) well)).0
 
     pub all_made : AllMade (claims_of r)
     all_made =
-        of_each (MakesHeld r) (method_claims r.classes r.methods) r.methods
+        all_flat (MakesHeld r) (method_claims r.classes r.methods) r.methods
         (all_more (λ m. AllKept (method_owes r.classes r.methods m)) (λ m. AllMade (method_claims r.classes r.methods m)) r.methods method_made
         (in_each Kept (method_owes r.classes r.methods) r.methods methods_and_roots.0))
 

@@ -20,7 +20,7 @@ slice_some [] i h = absurd (omega (arith, h))
 slice_some (x ∷ xs) zero h = (x, refl)
 slice_some (x ∷ xs) (suc i) h = slice_some xs i (omega (arith, h))
 
-slice_none : {A : Type 0} (xs : List A) (i : ℕ) → length xs ≤ i → slice_get xs i ≡ None
+pub slice_none : {A : Type 0} (xs : List A) (i : ℕ) → length xs ≤ i → slice_get xs i ≡ None
 slice_none [] i h = refl
 slice_none (x ∷ xs) zero h = absurd (omega (arith, h))
 slice_none (x ∷ xs) (suc i) h = slice_none xs i (omega (arith, h))

@@ -3,6 +3,7 @@ use Rattle.std.proofs.Common.{◌≡◌, ℕ, suc, ◌+◌, ◌<◌, ◌≤◌, 
 use Rattle.std.specs.Prelude.{slice_get}
 use Rattle.std.specs.List.{AllByRecursion, flat_map}
 use Rattle.std.proofs.lemmas.Bool.{cases_lt}
+use Rattle.fab_base.proofs.Lists.{left_nil, right_nil, at_index}
 use Rattle.fab_tree.specs.declared.name.Name.{Name}
 use Rattle.fab_tree.specs.declared.program.Parameter.{Parameter}
 use Rattle.fab_tree.specs.declared.program.Method.{Method}
@@ -22,7 +23,6 @@ use Rattle.fab_language.specs.MethodNumbers.{in_turn, numbered_local, method_of,
 use Rattle.fab_language.specs.Numbers.{resolved}
 use Rattle.fab_labelling.specs.Obligations.{Claim, flows, conf, nowhere, declassifies, endorses, holds, answers_for, Owed, label_of_returns, owed}
 use Rattle.fab_laws.proofs.Values.{all_more}
-use Rattle.fab_shapes.proofs.Lists.{left_nil, right_nil, at_index}
 use Rattle.fab_views.proofs.Labels.{AreBelow, IsLabelledLocal, IsLabelledClass, IsLabelledMethod, HasLabels, labels_in_block}
 use Rattle.fab_views.proofs.Declared.{labels_declared}
 use Rattle.fab_holes.specs.Holes.{is_hole, holes, chosen_name, filled_parameter, filled_method, filled, IsNamed}

@@ -1,8 +1,8 @@
 -- What flows to holes is what flows to locals, as far as these are holes.
-use Rattle.std.proofs.Common.{◌≡◌, ℕ, ◌<◌, nat_lt, Bool, true, false, if◌then◌else◌, List, [], ◌∷◌, ◌++◌, map, take, length, Option, Some, None, refl, sym, ap, ◌∙◌, subst, append_assoc, arith}
+use Rattle.std.proofs.Common.{◌≡◌, ℕ, ◌<◌, nat_lt, Bool, true, false, if◌then◌else◌, List, [], ◌∷◌, ◌++◌, map, Option, Some, None, refl, sym, ap, ◌∙◌, subst, append_assoc, arith}
 use Rattle.std.specs.Prelude.{slice_get}
-use Rattle.std.specs.List.{AllByRecursion, flat_map, range_with_len}
-use Rattle.std.proofs.lemmas.List.{append-nil}
+use Rattle.std.specs.List.{AllByRecursion, flat_map}
+use Rattle.fab_base.proofs.Lists.{all_split, at_index}
 use Rattle.fab_tree.specs.declared.expression.Operator.{Operator}
 use Rattle.fab_tree.specs.declared.expression.Operator.TheVariants as o
 use Rattle.fab_tree.specs.declared.statement.Downgrade.{Downgrade}
@@ -23,16 +23,12 @@ use Rattle.fab_tree.specs.declared.resolved.Local.{Local}
 use Rattle.fab_tree.specs.declared.resolved.Method.{Method}
 use Rattle.fab_tree.specs.declared.resolved.Returns.{Returns}
 use Rattle.fab_tree.specs.declared.resolved.Return.{Return}
-use Rattle.fab_tree.specs.declared.resolved.Asked.{Asked}
-use Rattle.fab_tree.specs.declared.resolved.Session.{Session}
-use Rattle.fab_tree.specs.declared.resolved.Resolved.{Resolved}
 use Rattle.fab_labelling.specs.declared.rule.LabelRule.{LabelRule}
-use Rattle.fab_labelling.specs.declared.rule.LabelRule.TheVariants.{Access, Atomic, Begin, Fail, Placement, Write}
+use Rattle.fab_labelling.specs.declared.rule.LabelRule.TheVariants.{Access, Atomic, Begin, Fail, Write}
 use Rattle.fab_labelling.specs.Obligations as ob
-use Rattle.fab_labelling.specs.Obligations.{Claim, flows, conf, nowhere, declassifies, endorses, holds, answers_for, Owed, owe, all_flow, all_conf, all_fail, under, label_of_local, Part, Tail, division, class_behind, asking, reaching, tail_owes, form_step, part}
+use Rattle.fab_labelling.specs.Obligations.{Claim, flows, conf, nowhere, declassifies, endorses, holds, answers_for, Owed, all_flow, all_conf, all_fail, under, label_of_local, Part, Tail, division, class_behind, asking, reaching, tail_owes, form_step, part}
 use Rattle.fab_labelling.proofs.Forms.{form_part, operand_part}
 use Rattle.fab_views.proofs.Labels.{AreBelow, named_by_right, labels_step, labels_in, labels_in_block}
-use Rattle.fab_shapes.proofs.Lists.{at_index, in_both}
 use Rattle.fab_holes.proofs.Choosing.{lt_true}
 use Rattle.fab_holes.specs.Flowing as fl
 use Rattle.fab_holes.specs.Flowing.{all_to, only}
@@ -321,7 +317,7 @@ module _ (n : ℕ) where
       rows : (ks : List Known) → AreBelow n (labels_in_block (bare ks)) → (pc : List ℕ) (failure : Option ℕ) → IsQuiet failure → pairs (row_owes (bare ks) pc failure) ≡ only n (row_flows (bare ks) pc)
       rows [] b pc failure q = refl
       rows (k ∷ ks) b pc failure q =
-          let t = in_both (λ l. l < n) (labels_in k.0) (labels_in_block (bare ks)) b in
+          let t = all_split (λ l. l < n) (labels_in k.0) (labels_in_block (bare ks)) b in
           both_parts (owing k.0 pc failure) (row_owes (bare ks) pc failure) (flowing k.0 pc) (row_flows (bare ks) pc) (k.1.by t.0 pc failure q) (rows ks t.1 pc failure q)
 
       abbrev pieces : s.Statement-F Known → s.Statement-F Statement
@@ -344,7 +340,7 @@ module _ (n : ℕ) where
       layer (s.Call x es) = record { by = λ b pc failure q. call_pairs pc failure x es q }
       layer (s.If e xs ys) = record {
         by = λ b pc failure q. let p = part classes locals e in let inside = under pc p.labels in
-            let t = in_both (λ l. l < n) (labels_in_block (bare xs)) (labels_in_block (bare ys)) b in
+            let t = all_split (λ l. l < n) (labels_in_block (bare xs)) (labels_in_block (bare ys)) b in
             both_parts (p.owes pc failure ++ row_owes (bare xs) inside failure) (row_owes (bare ys) inside failure) (row_flows (bare xs) inside) (row_flows (bare ys) inside)
             (behind_quiet (p.owes pc failure) (row_owes (bare xs) inside failure) (only n (row_flows (bare xs) inside)) ((silent e).by pc failure q) (rows xs t.0 inside failure q))
             (rows ys t.1 inside failure q);
@@ -355,7 +351,7 @@ module _ (n : ℕ) where
       }
       layer (s.Atomic x xs ys at) = record {
         by = λ b pc failure q. let inside = under pc (x.number ∷ []) in
-            let t = in_both (λ l. l < n) (labels_in_block (bare xs)) (labels_in_block (bare ys)) b.1 in
+            let t = all_split (λ l. l < n) (labels_in_block (bare xs)) (labels_in_block (bare ys)) b.1 in
             both_parts (all_flow Atomic at pc x.number ++ row_owes (bare xs) inside (Some x.number)) (row_owes (bare ys) inside failure) (row_flows (bare xs) inside) (row_flows (bare ys) inside)
             (behind_quiet (all_flow Atomic at pc x.number) (row_owes (bare xs) inside (Some x.number)) (only n (row_flows (bare xs) inside)) (quiet_flow Atomic at pc x.number b.0) (rows xs t.0 inside (Some x.number) b.0))
             (rows ys t.1 inside failure q);
@@ -374,7 +370,7 @@ module _ (n : ℕ) where
           → pairs (ob.block_owes classes methods locals authority xs pc failure) ≡ only n (fl.block_flows classes methods locals authority xs pc)
       block_pairs [] b pc failure q = refl
       block_pairs (x ∷ xs) b pc failure q =
-          let t = in_both (λ l. l < n) (labels_in x) (labels_in_block xs) b in
+          let t = all_split (λ l. l < n) (labels_in x) (labels_in_block xs) b in
           both_parts (owing x pc failure) (row_owes xs pc failure) (flowing x pc) (row_flows xs pc) ((statements x).by t.0 pc failure q) (block_pairs xs t.1 pc failure q)
 
       pub quiet_return : (returns : Option Returns) (x : Option Return) → AreBelow n (ob.label_of_returns returns) → (pc : List ℕ) (failure : Option ℕ) → IsQuiet failure

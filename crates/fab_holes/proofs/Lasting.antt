@@ -1,6 +1,6 @@
 -- What flows to the holes of a bundle is what flows to the locals of its methods, as far as these are holes; so masks that a pass over this
 -- leaves as they are have what lies below the holes.
-use Rattle.std.proofs.Common.{◌≡◌, ◌↔◌, ℕ, zero, suc, ◌+◌, ◌-◌, ◌<◌, ◌≤◌, nat_lt, not, Bool, true, false, cond, if◌then◌else◌, List, [], ◌∷◌, ◌++◌, map, filter, length, Option, Some, None, refl, sym, ap, ◌∙◌, subst, arith, Contains, IsBitSet}
+use Rattle.std.proofs.Common.{◌≡◌, ◌↔◌, ℕ, suc, ◌+◌, ◌-◌, ◌<◌, ◌≤◌, nat_lt, not, Bool, true, false, cond, if◌then◌else◌, List, [], ◌∷◌, ◌++◌, map, filter, length, Some, None, refl, sym, ap, ◌∙◌, subst, arith, Contains, IsBitSet}
 use Rattle.std.specs.List.{AllByRecursion, flat_map, range_with_len}
 use Rattle.std.proofs.lemmas.List.{length-append, length-map}
 use Rattle.fab_tree.specs.declared.program.Parameter.{Parameter}
@@ -18,19 +18,17 @@ use Rattle.fab_language.specs.Uses.{label_use}
 use Rattle.fab_language.specs.MethodNumbers.{in_turn, numbered_local, method_of, methods_of}
 use Rattle.fab_language.specs.Numbers.{resolved}
 use Rattle.fab_labelling.specs.declared.rule.LabelRule.TheVariants.{Authority}
-use Rattle.fab_labelling.specs.Obligations.{answers_for, Owed, owe, label_of_returns, authority_of, failure_of, block_owes, return_owes, method_owes, root_owes, request_owes, session_owes, owed}
+use Rattle.fab_labelling.specs.Obligations.{answers_for, Owed, owe, authority_of, failure_of, block_owes, return_owes, method_owes, root_owes, request_owes, session_owes, owed}
 use Rattle.fab_laws.proofs.Values.{all_more}
-use Rattle.fab_shapes.proofs.Lists.{at_index}
-use Rattle.fab_views.proofs.Labels.{AreBelow, labels_in_block}
 use Rattle.fab_holes.specs.Holes.{is_hole, holes_in, holes, IsNamed}
 use Rattle.fab_holes.specs.Open.{with_label, opened_local, opened_method, opened}
 use Rattle.fab_holes.specs.Least.{into_holes, LiesBelow}
-use Rattle.fab_holes.specs.Flowing.{method_flows, block_flows, all_flows, only}
+use Rattle.fab_holes.specs.Flowing.{method_flows, all_flows, only}
 use Rattle.fab_holes.specs.Passes.{mask_at, with_more, mask_of, put, put_all}
 use Rattle.fab_holes.proofs.Choosing.{IsWithin, of_pair}
 use Rattle.fab_holes.proofs.Conditions.{IsDeclared, fine, within, declared_methods, declared_classes}
 use Rattle.fab_holes.proofs.Fixed.{IsSound, all_sound, complete}
-use Rattle.fab_holes.proofs.Flows.{pairs, pairs_append, both_parts, behind_quiet, both_quiet, HeadBelow, IsQuiet, block_pairs, quiet_return}
+use Rattle.fab_holes.proofs.Flows.{pairs, pairs_append, both_parts, both_quiet, HeadBelow, IsQuiet, block_pairs, quiet_return}
 use Rattle.fab_holes.proofs.Numbering.{many, hole_or_not, IsFine, AreFine}
 use Rattle.fab_holes.proofs.Renaming.{each_of}
 

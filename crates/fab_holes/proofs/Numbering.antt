@@ -5,6 +5,7 @@ use Rattle.std.specs.List.{AllByRecursion, flat_map, list_any}
 use Rattle.std.specs.Str.{bytes_eq}
 use Rattle.std.proofs.lemmas.Bool.{and_parts, or_parts, not-true}
 use Rattle.std.proofs.lemmas.List.{length-append, length-map}
+use Rattle.fab_base.proofs.Lists.{right_nil}
 use Rattle.fab_tree.specs.declared.name.Name.{Name}
 use Rattle.fab_tree.specs.declared.declaration.LabelText.{LabelText}
 use Rattle.fab_tree.specs.declared.program.Parameter.{Parameter}
@@ -21,8 +22,8 @@ use Rattle.fab_language.specs.Names.{is_same_name, number_of, label_name}
 use Rattle.fab_language.specs.Uses.{label_use, node_number}
 use Rattle.fab_language.specs.MethodNumbers.{Numbered, in_turn, numbered_local, method_of, methods_of}
 use Rattle.fab_language.specs.Numbers.{label_of, asked_from, session_of, values_of, resolved}
-use Rattle.fab_shapes.proofs.Lists.{right_nil}
-use Rattle.fab_shapes.proofs.Named.{number_same, same_name, same_text}
+use Rattle.fab_language.proofs.Named.{same_text}
+use Rattle.fab_shapes.proofs.Named.{number_same, same_name}
 use Rattle.fab_holes.specs.Holes.{is_infer, has_holes, is_hole, holes_in, holes, chosen_name, named_as, filled_parameter, filled_method, filled}
 use Rattle.fab_holes.specs.Open.{with_label, opened_local, opened_method, opened, renamed_method, renamed}
 use Rattle.fab_holes.specs.Least.{chosen_label}

@@ -5,6 +5,7 @@ use Rattle.std.specs.Prelude.{slice_get, take}
 use Rattle.std.specs.List.{AllByRecursion, flat_map, list_any}
 use Rattle.std.proofs.lemmas.Bool.{eqb-true}
 use Rattle.std.proofs.lemmas.List.{map-append}
+use Rattle.fab_base.proofs.Lists.{all_split, all_append}
 use Rattle.fab_tree.specs.declared.expression.Operator.{Operator}
 use Rattle.fab_tree.specs.declared.expression.Operator.TheVariants as o
 use Rattle.fab_tree.specs.declared.statement.Downgrade.{Downgrade}
@@ -111,14 +112,6 @@ each_of P [] x h i = absurd i
 each_of P (y ∷ ys) x h (inl e) = subst P (sym e) h.0
 each_of P (y ∷ ys) x h (inr i) = each_of P ys x h.1 i
 
-joined : {A : Type 0} (P : A → Type 0) (xs ys : List A) → AllByRecursion P xs → AllByRecursion P ys → AllByRecursion P (xs ++ ys)
-joined P [] ys h k = k
-joined P (x ∷ xs) ys h k = (h.0, joined P xs ys h.1 k)
-
-split : {A : Type 0} (P : A → Type 0) (xs ys : List A) → AllByRecursion P (xs ++ ys) → AllByRecursion P xs × AllByRecursion P ys
-split P [] ys h = (tt, h)
-split P (x ∷ xs) ys h = let t = split P xs ys h.1 in ((h.0, t.0), t.1)
-
 -- other numbers, and what is to hold of each claim
 module _ (f : ℕ → ℕ) (P : Claim → Type 0) where
   abbrev pub After : List Owed → Type 0
@@ -136,8 +129,8 @@ module _ (f : ℕ → ℕ) (P : Claim → Type 0) where
 
   pub join : (xs ys us vs : List Owed) → Both xs ys → Both us vs → Both (xs ++ us) (ys ++ vs)
   join xs ys us vs a b = record {
-    to = λ h. let t = split (λ (x : Owed). P (renamed_claim f x.claim)) xs us h in joined (λ (x : Owed). P x.claim) ys vs (a.to t.0) (b.to t.1);
-    back = λ h. let t = split (λ (x : Owed). P x.claim) ys vs h in joined (λ (x : Owed). P (renamed_claim f x.claim)) xs us (a.back t.0) (b.back t.1);
+    to = λ h. let t = all_split (λ (x : Owed). P (renamed_claim f x.claim)) xs us h in all_append (λ (x : Owed). P x.claim) ys vs (a.to t.0) (b.to t.1);
+    back = λ h. let t = all_split (λ (x : Owed). P x.claim) ys vs h in all_append (λ (x : Owed). P (renamed_claim f x.claim)) xs us (a.back t.0) (b.back t.1);
   }
 
   -- the others are these under other numbers, each perhaps more or less often
@@ -598,7 +591,7 @@ module _ (f : ℕ → ℕ) (P : Claim → Type 0) where
           → Both (row_here (bare ks) pc failure) (row_there (bare ks) qc failure)
       rows [] g pc qc failure i like = none_both
       rows (k ∷ ks) g pc qc failure i like =
-          let t = split (λ l. f l ≡ l) (labels_in k.0) (labels_in_block (bare ks)) g in
+          let t = all_split (λ l. f l ≡ l) (labels_in k.0) (labels_in_block (bare ks)) g in
           join (here k.0 pc failure) (there k.0 qc failure) (row_here (bare ks) pc failure) (row_there (bare ks) qc failure)
           (k.1.by t.0 pc qc failure i like) (rows ks t.1 pc qc failure i like)
 
@@ -637,7 +630,7 @@ module _ (f : ℕ → ℕ) (P : Claim → Type 0) where
         by = λ g pc qc failure i like.
             let p = part classes locals e in
             let q = part classes others e in
-            let t = split (λ l. f l ≡ l) (labels_in_block (bare a)) (labels_in_block (bare b)) g in
+            let t = all_split (λ l. f l ≡ l) (labels_in_block (bare a)) (labels_in_block (bare b)) g in
             let inside = under pc p.labels in
             let within = under qc q.labels in
             let more : Like inside within = like_under pc qc p.labels q.labels like (subst (Like p.labels) (sym (expressions e).labels) (like_map p.labels)) in
@@ -658,7 +651,7 @@ module _ (f : ℕ → ℕ) (P : Claim → Type 0) where
       }
       layer (s.Atomic x a b at) = record {
         by = λ g pc qc failure i like.
-            let t = split (λ l. f l ≡ l) (labels_in_block (bare a)) (labels_in_block (bare b)) g.1 in
+            let t = all_split (λ l. f l ≡ l) (labels_in_block (bare a)) (labels_in_block (bare b)) g.1 in
             let inside = under pc (x.number ∷ []) in
             let within = under qc (x.number ∷ []) in
             let one : Like (x.number ∷ []) (x.number ∷ []) = subst (λ l. Like (x.number ∷ []) (l ∷ [])) g.0 (like_map (x.number ∷ [])) in

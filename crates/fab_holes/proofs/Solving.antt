@@ -6,6 +6,7 @@ use Rattle.std.proofs.lemmas.Bool.{cases_lt}
 use Rattle.std.proofs.lemmas.List.{length-map, length-append}
 use Rattle.std.proofs.lemmas.List.Elements.{All-from_recursion, recursion_from_All}
 use Rattle.fab_base.specs.Principals.{Leads}
+use Rattle.fab_base.proofs.Lists.{at_index}
 use Rattle.fab_tree.specs.declared.resolved.Use.{Use}
 use Rattle.fab_tree.specs.declared.resolved.Method.{Method}
 use Rattle.fab_tree.specs.declared.resolved.Resolved.{Resolved}
@@ -18,7 +19,6 @@ use Rattle.fab_labelling.specs.Obligations.{Claim, flows, conf, nowhere, declass
 use Rattle.fab_labelling.specs.Refusals.{IsFirstRefusal}
 use Rattle.fab_labelling.proofs.OneRefusal.{one_refusal}
 use Rattle.fab_laws.proofs.Values.{all_more}
-use Rattle.fab_shapes.proofs.Lists.{at_index}
 use Rattle.fab_holes.specs.Holes.{holes, filled, IsNamed}
 use Rattle.fab_holes.specs.Open.{opened_method, opened, renamed_method, renamed, renamed_claim}
 use Rattle.fab_holes.specs.Least.{count, Goes, IsLeast, AreLeast, chosen_label, IsChoice, Solves, IsSolved, HasNoLeast, HasNoSolution}

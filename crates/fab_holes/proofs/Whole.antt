@@ -2,6 +2,7 @@
 use Rattle.std.proofs.Common.{◌≡◌, ℕ, Bool, true, false, if◌then◌else◌, List, [], ◌∷◌, ◌++◌, map, length, Option, Some, None, refl, sym, subst}
 use Rattle.std.specs.Prelude.{slice_get}
 use Rattle.std.specs.List.{AllByRecursion, flat_map, range_with_len}
+use Rattle.fab_base.proofs.Lists.{all_split, at_index}
 use Rattle.fab_tree.specs.declared.resolved.Class.{Class}
 use Rattle.fab_tree.specs.declared.resolved.Statement.{Statement}
 use Rattle.fab_tree.specs.declared.resolved.Local.{Local}
@@ -15,7 +16,7 @@ use Rattle.fab_labelling.specs.declared.rule.LabelRule.TheVariants.{Write}
 use Rattle.fab_labelling.specs.Obligations as ob
 use Rattle.fab_labelling.specs.Obligations.{Claim, Owed, all_flow, part, label_of_returns, method_owes, return_owes, block_owes, failure_of, authority_of, root_owes, request_owes, session_owes, owed}
 use Rattle.fab_laws.proofs.Values.{all_map}
-use Rattle.fab_shapes.proofs.Lists.{at_index, of_all, in_both}
+use Rattle.fab_shapes.proofs.Lists.{of_all}
 use Rattle.fab_holes.specs.Open.{renamed_claim, renamed_method, renamed}
 use Rattle.fab_views.proofs.Labels.{labels_in, labels_in_block}
 use Rattle.fab_holes.proofs.Renaming.{Both, none_both, join, Like, like_map, like_part, both_kept, IsFixed, HeadKept, expressions, statements, each_of}
@@ -63,7 +64,7 @@ module _ (f : ℕ → ℕ) (P : Claim → Type 0) where
           → Both f P (block_owes r.classes r.methods m.locals (authority_of m) xs pc failure) (block_owes r.classes renewed there (authority_of m) xs qc failure)
       both_block [] g pc qc failure i like = none_both f P
       both_block (x ∷ xs) g pc qc failure i like =
-          let t = in_both (λ l. f l ≡ l) (labels_in x) (labels_in_block xs) g in
+          let t = all_split (λ l. f l ≡ l) (labels_in x) (labels_in_block xs) g in
           join f P (ob.statement_owes r.classes r.methods m.locals (authority_of m) x pc failure) (ob.statement_owes r.classes renewed there (authority_of m) x qc failure)
           (block_owes r.classes r.methods m.locals (authority_of m) xs pc failure) (block_owes r.classes renewed there (authority_of m) xs qc failure)
           ((statements f P r.classes kept m.locals r.methods (authority_of m) heads x).by t.0 pc qc failure i like)

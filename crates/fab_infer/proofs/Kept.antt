@@ -1,10 +1,11 @@
 -- A bundle with holes keeps the rules of names and types with every choice of labels for these where it does with the first declared label for each.
-use Rattle.std.proofs.Common.{◌≡◌, ℕ, zero, suc, ◌<◌, ◌≤◌, inl, inr, true, false, ◌&&◌, cond, if◌then◌else◌, List, [], ◌∷◌, ◌++◌, map, length, Option, Some, None, refl, sym, ap, ◌∙◌, subst, arith}
+use Rattle.std.proofs.Common.{◌≡◌, ℕ, zero, suc, ◌<◌, inl, inr, true, false, ◌&&◌, cond, if◌then◌else◌, List, [], ◌∷◌, ◌++◌, map, length, Option, Some, None, refl, sym, ap, ◌∙◌, subst, arith}
 use Rattle.std.specs.Prelude.{slice_get}
 use Rattle.std.specs.List.{flat_map}
 use Rattle.std.specs.Str.{bytes_eq}
 use Rattle.std.proofs.lemmas.Bool.{cases_lt, eq-eqb}
 use Rattle.std.proofs.lemmas.List.{length-map}
+use Rattle.fab_base.proofs.Lists.{left_nil, right_nil, at_index}
 use Rattle.fab_tree.specs.declared.name.Name.{Name}
 use Rattle.fab_tree.specs.declared.declaration.LabelText.{LabelText}
 use Rattle.fab_tree.specs.declared.program.Parameter.{Parameter}
@@ -25,8 +26,8 @@ use Rattle.fab_language.specs.Types as t
 use Rattle.fab_language.specs.MethodNumbers.{Numbered, in_turn}
 use Rattle.fab_holes.specs.Holes.{is_hole, chosen_name, named_as, filled_name, filled_parameter, filled_method, filled, holes, IsNamed}
 use Rattle.fab_holes.specs.Least.{IsChoice}
-use Rattle.fab_shapes.proofs.Lists.{at_index}
-use Rattle.fab_infer.proofs.Near.{left_nil, right_nil, AreNear, known_at, method_near, next}
+use Rattle.fab_holes.proofs.Choosing.{slice_none, slice_some}
+use Rattle.fab_infer.proofs.Near.{AreNear, known_at, method_near, next}
 use Rattle.fab_infer.proofs.Ruled.{counted_head, doubled_stays, placed_head, same_count, same_found, same_kinds, typed_head, unknown_head}
 
 module _ (start : Start) (c e : List ℕ) (knows : (l : Name) (h : ℕ) → in_label start (filled_name start c l h).0 ≡ [] → in_label start (filled_name start e l h).0 ≡ []) where
@@ -200,16 +201,6 @@ same_itself : (xs : List ℕ) → bytes_eq xs xs ≡ true
 same_itself [] = refl
 same_itself (x ∷ xs) = ap (λ b. b && bytes_eq xs xs) (eq-eqb x x refl) ∙ same_itself xs
 
-slice_within : {A : Type 0} (xs : List A) (i : ℕ) → i < length xs → (x : A) × (slice_get xs i ≡ Some x)
-slice_within [] i h = absurd (omega (arith, h))
-slice_within (x ∷ xs) zero h = (x, refl)
-slice_within (x ∷ xs) (suc i) h = slice_within xs i (omega (arith, h))
-
-slice_past : {A : Type 0} (xs : List A) (i : ℕ) → length xs ≤ i → slice_get xs i ≡ None
-slice_past [] i h = refl
-slice_past (x ∷ xs) zero h = absurd (omega (arith, h))
-slice_past (x ∷ xs) (suc i) h = slice_past xs i (omega (arith, h))
-
 -- the name of a declared label is one
 found_at : (ls : List LabelText) (v : ℕ) (x : LabelText) (n : Name) → slice_get ls v ≡ Some x → n.text ≡ x.name.text → if_found (named label_name ls n) n ≡ []
 found_at [] v x n is text = absurd (cc)
@@ -225,16 +216,16 @@ module _ (start : Start) (choice : List ℕ) (is : IsChoice start choice) where
   chosen_known : (l : Name) (h : ℕ) → in_label start (chosen_name start (slice_get zeros h) l) ≡ [] → in_label start (chosen_name start (slice_get choice h) l) ≡ []
   chosen_known l h nil = elim (cases_lt h (length choice)) [
     | inl inside ↦
-        let v = slice_within choice h inside in
-        let x = slice_within start.program.labels v.0 (at_index (λ n. n < length start.program.labels) choice h v.0 is.declared v.1) in
+        let v = slice_some choice h inside in
+        let x = slice_some start.program.labels v.0 (at_index (λ n. n < length start.program.labels) choice h v.0 is.declared v.1) in
         subst (λ o. in_label start (chosen_name start o l) ≡ []) (sym v.1)
         (subst (λ o. in_label start (named_as o l) ≡ []) (sym x.1) (found_at start.program.labels v.0 x.0 (record { text = x.0.name.text; at = l.at }) x.1 refl))
     | inr past ↦
-        let none : slice_get choice h ≡ None = slice_past choice h past in
+        let none : slice_get choice h ≡ None = slice_none choice h past in
         let zero_at = λ (at : ℕ). zero in
         let long = length-map {B = ℕ} (holes start) zero_at in
         let many = is.many in
-        let nothing : slice_get zeros h ≡ None = slice_past zeros h (omega (arith, past, long, many)) in
+        let nothing : slice_get zeros h ≡ None = slice_none zeros h (omega (arith, past, long, many)) in
         subst (λ o. in_label start (chosen_name start o l) ≡ []) (nothing ∙ sym none) nil
   ]
 

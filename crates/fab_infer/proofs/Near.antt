@@ -3,6 +3,7 @@ use Rattle.std.proofs.Common.{◌≡◌, ℕ, suc, true, false, if◌then◌else
 use Rattle.std.specs.Prelude.{slice_get}
 use Rattle.std.specs.List.{flat_map}
 use Rattle.std.proofs.lemmas.List.{map-append}
+use Rattle.fab_base.proofs.Lists.{left_nil, right_nil}
 use Rattle.fab_tree.specs.declared.name.Name.{Name}
 use Rattle.fab_tree.specs.declared.declaration.Sort.{Sort}
 use Rattle.fab_tree.specs.declared.expression.Expression.{Expression}
@@ -27,15 +28,6 @@ bares ps = map bare ps
 
 pub bares_more : (ps qs : Locals) (p q : Parameter) → bares ps ≡ bares qs → bare p ≡ bare q → bares (ps ++ p ∷ []) ≡ bares (qs ++ q ∷ [])
 bares_more ps qs p q e f = map-append bare ps (p ∷ []) ∙ (λ i. e i ++ f i ∷ []) ∙ sym (map-append bare qs (q ∷ []))
-
--- two lists that are empty together
-pub left_nil : {A : Type 0} (xs ys : List A) → xs ++ ys ≡ [] → xs ≡ []
-left_nil [] ys e = refl
-left_nil (x ∷ xs) ys e = absurd (cc)
-
-pub right_nil : {A : Type 0} (xs ys : List A) → xs ++ ys ≡ [] → ys ≡ []
-right_nil [] ys e = e
-right_nil (x ∷ xs) ys e = absurd (cc)
 
 module _ (start : Start) where
   -- the same head, or a declaration with another label, which is declared where the first is

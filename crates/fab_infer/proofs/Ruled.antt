@@ -2,6 +2,7 @@
 use Rattle.std.proofs.Common.{◌≡◌, ℕ, Bool, true, false, cond, ◌||◌, if◌then◌else◌, List, [], ◌∷◌, ◌++◌, map, filter, length, Option, Some, None, option_map, refl, sym, ap, ◌∙◌}
 use Rattle.std.specs.List.{flat_map, list_any}
 use Rattle.std.proofs.lemmas.List.{map-append, length-map}
+use Rattle.fab_base.proofs.Lists.{left_nil, right_nil}
 use Rattle.fab_tree.specs.declared.name.Name.{Name}
 use Rattle.fab_tree.specs.declared.declaration.Sort.{Sort}
 use Rattle.fab_tree.specs.declared.declaration.Class.{Class}
@@ -17,7 +18,7 @@ use Rattle.fab_tree.specs.Limits.{locals_of}
 use Rattle.fab_language.specs.declared.rule.Fault.{Fault}
 use Rattle.fab_language.specs.declared.rule.NameRule.TheVariants.{Doubled}
 use Rattle.fab_language.specs.Heads.{Locals, Head, declare, assign, write, call, test, atomic, result}
-use Rattle.fab_language.specs.Kinds.{Kind, number, class_of_local, class_of_sort, kind_of_local, kind_of_sort, kind_of_returns, kind_of_field, local_of, field_of, fields_of}
+use Rattle.fab_language.specs.Kinds.{Kind, number, class_of_local, class_of_sort, kind_of_local, kind_of_sort, kind_of_returns, kind_of_field, fields_of}
 use Rattle.fab_language.specs.Kinds as k
 use Rattle.fab_language.specs.Names.{is_same_name, named, class_name, field_name, label_name, local_name, method_name, node_name, root_name, session_name}
 use Rattle.fab_language.specs.Unknown as u
@@ -28,11 +29,11 @@ use Rattle.fab_language.specs.Roles as r
 use Rattle.fab_language.specs.Arity as a
 use Rattle.fab_language.specs.Arity.{if_as_many}
 use Rattle.fab_language.specs.Types as t
-use Rattle.fab_language.specs.Types.{Checked, Typed}
+use Rattle.fab_language.specs.Types.{Checked}
 use Rattle.fab_language.specs.MethodNumbers.{Numbered, in_turn}
 use Rattle.fab_holes.specs.Holes.{filled_name, filled_parameter, filled_method, filled}
 use Rattle.fab_holes.proofs.Filling.{locals_filled, parameters}
-use Rattle.fab_infer.proofs.Near.{bare, bares, left_nil, right_nil, Alike, same, declares}
+use Rattle.fab_infer.proofs.Near.{bare, bares, Alike, same, declares}
 
 -- ---- names that are looked up
 

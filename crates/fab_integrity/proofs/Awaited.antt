@@ -8,6 +8,7 @@ use Rattle.fab_base.specs.declared.object.Tid.{Tid}
 use Rattle.fab_base.specs.declared.message.Message.{Message}
 use Rattle.fab_base.specs.FieldSpelling.{IsTid}
 use Rattle.fab_base.specs.FlatMap.{FlatMap, map_of, is_among}
+use Rattle.fab_base.proofs.Lists.{all_map}
 use Rattle.fab_language.specs.Heaps.{touched}
 use Rattle.fab_language.specs.Meaning.{Meant}
 use Rattle.fab_net.specs.declared.event.Inner.{Inner}
@@ -29,7 +30,6 @@ use Rattle.fab_integrity.proofs.Lists.{in_append, in_filter, in_map, all_of, eac
 use Rattle.fab_integrity.proofs.Maps.{all_put, ascends_put_all}
 use Rattle.fab_integrity.proofs.Tids.{tid_spelled}
 use Rattle.fab_protocol.proofs.Records.{worker_below}
-use Rattle.fab_protocol.proofs.Lists.{all_map}
 
 -- ---- what is waited for
 

@@ -4,6 +4,7 @@ use Rattle.std.proofs.Common.{Option, None, refl, sym, ap, ◌∙◌, subst, inl
 use Rattle.std.specs.List.{filter, flat_map}
 use Rattle.std.proofs.lemmas.Bool.{cases_eq, and_parts, ne_eqb, eq-eqb}
 use Rattle.fab_base.specs.declared.entry.Entry.{Entry}
+use Rattle.fab_base.proofs.Lists.{few_pass}
 use Rattle.fab_net.specs.declared.note.Note.{Note}
 use Rattle.fab_world.specs.Machine.{Setting, World, Node, Move, Form, Does, Cuts, Fails, Posts, Crashes, Never, form_of, at_start, kept, act, node_of, step, steps}
 use Rattle.fab_world.specs.Machine.{enabled, record_at, logged, notes_at, notes_if}
@@ -11,7 +12,7 @@ use Rattle.fab_world.specs.Serial.{commit_in, attempts_in, attempts_at}
 use Rattle.fab_world.specs.Workers as workers
 use Rattle.fab_world.specs.Workers.{Attempt, Phase, fresh, kept_of, Kept}
 use Rattle.fab_integrity.proofs.Invariant.{In}
-use Rattle.fab_integrity.proofs.Lists.{filter_in, few_pass}
+use Rattle.fab_integrity.proofs.Lists.{filter_in}
 use Rattle.fab_integrity.proofs.Costs.{work_of, boots_in, noted_commits, goes_act}
 use Rattle.fab_integrity.proofs.Changes.{Changes, boots_behind, does_changes, down_changes, fails_changes, cuts_changes, posted_node, if_whole}
 use Rattle.fab_integrity.proofs.Lasting.{kept_start}

@@ -5,9 +5,9 @@ use Rattle.std.proofs.Common.{refl, sym, ap, ◌∙◌, subst, cond}
 use Rattle.std.proofs.lemmas.Bool.{eq-eqb, ne_eqb, eqb-true}
 use Rattle.std.proofs.lemmas.List.{append-nil, map-append}
 use Rattle.std.proofs.lemmas.List.Elements.{filter-append}
+use Rattle.fab_base.proofs.Lists.{all_along}
 use Rattle.fab_net.specs.declared.note.Commit.{Commit}
 use Rattle.fab_protocol.specs.declared.parts.Decision.{Decision}
-use Rattle.fab_protocol.proofs.Lists.{all_along}
 use Rattle.fab_world.specs.Machine.{Setting}
 use Rattle.fab_integrity.proofs.Invariant.{In, deals, decision_of}
 use Rattle.fab_integrity.proofs.Lists.{in_filter, filter_in, in_map, filter_none}

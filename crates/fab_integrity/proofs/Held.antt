@@ -8,6 +8,8 @@ use Rattle.fab_base.specs.declared.object.Object.{Object}
 use Rattle.fab_base.specs.declared.object.Tid.{Tid}
 use Rattle.fab_base.specs.FlatMap.{FlatMap, get, map_of, is_among, is_same}
 use Rattle.fab_base.proofs.Names.{same_self}
+use Rattle.fab_base.proofs.NameOrder.{one_name}
+use Rattle.fab_base.proofs.Lists.{all_along, all_flat, all_filter}
 use Rattle.fab_net.specs.declared.note.Commit.{Commit}
 use Rattle.fab_rights.proofs.Bits.{bit_below, has_bit_exact}
 use Rattle.fab_rights.specs.Computed.{is_store, stores_in, may_write}
@@ -16,8 +18,7 @@ use Rattle.fab_protocol.specs.Shelves.{IsAllowed}
 use Rattle.fab_protocol.specs.Stores.{Prepared, item_name, all_in}
 use Rattle.fab_protocol.specs.Tables.{row_of, placed, placed_all, ascends}
 use Rattle.fab_protocol.specs.Versions.{Row, Rows, name_of, objects_of, left_by, is_tid}
-use Rattle.fab_protocol.proofs.Lists.{all_along, all_flat, all_filter}
-use Rattle.fab_protocol.proofs.TableLaws.{one_name, row_of_placed, all_placed_all, ascends_placed_all}
+use Rattle.fab_protocol.proofs.TableLaws.{row_of_placed, all_placed_all, ascends_placed_all}
 use Rattle.fab_protocol.proofs.TableLaws.{ascends_once}
 use Rattle.fab_world.specs.Machine.{Setting, World, kept, shelf, is_decided, held_at}
 use Rattle.fab_world.specs.Serial.{IsSetting, Excludes, within, held_map}

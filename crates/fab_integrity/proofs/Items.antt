@@ -6,12 +6,12 @@ use Rattle.std.proofs.lemmas.Bool.{eq-eqb, not-false}
 use Rattle.fab_base.specs.declared.object.Oid.{Oid}
 use Rattle.fab_base.specs.declared.object.Object.{Object}
 use Rattle.fab_base.specs.declared.message.Items.{Items}
+use Rattle.fab_base.proofs.Lists.{all_map, all_split, all_append, all_of_map, all_along}
 use Rattle.fab_protocol.specs.declared.parts.Parts.{Parts}
 use Rattle.fab_protocol.specs.Parts.{items_at}
 use Rattle.fab_protocol.specs.Shelves.{IsApart, AreApart}
 use Rattle.fab_protocol.specs.Stores.{Prepared, Item, Read, Write, Create, item_name, reads_in, writes_in, creates_in, all_in, changed_by, lacks_right}
 use Rattle.fab_protocol.specs.Versions.{Row, name_of, left_by}
-use Rattle.fab_protocol.proofs.Lists.{all_map, all_split, all_append, all_of_map, all_along}
 use Rattle.fab_protocol.proofs.Locks.{Free, free_both_ways, free_unchanged}
 use Rattle.fab_protocol.proofs.VersionLaws.{left_names, left_by_names}
 use Rattle.fab_integrity.proofs.Invariant.{In}

@@ -4,8 +4,7 @@ use Rattle.std.proofs.Common.{Contains}
 use Rattle.std.specs.List.{list_any, list_all, filter, flat_map, AllByRecursion, filter_map, cons_option, range_with_len}
 use Rattle.std.proofs.lemmas.Bool.{and_parts, or_cases, or_left, or_right, cases_eq, eq-eqb, eqb-true, both_ways, false_from_ne_true}
 use Rattle.fab_integrity.proofs.Invariant.{In}
-use Rattle.std.specs.Prelude.{slice_get, get_or, Option, Some, None, unwrap_or, ◌≤◌, ◌<◌, ◌+◌, ◌==◌, length, IsTrue}
-use Rattle.std.proofs.lemmas.List.Sums.{length-filter, count_by-le-length}
+use Rattle.std.specs.Prelude.{slice_get, get_or, Option, Some, None, unwrap_or, ◌≤◌, ◌<◌, ◌+◌, ◌==◌, IsTrue}
 use Rattle.fab_world.specs.Workers.{is_in}
 
 -- what stands in xs ++ ys stands in one of them
@@ -157,10 +156,6 @@ filter_twice f g sub (c ∷ cs) = elim (g c) as (λ b. g c ≡ b → filter f (c
   | true ↦ λ e. ap (λ xs. cond (f c) (c ∷ xs) xs) (filter_twice f g sub cs)
   | false ↦ λ e. filter_twice f g sub cs ∙ sym (ap (λ b. cond b (c ∷ filter f cs) (filter f cs)) (false_from_ne_true (f c) (λ t. both_ways (g c) e (sub c t))))
 ] refl
-
--- no more pass than there are
-pub few_pass : {A : Type 0} (test : A → Bool) (xs : List A) → length (filter test xs) ≤ length xs
-few_pass test xs = omega (arith, length-filter test xs, count_by-le-length test xs)
 
 -- ---- where an element of xs ++ ys stands
 

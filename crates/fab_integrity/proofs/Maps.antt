@@ -8,13 +8,14 @@ use Rattle.fab_base.specs.declared.object.Oid.{Oid}
 use Rattle.fab_base.specs.declared.object.Object.{Object}
 use Rattle.fab_base.specs.FlatMap.{FlatMap, get, put, put_all, map_of, ascends, is_before, is_same, is_among}
 use Rattle.fab_base.proofs.Names.{same_self, same_flips, same_is_equivalence}
+use Rattle.fab_base.proofs.NameOrder.{differ, one_name, same_name}
+use Rattle.fab_base.proofs.Lists.{all_of_map, all_along}
 use Rattle.fab_protocol.specs.Tables.{row_of, placed, placed_all, OnlyOnce}
 use Rattle.fab_protocol.specs.Tables as tables
 use Rattle.fab_protocol.specs.Versions.{Row, Rows, name_of, names_of, objects_of}
-use Rattle.fab_protocol.proofs.Lists.{all_of_map, all_along}
 use Rattle.fab_protocol.proofs.NameLists.{none_among}
 use Rattle.fab_protocol.proofs.ShelfKept.{as_table}
-use Rattle.fab_protocol.proofs.TableLaws.{one_name, same_name, before_apart, leads, leads_all, parted, row_here, row_past, row_of_name, row_of_placed}
+use Rattle.fab_protocol.proofs.TableLaws.{leads, leads_all, parted, row_here, row_past, row_of_name, row_of_placed}
 use Rattle.fab_protocol.proofs.TableLaws.{row_of_before, row_of_none, ascends_placed_all, all_placed, ascends_placed, ascends_once, all_placed_all}
 use Rattle.fab_protocol.proofs.TableLaws as laws
 use Rattle.fab_world.specs.Serial.{within}
@@ -185,7 +186,7 @@ in_table (r ∷ m) o x h (inl e) = subst (λ (q : Oid × Object). get (q ∷ m) 
 in_table (r ∷ m) o x h (inr i) =
     let g = parted key r m h in
     let first : IsTrue (is_before r.0 o) = each_of (λ (y : Oid × Object). IsTrue (is_before r.0 y.0)) m (o, x) (leads_all key r.0 m g.0 g.1) i in
-    ap (λ b. if b then Some r.1 else get m o) (before_apart r.0 o first) ∙ in_table m o x g.1 i
+    ap (λ b. if b then Some r.1 else get m o) (differ r.0 o first) ∙ in_table m o x g.1 i
 
 -- and what stands there is got, as names ascend
 pub in_get : (m : FlatMap) (o : Oid) (x : Object) → IsTrue (ascends m) → In (o, x) m → get m o ≡ Some x

@@ -5,6 +5,7 @@ use Rattle.std.specs.List.{filter, flat_map}
 use Rattle.std.proofs.lemmas.Bool.{cases_eq}
 use Rattle.std.proofs.lemmas.List.Elements.{filter-append}
 use Rattle.fab_base.specs.declared.entry.Entry.{Entry}
+use Rattle.fab_base.proofs.Lists.{all_append}
 use Rattle.fab_net.specs.declared.event.Inner.{Inner}
 use Rattle.fab_net.specs.declared.note.Commit.{Commit}
 use Rattle.fab_net.specs.declared.note.Logged.{Logged}
@@ -12,7 +13,6 @@ use Rattle.fab_world.specs.Machine.{Setting, World, Node, Move, Form, Does, Cuts
 use Rattle.fab_world.specs.Machine.{record_at, logged, logs, notes_at, notes_if}
 use Rattle.fab_world.specs.Serial.{IsSetting, IsOnce, Rise, commit_in, commits_of}
 use Rattle.fab_world.specs.Workers.{Attempt, kept_of, request_of, fresh}
-use Rattle.fab_protocol.proofs.Lists.{all_append}
 use Rattle.fab_integrity.proofs.Invariant.{In}
 use Rattle.fab_integrity.proofs.Lists.{in_append, in_one}
 use Rattle.fab_integrity.proofs.Costs.{outcomes_in, noted_commits, commit_at, goes_act, noted_outside}

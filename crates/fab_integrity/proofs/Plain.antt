@@ -5,11 +5,11 @@ use Rattle.std.proofs.Common.{refl}
 use Rattle.fab_base.specs.declared.object.Tid.{Tid}
 use Rattle.fab_base.specs.declared.message.Message.{Message}
 use Rattle.fab_base.specs.declared.message.Message.TheVariants as m
+use Rattle.fab_base.proofs.Lists.{all_append}
 use Rattle.fab_language.specs.Meaning.{Meant}
 use Rattle.fab_rights.specs.declared.rights.Rights.{Rights}
 use Rattle.fab_protocol.specs.declared.parts.Parts.{Parts}
 use Rattle.fab_protocol.specs.Parts.{stores_of, items_at}
-use Rattle.fab_protocol.proofs.Lists.{all_append}
 use Rattle.fab_world.specs.Attempts.{parts_of}
 use Rattle.fab_world.specs.Workers.{Kept, Attempt, Act, sending, to_all, tid_of, aborts, begins, resumes, takes, gives_up}
 use Rattle.fab_world.proofs.WorkerActs.{resumed, silenced, taken}

@@ -11,12 +11,12 @@ use Rattle.fab_base.specs.declared.message.Answer.{Answer}
 use Rattle.fab_base.specs.declared.message.Answer.TheVariants as answers
 use Rattle.fab_base.specs.declared.message.Message.{Message}
 use Rattle.fab_base.specs.declared.message.Message.TheVariants as m
-use Rattle.fab_base.specs.FieldSpelling.{IsTid, IsOid, IsWrite, IsCreate}
+use Rattle.fab_base.specs.FieldSpelling.{IsTid, IsOid, IsWrite, IsCreate, sent_version}
 use Rattle.fab_base.specs.MessageSpelling.{IsBody, IsReadAs, KeepsCounts, message_bytes, spelled}
-use Rattle.fab_protocol.proofs.Lists.{all_along}
 use Rattle.fab_world.specs.Machine.{Setting}
 use Rattle.fab_world.specs.Serial.{IsSetting}
 use Rattle.fab_base.specs.declared.message.Items.{Items}
+use Rattle.fab_base.proofs.Lists.{all_along}
 
 -- ---- what stands at places of a message: its kind, a tid, behind this an answer, or a name and a version
 
@@ -79,11 +79,11 @@ yes_alone t u (answers.Exists o) e = let no : 6 ≡ 0 = e in absurd (omega (arit
 
 -- the numbers of a message that is read, and its bytes
 pub record IsSpelled (bytes : List ℕ) (message : Message) : Type 0 where
-  pub body : IsBody 1 message
+  pub body : IsBody sent_version message
   pub bytes_are : bytes ≡ spelled message
 
 -- a message in range has no more of anything than a store may keep
-pub counts_of : (message : Message) → IsBody 1 message → KeepsCounts message
+pub counts_of : (message : Message) → IsBody sent_version message → KeepsCounts message
 counts_of (m.Object t o version x) h = let y = h.3 in y.count
 counts_of (m.Prepare t items) h =
     let are = h.1 in
@@ -91,10 +91,10 @@ counts_of (m.Prepare t items) h =
       reads = are.reads_count;
       writes = are.writes_count;
       written = All-from_recursion (λ w. length w.2.fields ≤ 16) items.writes
-          (all_along (IsWrite 1) (λ w. length w.2.fields ≤ 16) (λ w g. let y = g.object in y.count) items.writes are.writes);
+          (all_along (IsWrite sent_version) (λ w. length w.2.fields ≤ 16) (λ w g. let y = g.object in y.count) items.writes are.writes);
       creates = are.creates_count;
       created = All-from_recursion (λ c. length c.1.fields ≤ 16) items.creates
-          (all_along (IsCreate 1) (λ c. length c.1.fields ≤ 16) (λ c g. let y = g.object in y.count) items.creates are.creates);
+          (all_along (IsCreate sent_version) (λ c. length c.1.fields ≤ 16) (λ c g. let y = g.object in y.count) items.creates are.creates);
     }
 counts_of (m.Fetch t o) h = tt
 counts_of (m.Deny t o reason) h = tt
@@ -117,10 +117,10 @@ module _ (S : Setting) (given : IsSetting S) where
       }
 
   -- what can be spelled is read as itself, if it is read
-  pub read_back : (sent read : Message) → IsBody 1 sent → S.read (spelled sent) ≡ Some read → read ≡ sent
+  pub read_back : (sent read : Message) → IsBody sent_version sent → S.read (spelled sent) ≡ Some read → read ≡ sent
   read_back sent read body e =
       let is : IsReadAs (spelled sent) read = (given.read (spelled sent) read).0 e in
-      let own : IsReadAs (spelled sent) sent = record { short = is.short; spelled = (1, record { known = refl; body = body }, refl) } in
+      let own : IsReadAs (spelled sent) sent = record { short = is.short; spelled = (sent_version, record { known = refl; body = body }, refl) } in
       same_Some read sent (sym e ∙ (given.read (spelled sent) sent).1 own)
 
   -- what is read is of the kind that was sent
@@ -157,11 +157,11 @@ module _ (S : Setting) (given : IsSetting S) where
 
   -- a Commit and a Boot are read as themselves, and a Commit as nothing else
   pub commit_back : (t : Tid) → IsTid t → S.read (spelled (m.Commit t)) ≡ Some (m.Commit t)
-  commit_back t h = (given.read (spelled (m.Commit t)) (m.Commit t)).1 (record { short = lit≤ tt; spelled = (1, record { known = refl; body = h }, refl) })
+  commit_back t h = (given.read (spelled (m.Commit t)) (m.Commit t)).1 (record { short = lit≤ tt; spelled = (sent_version, record { known = refl; body = h }, refl) })
 
   -- the same of a Boot
   pub boot_back : (b : ℕ) → b < 2 ^ 32 → S.read (spelled (m.Boot b)) ≡ Some (m.Boot b)
-  boot_back b h = (given.read (spelled (m.Boot b)) (m.Boot b)).1 (record { short = lit≤ tt; spelled = (1, record { known = refl; body = h }, refl) })
+  boot_back b h = (given.read (spelled (m.Boot b)) (m.Boot b)).1 (record { short = lit≤ tt; spelled = (sent_version, record { known = refl; body = h }, refl) })
 
   pub commit_no_prepare : (t u : Tid) (items : Items) → S.read (spelled (m.Commit t)) ≡ Some (m.Prepare u items) → ⊥
   commit_no_prepare t u items e = let bad : 6 ≡ 4 = same_kind (m.Commit t) (m.Prepare u items) e in omega (arith, bad)

@@ -11,6 +11,7 @@ use Rattle.fab_base.specs.declared.message.Items.{Items}
 use Rattle.fab_base.specs.FlatMap.{FlatMap, get, ascends, is_same, is_among, put_all}
 use Rattle.fab_base.proofs.Names.{same_self}
 use Rattle.fab_base.specs.declared.object.Value.{Value}
+use Rattle.fab_base.proofs.Lists.{all_filter, all_map, all_always}
 use Rattle.fab_language.specs.declared.ending.Ending.{Ending}
 use Rattle.fab_language.specs.declared.ending.Ending.TheVariants.{Ended, Failed, Stopped, Missing}
 use Rattle.fab_language.specs.Heaps.{touched}
@@ -23,7 +24,6 @@ use Rattle.fab_protocol.specs.Stores.{Item, Read, Write, item_name, all_in, out_
 use Rattle.fab_protocol.specs.Stores.{is_stale}
 use Rattle.fab_protocol.specs.Tables.{row_of, placed, placed_all}
 use Rattle.fab_protocol.specs.Versions.{Row, Rows, name_of, names_of, objects_of, version_of, risen, raised}
-use Rattle.fab_protocol.proofs.Lists.{all_filter, all_map, all_always}
 use Rattle.fab_protocol.proofs.TableLaws.{all_placed_all, row_of_placed, row_of_name}
 use Rattle.fab_world.specs.Attempts.{parts_of, value_of}
 use Rattle.fab_world.specs.Machine.{Setting}
@@ -294,7 +294,7 @@ in_older k row r newer =
       | false ↦ λ i. i
     ]
 
-in_distinct : (k : ℕ) (rows : Rows) (r : Row) → In r (last_distinct k rows) → In r rows
+pub in_distinct : (k : ℕ) (rows : Rows) (r : Row) → In r (last_distinct k rows) → In r rows
 in_distinct k [] r i = i
 in_distinct k (row ∷ rows) r i = elim (in_older k row r (last_distinct k rows) i) [ inl e ↦ inl e | inr t ↦ inr (in_distinct k rows r t) ]
 

@@ -7,6 +7,7 @@ use Rattle.std.proofs.lemmas.Bool.{cases_eq, and_from, and_parts, both_ways, fal
 use Rattle.std.proofs.lemmas.List.{append-nil, length-append}
 use Rattle.std.proofs.lemmas.List.Sums.{fold-append}
 use Rattle.fab_base.specs.FlatMap.{FlatMap}
+use Rattle.fab_base.proofs.Lists.{few_pass}
 use Rattle.fab_net.specs.declared.event.Inner.{Inner}
 use Rattle.fab_net.specs.declared.event.Inner.TheVariants as i
 use Rattle.fab_net.specs.declared.note.Commit.{Commit}
@@ -17,7 +18,7 @@ use Rattle.fab_world.specs.Serial.{IsSetting, IsEvaluation, AllEnd, Excludes, Is
 use Rattle.fab_world.specs.Serial.{commits_in, world_of, attempts, attempts_at, attempts_in}
 use Rattle.fab_integrity.specs.Redone.{AllRedone, IsFaithful}
 use Rattle.fab_integrity.proofs.Invariant.{In}
-use Rattle.fab_integrity.proofs.Lists.{few_pass, filter_twice}
+use Rattle.fab_integrity.proofs.Lists.{filter_twice}
 use Rattle.fab_integrity.proofs.Worlds.{IsAsBefore, at_same, at_other, as_before}
 use Rattle.fab_integrity.proofs.Transport.{mutes, ready_other, ready_entries, lands_muted, lands_whole}
 use Rattle.fab_integrity.proofs.WorkerSteps.{HasRoom}

@@ -7,13 +7,13 @@ use Rattle.std.proofs.lemmas.Option.{unwrap_or-slice_get}
 use Rattle.fab_base.specs.declared.object.Oid.{Oid}
 use Rattle.fab_base.specs.declared.object.Object.{Object}
 use Rattle.fab_base.specs.FlatMap.{FlatMap, get, is_same}
+use Rattle.fab_base.proofs.NameOrder.{one_name}
 use Rattle.fab_protocol.specs.declared.sender.Sender.{Sender}
 use Rattle.fab_protocol.specs.Shelves.{IsShelf}
 use Rattle.fab_protocol.specs.Stores.{Shelf, Prepared, shelf_at_start, unheard, sender_in}
 use Rattle.fab_protocol.specs.Tables.{row_of}
 use Rattle.fab_protocol.specs.Versions.{Row, name_of, version_of, begun}
 use Rattle.fab_protocol.proofs.ShelfKept.{start_is}
-use Rattle.fab_protocol.proofs.TableLaws.{one_name}
 use Rattle.fab_protocol.proofs.VersionLaws.{version_in, version_by_row}
 use Rattle.fab_world.specs.Machine.{Setting, at_start, kept, shelf}
 use Rattle.fab_world.specs.Serial.{IsSetting, IsFit, within}

@@ -10,6 +10,7 @@ use Rattle.fab_base.specs.declared.message.Message.{Message}
 use Rattle.fab_base.specs.declared.message.Message.TheVariants as m
 use Rattle.fab_base.specs.FlatMap.{FlatMap}
 use Rattle.fab_base.specs.MessageSpelling.{spelled}
+use Rattle.fab_base.proofs.Lists.{all_along}
 use Rattle.fab_net.specs.declared.event.Inner.{Inner}
 use Rattle.fab_net.specs.declared.event.Inner.TheVariants as i
 use Rattle.fab_net.specs.declared.note.Commit.{Commit}
@@ -35,7 +36,6 @@ use Rattle.fab_integrity.proofs.Frames.{calm, outsider, keeps_down, apart_by_D, 
 use Rattle.fab_integrity.proofs.StoreSteps.{store_hears, store_asks}
 use Rattle.fab_integrity.proofs.Orders.{ordered_calm, ordered_acts, ordered_wakes, ordered_hears, front_boot, ordered_down}
 use Rattle.fab_integrity.proofs.WorkerSteps.{Done, HasRoom, acted_done}
-use Rattle.fab_protocol.proofs.Lists.{all_along}
 use Rattle.std.proofs.lemmas.List.Elements.{filter-append}
 use Rattle.std.proofs.lemmas.List.Sums.{fold-append}
 use Rattle.fab_integrity.proofs.Readings.{same_kind, kind_at}

@@ -6,7 +6,7 @@ use Rattle.std.proofs.lemmas.Bool.{and_parts, eqb-true}
 use Rattle.fab_base.specs.declared.message.Message.{Message}
 use Rattle.fab_base.specs.declared.message.Message.TheVariants as m
 use Rattle.fab_base.specs.declared.entry.Entry.TheVariants as e
-use Rattle.fab_base.specs.FieldSpelling.{IsTid}
+use Rattle.fab_base.specs.FieldSpelling.{IsTid, sent_version}
 use Rattle.fab_base.specs.MessageSpelling.{IsBody, spelled}
 use Rattle.fab_net.specs.declared.note.Commit.{Commit}
 use Rattle.fab_net.specs.declared.note.Note.TheVariants as note
@@ -42,7 +42,7 @@ module _ (S : Setting) (D ex : ℕ → Bool) (given : IsSetting S) (w v : World)
   Does said = Lands s (of_store S (w.node s).attempt said) w v
 
   does_keeps : Excludes S D ex → length cs ≤ 4000000000 → (a : ℕ) → IsTrue (is_worker S.rights a) → (message : Message) → IsTrue (is_own a message)
-      → IsBody 1 message → (IsWorker S D ex a → Says S a s (at a) message)
+      → IsBody sent_version message → (IsWorker S D ex a → Says S a s (at a) message)
       → (IsWorker S D ex a → (b : ℕ) → message ≡ m.Boot b → Before S D ex a s (at a) now [] b) → Does (does S.rights s a message now) → Keeps
   does_keeps hyp few a from (m.Fetch t o) own body said front lands = keeps_fetch S D ex given w v cs C s inv me few a t o body.0 body.1 lands
   does_keeps hyp few a from (m.Prepare t items) own body said front lands =

@@ -12,9 +12,10 @@ use Rattle.fab_base.specs.declared.object.Oid.{Oid}
 use Rattle.fab_base.specs.declared.object.Object.{Object}
 use Rattle.fab_base.specs.declared.object.Tid.{Tid}
 use Rattle.fab_base.specs.declared.object.Value.{Value}
-use Rattle.fab_base.specs.FieldSpelling.{IsTid, IsObject}
+use Rattle.fab_base.specs.FieldSpelling.{IsTid, IsObject, sent_version}
 use Rattle.fab_base.specs.FlatMap.{is_among}
 use Rattle.fab_base.specs.MessageSpelling.{IsMessage}
+use Rattle.fab_base.proofs.Lists.{all_map}
 use Rattle.fab_language.specs.declared.ending.Ending.TheVariants as endings
 use Rattle.fab_net.specs.declared.note.Commit.{Commit}
 use Rattle.fab_net.specs.declared.note.Note.{Note}
@@ -28,7 +29,6 @@ use Rattle.fab_protocol.specs.declared.parts.Parts.{Parts}
 use Rattle.fab_protocol.specs.Parts.{stores_of, items_at}
 use Rattle.fab_protocol.specs.Tables.{row_of, OnlyOnce}
 use Rattle.fab_protocol.specs.Versions.{Row, Rows, name_of, names_of, objects_of, is_tid}
-use Rattle.fab_protocol.proofs.Lists.{all_map}
 use Rattle.fab_protocol.proofs.NameLists.{once_append}
 use Rattle.fab_protocol.proofs.TableLaws.{row_of_name}
 use Rattle.fab_world.specs.Machine.{Setting, World, kept, shelf, meant, parts, lacks}
@@ -107,7 +107,7 @@ module _ (S : Setting) (D ex : ℕ → Bool) (given : IsSetting S) (law : IsEval
   behind act = after S D ex given w v cs C n inv me act
 
   acts : (act : Act) → Lands n act w v → GoesOn S D ex n here (behind act) C
-      → ((s : ℕ) → IsStore S D ex s → (message : Message) → In (s, message) act.sends → IsMessage 1 message × Says S n s (behind act) message)
+      → ((s : ℕ) → IsStore S D ex s → (message : Message) → In (s, message) act.sends → IsMessage sent_version message × Says S n s (behind act) message)
       → ((s : ℕ) → IsStore S D ex s → (ls : List ℕ) → act.attempt.phase ≡ workers.Preparing ls
       → TakesPart S s (current S n (behind act)) → IsFalse (is_in s ls)
       → Has S (shelf S w s) (tid_at n (behind act)))
@@ -146,7 +146,7 @@ module _ (S : Setting) (D ex : ℕ → Bool) (given : IsSetting S) (law : IsEval
   keeps_stays lands = acts (stays a) lands as_it_is (λ s hs x h. absurd h) (λ s hs ls ph part out. (pair s hs).voted ls ph part out)
 
   -- it says one thing
-  speaks : (s : ℕ) (message : Message) → (IsStore S D ex s → IsMessage 1 message × Says S n s here message)
+  speaks : (s : ℕ) (message : Message) → (IsStore S D ex s → IsMessage sent_version message × Says S n s here message)
       → Lands n (sending ((s, message) ∷ []) (stays a)) w v → Inv S D ex v cs C
   speaks s message says lands =
       acts (sending ((s, message) ∷ []) (stays a)) lands as_it_is
@@ -155,7 +155,7 @@ module _ (S : Setting) (D ex : ℕ → Bool) (given : IsSetting S) (law : IsEval
       let to : z ≡ s = ap (λ (y : ℕ × Message). y.0) e in
       let what : x ≡ message = ap (λ (y : ℕ × Message). y.1) e in
       let q = says (subst (IsStore S D ex) to hz) in
-      subst (λ y. IsMessage 1 y × Says S n z here y) (sym what) (q.0, subst (λ y. Says S n y here message) (sym to) q.1))
+      subst (λ y. IsMessage sent_version y × Says S n z here y) (sym what) (q.0, subst (λ y. Says S n y here message) (sym to) q.1))
       (λ z hz ls ph part out. (pair z hz).voted ls ph part out)
 
   -- ---- an attempt goes on, or ends, and isn't prepared
@@ -167,7 +167,7 @@ module _ (S : Setting) (D ex : ℕ → Bool) (given : IsSetting S) (law : IsEval
       → OnlyOnce (names_of act.attempt.answers)
       → ((o : Oid) → act.attempt.phase ≡ workers.Fetching o → IsAwaited S D ex (behind act) o)
       → k.boot + act.attempt.number ≤ 4000000001
-      → ((s : ℕ) → IsStore S D ex s → (message : Message) → In (s, message) act.sends → IsMessage 1 message × Says S n s (behind act) message)
+      → ((s : ℕ) → IsStore S D ex s → (message : Message) → In (s, message) act.sends → IsMessage sent_version message × Says S n s (behind act) message)
       → Inv S D ex v cs C
   tries act lands boot decided later limits shut answers less once awaited low says =
       let u = behind act in
@@ -226,7 +226,7 @@ module _ (S : Setting) (D ex : ℕ → Bool) (given : IsSetting S) (law : IsEval
       (λ q g. let same : o ≡ q = cc in subst (IsAwaited S D ex (behind act)) same (record { fit = fit; new = new })) ok.low
       (λ s hs x h.
       let what : x ≡ m.Fetch (tid_of n k a) o = ap (λ (y : ℕ × Message). y.1) (in_one (s, x) (o.store, m.Fetch (tid_of n k a) o) h) in
-      subst (λ y. IsMessage 1 y × Says S n s (behind act) y) (sym what) (record { known = refl; body = (named, fit.spelled) }, tt))
+      subst (λ y. IsMessage sent_version y × Says S n s (behind act) y) (sym what) (record { known = refl; body = (named, fit.spelled) }, tt))
 
   -- at Evaluating, by what the meaning over the answers came to
   pub keeps_needs : a.phase ≡ workers.Evaluating → (site : ℕ) (o : Oid) → (meant S w n).ending ≡ endings.Missing site o
@@ -246,7 +246,7 @@ module _ (S : Setting) (D ex : ℕ → Bool) (given : IsSetting S) (law : IsEval
   -- what each is sent fits, and is within range
   prepares : a.phase ≡ workers.Evaluating → (s : ℕ) (ss : List ℕ) → stores_of p ≡ s ∷ ss → (value : Option Value) (z : ℕ) (x : Message)
       → In (z, x) (map prepare_to (s ∷ ss))
-      → IsMessage 1 x × Says S n z (behind (asks_by value (s ∷ ss))) x
+      → IsMessage sent_version x × Says S n z (behind (asks_by value (s ∷ ss))) x
   prepares ev s ss e value z x h =
       let at : limit_at a.phase a.number ≡ a.number = ap (λ x. limit_at x a.number) ev in
       let t = tid_of n k a in
@@ -254,7 +254,7 @@ module _ (S : Setting) (D ex : ℕ → Bool) (given : IsSetting S) (law : IsEval
       let to : z ≡ r.0 = ap (λ (y : ℕ × Message). y.0) r.2 in
       let what : x ≡ m.Prepare t (items_at p z) = ap (λ (y : ℕ × Message). y.1) r.2 ∙ ap (λ y. m.Prepare t (items_at p y)) (sym to) in
       let taken : IsTrue (is_in z (stores_of p)) = number_in z (stores_of p) (subst (In z) (sym e) (subst (λ y. In y (s ∷ ss)) (sym to) r.1)) in
-      subst (λ y. IsMessage 1 y × Says S n z (behind (asks_by value (s ∷ ss))) y) (sym what) (
+      subst (λ y. IsMessage sent_version y × Says S n z (behind (asks_by value (s ∷ ss))) y) (sym what) (
         prepare_spelled S law n (request_of k) t a.answers named answers_fit answers_low z,
         record {
           early = omega arith;
@@ -328,7 +328,7 @@ module _ (S : Setting) (D ex : ℕ → Bool) (given : IsSetting S) (law : IsEval
       (λ o g. absurd (cc)) ok.low
       (λ s hs x h.
       let q = only s x h in
-      subst (λ y. IsMessage 1 y × Says S n s (behind act) y) (sym q.0) (
+      subst (λ y. IsMessage sent_version y × Says S n s (behind act) y) (sym q.0) (
         record { known = refl; body = named },
         record {
           early = omega (arith, boot);
@@ -360,7 +360,7 @@ module _ (S : Setting) (D ex : ℕ → Bool) (given : IsSetting S) (law : IsEval
   -- ---- an answer to a Fetch
 
   pub keeps_learns : (s : ℕ) (t : Tid) (o : Oid) (version : ℕ) (x : Object) → Fetches S.rights S.cache n k s a p t o
-      → (IsStore S D ex s → ex o.class ≡ true → o.store ≡ s → Known C (o, version, x)) → version < 4294967296 → IsObject 1 x
+      → (IsStore S D ex s → ex o.class ≡ true → o.store ≡ s → Known C (o, version, x)) → version < 4294967296 → IsObject sent_version x
       → IsTrue (suits S.rights o x && nat_lt 0 version && is_made_before S.rights S.cache n k o a)
       → Lands n (stays (record a { phase = workers.Evaluating; answers = a.answers ++ (o, version, x) ∷ [] })) w v → Inv S D ex v cs C
   keeps_learns s t o version x asked heard low spelled test lands =
@@ -516,7 +516,7 @@ module _ (S : Setting) (D ex : ℕ → Bool) (given : IsSetting S) (w v : World)
 
   -- a Commit of what is decided says so
   told_again : ((c : Commit) → In c (deals cs n) → c.tid.number < 4294967296) → (s : ℕ) (d : Decision) → In d old.decided
-      → IsMessage 1 (m.Commit d.tid) × Says S n s (after S D ex given w v cs C n inv me (wakes S.rights S.cache n old)) (m.Commit d.tid)
+      → IsMessage sent_version (m.Commit d.tid) × Says S n s (after S D ex given w v cs C n inv me (wakes S.rights S.cache n old)) (m.Commit d.tid)
   told_again numbered s d h =
       let r = dealt S (deals cs n) old.decided sound.listed d h in
       let same : d.tid ≡ (r.commit).tid = ap (λ (x : Decision). x.tid) r.same in (
@@ -553,9 +553,9 @@ module _ (S : Setting) (D ex : ℕ → Bool) (given : IsSetting S) (w v : World)
         | inl i ↦
             let r = in_flat (λ (d : Decision). to_all d.stores (m.Commit d.tid)) (s, x) old.decided i in
             let what = to_all_is (r.0).stores (m.Commit (r.0).tid) (s, x) r.2 in
-            subst (λ y. IsMessage 1 y × Says S n s u y) (sym what) (told_again numbered s r.0 r.1)
+            subst (λ y. IsMessage sent_version y × Says S n s u y) (sym what) (told_again numbered s r.0 r.1)
         | inr j ↦
             let what = to_all_is (stores_in S.rights) (m.Boot (suc old.boot)) (s, x) j in
-            subst (λ y. IsMessage 1 y × Says S n s u y) (sym what) (record { known = refl; body = omega (arith, room) }, omega arith)
+            subst (λ y. IsMessage sent_version y × Says S n s u y) (sym what) (record { known = refl; body = omega (arith, room) }, omega arith)
       ])
       (λ s hs ls g. absurd (cc))

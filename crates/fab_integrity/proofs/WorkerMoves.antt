@@ -8,6 +8,7 @@ use Rattle.fab_base.specs.declared.object.Oid.{Oid}
 use Rattle.fab_base.specs.declared.object.Tid.{Tid}
 use Rattle.fab_base.specs.MessageSpelling.{IsMessage}
 use Rattle.fab_base.specs.Tids.{is_above}
+use Rattle.fab_base.specs.FieldSpelling.{sent_version}
 use Rattle.fab_net.specs.declared.note.Commit.{Commit}
 use Rattle.fab_net.specs.declared.outcome.ReqOutcome.{ReqOutcome}
 use Rattle.fab_protocol.specs.Tables.{OnlyOnce}
@@ -95,7 +96,7 @@ module _ (S : Setting) (D ex : ℕ → Bool) where
 
     -- so what holds holds behind its act, if what it sends and awaits is as it should be
     pub goes_on : (act : Act) → Lands n act w v → GoesOn n (standing S D ex w cs n) (after act) C
-        → ((s : ℕ) → IsStore S D ex s → (message : Message) → In (s, message) act.sends → IsMessage 1 message × Says S n s (after act) message)
+        → ((s : ℕ) → IsStore S D ex s → (message : Message) → In (s, message) act.sends → IsMessage sent_version message × Says S n s (after act) message)
         → ((s : ℕ) → IsStore S D ex s → (ls : List ℕ) → act.attempt.phase ≡ workers.Preparing ls → TakesPart S s (current S n (after act))
         → IsFalse (is_in s ls) → Has S (shelf S w s) (tid_at n (after act)))
         → Inv S D ex v cs C

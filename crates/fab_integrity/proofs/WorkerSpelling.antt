@@ -7,10 +7,11 @@ use Rattle.fab_base.specs.declared.object.Oid.{Oid}
 use Rattle.fab_base.specs.declared.object.Object.{Object}
 use Rattle.fab_base.specs.declared.object.Tid.{Tid}
 use Rattle.fab_base.specs.declared.message.Message.TheVariants as m
-use Rattle.fab_base.specs.FieldSpelling.{IsTid, AreItems, IsRead, IsWrite, IsCreate}
+use Rattle.fab_base.specs.FieldSpelling.{IsTid, AreItems, IsRead, IsWrite, IsCreate, sent_version}
 use Rattle.fab_base.specs.FlatMap.{FlatMap, is_before, is_among, is_same, map_of}
 use Rattle.fab_base.specs.FlatMap as flat
 use Rattle.fab_base.specs.MessageSpelling.{IsMessage}
+use Rattle.fab_base.proofs.Lists.{all_along, all_filter, all_map, few_pass}
 use Rattle.fab_language.specs.declared.ending.Ending.TheVariants as endings
 use Rattle.fab_language.specs.Heaps.{touched}
 use Rattle.fab_language.specs.Meaning.{Meant}
@@ -18,13 +19,11 @@ use Rattle.fab_protocol.specs.declared.parts.Parts.{Parts}
 use Rattle.fab_protocol.specs.Parts.{items_at, is_only_read}
 use Rattle.fab_protocol.specs.Tables.{placed, placed_all}
 use Rattle.fab_protocol.specs.Versions.{Row, Rows, names_of, objects_of, version_of}
-use Rattle.fab_protocol.proofs.Lists.{all_along, all_filter, all_map}
 use Rattle.fab_protocol.proofs.TableLaws.{all_placed_all}
 use Rattle.fab_world.specs.Attempts.{parts_of}
 use Rattle.fab_world.specs.Machine.{Setting}
 use Rattle.fab_world.specs.Serial.{IsEvaluation, IsFit, IsFitName, AreFit}
 use Rattle.fab_integrity.proofs.Maps.{all_put, ascends_put_all, none_answered, few_rows}
-use Rattle.fab_integrity.proofs.Lists.{few_pass}
 
 -- ---- what a store is asked to prepare
 
@@ -54,12 +53,12 @@ pub record ArePlain (parts : Parts) : Type 0 where
   pub touched : length parts.touched ≤ 1024
   pub reads : AllByRecursion IsRead parts.touched
   pub written : length parts.writes ≤ 256
-  pub writes : AllByRecursion (IsWrite 1) parts.writes
+  pub writes : AllByRecursion (IsWrite sent_version) parts.writes
   pub made : length parts.creates ≤ 256
-  pub creates : AllByRecursion (IsCreate 1) parts.creates
+  pub creates : AllByRecursion (IsCreate sent_version) parts.creates
 
 -- a store's share of them can be spelled, too
-pub items_spelled : (parts : Parts) (s : ℕ) → ArePlain parts → AreItems 1 (items_at parts s)
+pub items_spelled : (parts : Parts) (s : ℕ) → ArePlain parts → AreItems sent_version (items_at parts s)
 items_spelled parts s plain =
     let asked = filter (λ (r : Oid × ℕ). (r.0.store == s) && is_only_read parts r.0) parts.touched in
     record {
@@ -70,9 +69,9 @@ items_spelled parts s plain =
       reads = all_placed_all (λ (r : Oid × ℕ). r.0) IsRead asked []
           (all_filter IsRead (λ (r : Oid × ℕ). (r.0.store == s) && is_only_read parts r.0) parts.touched plain.reads) tt;
       writes_count = let few = few_pass (λ (w : Row). w.0.store == s) parts.writes in omega (arith, few, plain.written);
-      writes = all_filter (IsWrite 1) (λ w. w.0.store == s) parts.writes plain.writes;
+      writes = all_filter (IsWrite sent_version) (λ w. w.0.store == s) parts.writes plain.writes;
       creates_count = let few = few_pass (λ (c : Oid × Object). c.0.store == s) parts.creates in omega (arith, few, plain.made);
-      creates = all_filter (IsCreate 1) (λ c. c.0.store == s) parts.creates plain.creates;
+      creates = all_filter (IsCreate sent_version) (λ c. c.0.store == s) parts.creates plain.creates;
     }
 
 versions_low : (rows : Rows) → AllByRecursion (λ row. row.1 < 4294967296) rows → (o : Oid) → version_of rows o < 4294967296
@@ -132,16 +131,16 @@ module _ (S : Setting) (law : IsEvaluation S) (n r : ℕ) (t : Tid) (answers : R
               let rows = few_rows meant.written meant.map (law.once n r t over over_ascends) in
               let same = length-map wrote written_row in
               omega (arith, rows, same, few);
-          writes = all_map (IsWrite 1) written_row wrote
-              (all_along (IsFit S) (λ c. IsWrite 1 (written_row c))
+          writes = all_map (IsWrite sent_version) written_row wrote
+              (all_along (IsFit S) (λ c. IsWrite sent_version (written_row c))
               (λ c h. record { oid = h.name.spelled; read = versions_low answers low c.0; object = h.spelled }) wrote (rows_fit meant.written));
           made =
               let rows = few_rows meant.made meant.map (law.once n r t over over_ascends) in
               omega (arith, rows, few);
-          creates = all_along (IsFit S) (IsCreate 1) (λ c h. record { oid = h.name.spelled; object = h.spelled })
+          creates = all_along (IsFit S) (IsCreate sent_version) (λ c h. record { oid = h.name.spelled; object = h.spelled })
               (filter (λ c. is_among c.0 meant.made) meant.map) (rows_fit meant.made);
         }
 
     -- so a Prepare of them can be sent
-    pub prepare_spelled : (s : ℕ) → IsMessage 1 (m.Prepare t (items_at (parts_of answers meant) s))
+    pub prepare_spelled : (s : ℕ) → IsMessage sent_version (m.Prepare t (items_at (parts_of answers meant) s))
     prepare_spelled s = record { known = refl; body = (named, items_spelled (parts_of answers meant) s parts_plain) }

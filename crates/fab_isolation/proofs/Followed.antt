@@ -1,15 +1,17 @@
 -- An accepted bundle and a set of nodes give what isolation asks.
-use Rattle.std.proofs.Common.{◌≡◌, ℕ, ◌&&◌, ◌||◌, Bool, true, false, cond, IsTrue, List, [], ◌∷◌, ◌++◌, Option, Some, None, refl, sym, ap, ◌∙◌, subst}
+use Rattle.std.proofs.Common.{◌≡◌, ℕ, ◌||◌, Bool, true, false, cond, IsTrue, List, [], ◌∷◌, ◌++◌, Option, Some, None, refl, sym, ap, ◌∙◌, subst}
 use Rattle.std.specs.Prelude.{option_map, slice_get}
 use Rattle.std.specs.List.{filter, AllByRecursion}
-use Rattle.std.proofs.lemmas.Bool.{false≢true}
+use Rattle.std.proofs.lemmas.Bool.{false≢true, and_from, or_right}
 use Rattle.fab_base.specs.declared.object.Object.{Object}
 use Rattle.fab_base.specs.declared.object.Oid.{Oid}
 use Rattle.fab_base.specs.declared.object.Tid.{Tid}
 use Rattle.fab_base.specs.declared.object.Value.{Value}
 use Rattle.fab_base.specs.FieldSpelling.{IsTid}
 use Rattle.fab_base.specs.FlatMap.{FlatMap, get, is_among, is_same, ascends}
-use Rattle.fab_map.proofs.Order.{one_name, same_self}
+use Rattle.fab_base.proofs.NameOrder.{one_name}
+use Rattle.fab_base.proofs.Names.{same_self}
+use Rattle.fab_base.proofs.Lists.{all_along}
 use Rattle.fab_tree.specs.declared.start.Start.{Start}
 use Rattle.fab_tree.specs.declared.resolved.Request.{Request}
 use Rattle.fab_tree.specs.declared.resolved.Resolved.{Resolved}
@@ -61,21 +63,9 @@ found_row P (row ∷ rows) h o x e = by (is_same row.0 o) refl e (λ g. found_ro
         subst (λ q. P (q, x)) (one_name row.0 o i) (subst (λ y. P (row.0, y)) same h.0)
     by false i g later = later g
 
-weaker : {A : Type 0} (P Q : A → Type 0) → ((x : A) → P x → Q x) → (xs : List A) → AllByRecursion P xs → AllByRecursion Q xs
-weaker P Q f [] h = tt
-weaker P Q f (x ∷ xs) h = (f x h.0, weaker P Q f xs h.1)
-
 or_left : (b c : Bool) → b ≡ true → (b || c) ≡ true
 or_left true c e = refl
 or_left false c e = absurd (false≢true e)
-
-or_right : (b c : Bool) → c ≡ true → (b || c) ≡ true
-or_right true c e = refl
-or_right false c e = e
-
-both_true : (b c : Bool) → b ≡ true → c ≡ true → (b && c) ≡ true
-both_true true c e f = f
-both_true false c e f = e
 
 not_empty : {A : Type 0} (before : List A) (x : A) (after : List A) → [] ≡ before ++ x ∷ after → ⊥
 not_empty [] x after e = cc
@@ -227,7 +217,7 @@ module _ (s : Start) (rights : Rights) (nodes : ℕ) (sees shows : ℕ → Bool)
   asked : (x : ℕ × Oid) → (IsTrue (is_asked_in_view sees shows r x.1.class) → IsTrue (in_view sees shows r x.0)) → IsTrue (has_bit nodes x.1.store)
       → IsTrue (may_hold rights x.1.store x.1.class) → IsTrue (is_seen sight x)
   asked x f has may =
-      both_true (in_view sees shows r x.0) (shows x.1.class)
+      and_from (in_view sees shows r x.0) (shows x.1.class)
       (f (held_is_asked r nodes sees shows h.seen declared rights h.accepted.rights_are x.1.store x.1.class has may))
       (held_is_shown r nodes sees shows h.seen declared rights h.accepted.rights_are x.1.store x.1.class has may)
 
@@ -238,7 +228,7 @@ module _ (s : Start) (rights : Rights) (nodes : ℕ) (sees shows : ℕ → Bool)
       → AllByRecursion (λ x. IsTrue (has_bit nodes x.1.store) → IsTrue (may_hold rights x.1.store x.1.class) → IsTrue (is_seen sight x)) (full_of o t N).touches
   asks_by w number None e t N up fit = tt
   asks_by w number (Some q) e t N up fit =
-      weaker _ _ asked (full_of (Some q) t N).touches (asks_are_in_view sees shows r N q t 1000000 learns (shaped N fit) (fitting w number q e)).touches
+      all_along _ _ asked (full_of (Some q) t N).touches (asks_are_in_view sees shows r N q t 1000000 learns (shaped N fit) (fitting w number q e)).touches
 
   lacks_by : (w number : ℕ) (o : Option Request) → request_at r w number ≡ o → (t : Tid) (N : FlatMap) (site : ℕ) (x : Oid) → IsTrue (ascends N) → AreFit S N
       → (full_of o t N).ending ≡ Missing site x → IsTrue (has_bit nodes x.store) → IsTrue (may_hold rights x.store x.class) → IsTrue (is_seen sight (site, x))

@@ -1,13 +1,13 @@
 -- A run posts no more than its bundle has to post.
-use Rattle.std.proofs.Common.{◌≡◌, ◌⊎◌, inl, inr, ℕ, zero, suc, ◌+◌, ◌≤◌, ◌<◌, ◌==◌, ◌&&◌, ◌||◌, ◌^◌, not, Bool, true, false, cond, IsTrue, List, [], ◌∷◌, fold, length, None, Some, refl, ap, ◌∙◌, arith}
-use Rattle.std.specs.Prelude.{find}
-use Rattle.std.specs.List.{filter, AllByRecursion}
-use Rattle.std.proofs.lemmas.Bool.{false≢true, and_parts, cases_eq, eq-eqb, ne_eqb, ltb-false}
+use Rattle.std.proofs.Common.{◌≡◌, ◌⊎◌, inl, inr, ℕ, zero, suc, ◌+◌, ◌≤◌, ◌<◌, ◌==◌, ◌&&◌, ◌||◌, ◌^◌, not, Bool, true, false, cond, IsTrue, List, [], ◌∷◌, fold, length, None, refl, ap, ◌∙◌, arith}
+use Rattle.std.specs.List.{filter}
+use Rattle.std.proofs.lemmas.Bool.{false≢true, and_parts, cases_eq, eq-eqb, ne_eqb}
 use Rattle.std.proofs.lemmas.List.{length-map}
 use Rattle.fab_tree.specs.declared.start.Start.{Start}
 use Rattle.fab_tree.specs.declared.resolved.Resolved.{Resolved}
 use Rattle.fab_tree.specs.declared.resolved.Post.{Post}
-use Rattle.fab_tree.specs.Limits.{first_passed, order, passes}
+use Rattle.fab_tree.specs.Limits.{first_passed}
+use Rattle.fab_tree.proofs.Within.{is_within}
 use Rattle.fab_language.specs.Numbers.{resolved, post_of}
 use Rattle.fab_rights.specs.declared.rights.Rights.{Rights}
 use Rattle.fab_rights.specs.Computed.{is_node, has_bit}
@@ -137,17 +137,8 @@ as_long r (suc n) =
     let here : length (posts_of r n) ≡ length (sent_by r.posts n) = length-map (sent_by r.posts n) (λ (p : Post). (p.receiver, p.bytes)) in
     omega (arith, rest, here)
 
-none_passes : {A : Type 0} (test : A → Bool) (xs : List A) → find test xs ≡ None → AllByRecursion (λ x. test x ≡ false) xs
-none_passes test [] e = tt
-none_passes test (x ∷ xs) e = by (test x) refl e (none_passes test xs)
-  where
-    by : (b : Bool) → test x ≡ b → cond b (Some x) (find test xs) ≡ None → (find test xs ≡ None → AllByRecursion (λ y. test y ≡ false) xs)
-        → AllByRecursion (λ y. test y ≡ false) (x ∷ xs)
-    by true g h later = absurd (cc)
-    by false g h later = (g, later h)
-
 few_posts : (s : Start) → first_passed s ≡ None → length s.posts ≤ 10000
-few_posts s limits = ltb-false 10000 _ (none_passes (passes s) order limits).1.1.1.1.1.1.1.1.1.1.1.0
+few_posts s limits = (is_within s limits).posts
 
 node_below : (r : Rights) (n : ℕ) → r.workers < 2 ^ 64 → r.stores < 2 ^ 64 → is_node r n ≡ true → n < 64
 node_below r n workers stores h = one_of (has_bit r.workers n) (has_bit r.stores n) refl refl h

@@ -1,38 +1,29 @@
 -- What a set of nodes of an accepted bundle sees: the classes that its stores may hold and its workers may fetch.
-use Rattle.std.proofs.Common.{◌≡◌, ℕ, zero, suc, ◌<◌, ◌||◌, Bool, true, false, IsTrue, List, [], ◌∷◌, length, Option, Some, None, refl, sym, ◌∙◌, arith, IsBitSet, IsSomeAnd}
+use Rattle.std.proofs.Common.{◌≡◌, ℕ, ◌<◌, ◌||◌, Bool, true, false, IsTrue, length, Option, Some, None, refl, sym, ◌∙◌, arith, IsBitSet, IsSomeAnd}
 use Rattle.std.specs.Prelude.{slice_get, option_map}
 use Rattle.std.specs.List.{list_any}
 use Rattle.std.proofs.lemmas.Bool.{true≢false}
-use Rattle.fab_tree.specs.declared.declaration.Role.{Role}
+use Rattle.fab_base.proofs.Lists.{at_index}
 use Rattle.fab_tree.specs.declared.resolved.Class.{Class}
 use Rattle.fab_tree.specs.declared.resolved.Resolved.{Resolved}
 use Rattle.fab_language.specs.Flows.{delegations_of}
 use Rattle.fab_labelling.specs.Readers.{IsNode, IsReader, label_at, principal_of}
-use Rattle.fab_labelling.specs.Placement.{role_of, HoldsClass}
+use Rattle.fab_labelling.specs.Placement.{HoldsClass}
 use Rattle.fab_places.specs.Places.{AreRights}
+use Rattle.fab_places.proofs.NodeLemmas.{role_is_node}
 use Rattle.fab_rights.specs.Computed as computed
 use Rattle.fab_rights.specs.Computed.{has_bit, may_fetch, may_hold}
 use Rattle.fab_rights.specs.declared.rights.ClassRights.{ClassRights}
 use Rattle.fab_rights.specs.declared.rights.Rights.{Rights}
 use Rattle.fab_rights.proofs.Bits.{has_bit_exact}
 use Rattle.fab_settings.proofs.Nodes.{holds_number}
-use Rattle.fab_shapes.proofs.Lists.{at_index}
 use Rattle.fab_fewer.specs.Asking.{access_of, is_asked_in_view}
 use Rattle.fab_views.specs.Views.{IsSeenBy}
 use Rattle.fab_views.proofs.Labels.{IsLabelledClass, HasLabels}
 
-some_below : {A : Type 0} (P : A → Type 0) (xs : List A) (i : ℕ) → IsSomeAnd (slice_get xs i) P → i < length xs
-some_below P [] i h = absurd h
-some_below P (x ∷ xs) zero h = omega arith
-some_below P (x ∷ xs) (suc i) h = let k = some_below P xs i h in omega (arith, k)
-
 some_mapped : {A B : Type 0} (f : A → B) (P : B → Type 0) (o : Option A) → IsSomeAnd (option_map f o) P → IsSomeAnd o (λ x. P (f x))
 some_mapped f P None h = absurd h
 some_mapped f P (Some x) h = h
-
--- what has a role is a node
-role_is_node : (r : Resolved) (n : ℕ) (P : Role → Type 0) → IsSomeAnd (role_of r n) P → IsNode r n
-role_is_node r n P h = some_below _ r.nodes (principal_of r n) (some_mapped (λ x. x.role) P (slice_get r.nodes (principal_of r n)) h)
 
 either_true : (b : Bool) → b ≡ true → (b || false) ≡ true
 either_true true e = refl

@@ -30,7 +30,7 @@ body_length version (entries.BootSeen worker boot) = omega arith
 pub length-record : (version : ℕ) (e : Entry) → length (record_bytes version e) ≡ record_length e
 length-record version e = omega (arith, length-framed (body_bytes version e), body_length version e)
 
-result_le : (r : Option Value) → length (result_bytes r) ≤ 19
+pub result_le : (r : Option Value) → length (result_bytes r) ≤ 19
 result_le None = omega arith
 result_le (Some v) = value_le v
 

@@ -7,5 +7,7 @@ mod HeapExamples
 mod MeaningExamples
 mod MethodNumberExamples
 mod NumberExamples
+pub mod Named
 pub mod NumberedForms
+pub mod Touches
 pub mod Weights

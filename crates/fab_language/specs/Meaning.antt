@@ -195,6 +195,10 @@ compares GreaterEqual a b = int_le (int_of b) (int_of a)
 abbrev pub wrapped : ℤ → Value
 wrapped n = Int (int_wrap w32 n)
 
+-- the number with its sign changed
+abbrev pub negated : Value → Value
+negated a = wrapped (pos 0 -ℤ int_of a)
+
 -- a quotient, if there is one
 abbrev pub quotient : Option ℤ → M Value
 quotient None = ends failed
@@ -226,7 +230,7 @@ form_step (f.Local x) = local x.number
 form_step (f.Read x field site) = local x.number >>= read site field
 form_step (f.Negative m) = do
   v ← m
-  gives (wrapped (pos 0 -ℤ int_of v))
+  gives (negated v)
 form_step (f.Not m) = do
   v ← m
   gives (truth (not (holds v)))

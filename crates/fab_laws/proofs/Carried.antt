@@ -4,7 +4,7 @@ use Rattle.fab_base.specs.declared.object.Oid.{Oid}
 use Rattle.fab_base.specs.declared.object.Object.{Object}
 use Rattle.fab_base.specs.declared.object.Tid.{Tid}
 use Rattle.fab_base.specs.FlatMap.{FlatMap, is_same, get, put_all, ascends}
-use Rattle.fab_map.proofs.Order.{one_name}
+use Rattle.fab_base.proofs.NameOrder.{one_name}
 use Rattle.fab_map.proofs.Rows.{leads, leads_from, ascends_leads, ascends_rest, ascends_cons, ascends-put_all, same_from_get}
 use Rattle.fab_map.proofs.Made.{first_of, get-put_all, distinct_from_ascends}
 use Rattle.fab_tree.specs.declared.resolved.Request.{Request}

@@ -8,7 +8,7 @@ use Rattle.fab_base.specs.declared.object.Tid.{Tid}
 use Rattle.fab_base.specs.declared.object.Value.{Value}
 use Rattle.fab_base.specs.declared.object.Value.TheVariants.{Int, Null, Ref}
 use Rattle.fab_base.specs.FlatMap.{FlatMap, get, put, is_same}
-use Rattle.fab_map.proofs.Order.{one_name}
+use Rattle.fab_base.proofs.NameOrder.{one_name}
 use Rattle.fab_map.proofs.Rows.{get-put_same, get-put_other}
 use Rattle.fab_tree.specs.declared.resolved.Sort.{Sort}
 use Rattle.fab_tree.specs.declared.resolved.Sort.TheVariants as sorts

@@ -6,7 +6,8 @@ use Rattle.std.proofs.lemmas.List.{map-append}
 use Rattle.fab_base.specs.declared.object.Oid.{Oid}
 use Rattle.fab_base.specs.declared.object.Object.{Object}
 use Rattle.fab_base.specs.FlatMap.{is_same}
-use Rattle.fab_map.proofs.Order.{same_self, same_flips, one_name}
+use Rattle.fab_base.proofs.Names.{same_self, same_flips}
+use Rattle.fab_base.proofs.NameOrder.{one_name}
 use Rattle.fab_language.specs.Heaps.{Heap, is_among, is_changed, with_row, without, each_once, touched, noted}
 use Rattle.fab_laws.specs.Changes.{AreApart, AreOnce, has_pair}
 

@@ -1,5 +1,6 @@
 pub mod Changes
 pub mod Closed
+pub mod Fewer
 pub mod Kinds
 pub mod Locality
 pub mod Origins

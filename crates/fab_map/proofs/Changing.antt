@@ -8,7 +8,7 @@ use Rattle.fab_base.specs.FlatMap.{is_before, is_same, FlatMap, get, put, ascend
 use Rattle.fab_map.specs.Changes.{field_in, with_field, with_field_of, put_some, put_field, removed}
 use Rattle.fab_map.specs.Places.{IsAt, IsGap}
 use Rattle.fab_base.proofs.Names.{same_self}
-use Rattle.fab_map.proofs.Order.{one_name, cases_name, differ, differ_back}
+use Rattle.fab_base.proofs.NameOrder.{one_name, cases_name, differ, differ_back}
 use Rattle.fab_map.proofs.Rows.{get_here, get_past, put_before, put_behind, put_over, leads, leads_from, ascends_leads, ascends_rest, ascends_cons, ascends-put, get-put_same, get-put_other, get_none_before, same_from_get}
 use Rattle.fab_map.proofs.Found.{get_at, put_at, at_tail, first_before, get_in_gap}
 

@@ -9,7 +9,7 @@ use Rattle.fab_base.specs.declared.object.Object.{Object}
 use Rattle.fab_base.specs.FlatMap.{is_before, is_same, FlatMap, get, put, ascends}
 use Rattle.fab_map.specs.Places.{IsAt, IsGap}
 use Rattle.fab_base.proofs.Names.{same_self}
-use Rattle.fab_map.proofs.Order.{name_cmp, name_cmp_total, derived_cmp, derived_is, before_is, same_is, one_name, not_back, differ, differ_back, before_from_less, before_from_greater}
+use Rattle.fab_base.proofs.NameOrder.{name_cmp, name_cmp_total, derived_cmp, derived_is, before_is, same_is, one_name, not_back, differ, differ_back, before_from_less, before_from_greater}
 use Rattle.fab_map.proofs.Rows.{get_here, get_past, put_before, put_behind, put_over, leads, leads_from, ascends_leads, ascends_rest}
 
 -- each row is before the next

@@ -2,5 +2,4 @@ pub mod Bytes
 pub mod Changing
 pub mod Found
 pub mod Made
-pub mod Order
 pub mod Rows

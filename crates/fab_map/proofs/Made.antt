@@ -11,7 +11,7 @@ use Rattle.fab_base.specs.declared.object.Oid.{Oid}
 use Rattle.fab_base.specs.declared.object.Object.{Object}
 use Rattle.fab_base.specs.FlatMap.{is_before, is_same, FlatMap, get, put, put_all, map_of, ascends}
 use Rattle.fab_base.proofs.Names.{same_self, same_flips, same_is_equivalence}
-use Rattle.fab_map.proofs.Order.{name_cmp, derived_cmp, derived_is, before_is, one_name, cases_name, differ}
+use Rattle.fab_base.proofs.NameOrder.{name_cmp, derived_cmp, derived_is, before_is, one_name, cases_name, differ}
 use Rattle.fab_map.proofs.Rows.{get_here, get_past, leads, leads_from, ascends_leads, ascends_rest, ascends_cons, ascends-put_all, get-put_same, get-put_other, same_from_get}
 
 -- ---- sorted rows of distinct names ascend

@@ -5,7 +5,7 @@ use Rattle.fab_base.specs.declared.object.Oid.{Oid}
 use Rattle.fab_base.specs.declared.object.Object.{Object}
 use Rattle.fab_base.specs.FlatMap.{is_before, is_same, FlatMap, get, put, put_all, ascends}
 use Rattle.fab_base.proofs.Names.{same_self}
-use Rattle.fab_map.proofs.Order.{one_name, not_itself, not_back, before_trans, cases_name, differ, differ_back}
+use Rattle.fab_base.proofs.NameOrder.{one_name, not_itself, not_back, before_trans, cases_name, differ, differ_back}
 
 -- ---- the cases of `get`
 pub get_here : (row : Oid × Object) (rows : FlatMap) (o : Oid) → is_same row.0 o ≡ true → get (row ∷ rows) o ≡ Some row.1

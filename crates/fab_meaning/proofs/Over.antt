@@ -5,9 +5,9 @@ use Rattle.std.proofs.lemmas.List.{take_more}
 use Rattle.fab_base.specs.declared.object.Oid.{Oid}
 use Rattle.fab_base.specs.declared.object.Object.{Object}
 use Rattle.fab_base.specs.FlatMap.{FlatMap, ascends, get, is_same, put, put_all}
+use Rattle.fab_base.proofs.NameOrder.{one_name}
 use Rattle.fab_map.proofs.Made.{distinct_from_ascends, first_of, get-put_all}
 use Rattle.fab_map.proofs.Rows.{ascends-put, ascends-put_all, get-put_other, get-put_same, put_more, same_from_get}
-use Rattle.fab_map.proofs.Order.{one_name}
 use Rattle.fab_meaning.specs.Effects.{object_at, objects_at}
 
 -- what is found is the changed object, or else the one before

@@ -8,10 +8,10 @@ use crate::halt::{End, Halt};
 use crate::setting::Setting;
 use crate::shown::{is_seen, read_shown, shown_if};
 use crate::state::State;
-use fab_base::{Seq, Value, java_sub};
+use fab_base::{Seq, Value};
 use fab_tree::Operator;
 use fab_tree::resolved::{Expression, Form, Method, Operand};
-use fab_values::{compares, holds, int_of, operate, truth};
+use fab_values::{compares, holds, negated, operate, truth};
 
 /// The value of an expression.
 #[cycle(value)]
@@ -40,7 +40,7 @@ pub(crate) fn value(
         }
         Form::Negative(operand) => {
             let v = value(setting, method, state, operand.get())?;
-            Ok(shown_if(seen, Value::Int(java_sub(0, int_of(v)))))
+            Ok(shown_if(seen, negated(v)))
         }
         Form::Not(operand) => {
             let v = value(setting, method, state, operand.get())?;

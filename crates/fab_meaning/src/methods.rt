@@ -1,14 +1,14 @@
 //! What a method begins with, and whether what it returns is seen.
 ghost use Rattle.std.specs.Prelude.{◌≡◌, IfOk, slice_get, unwrap_or};
 ghost use Rattle.fab_base.specs.declared.object.Value.TheVariants.{Null};
-ghost use Rattle.fab_language.specs.Meaning.{default};
 ghost use Rattle.fab_erasure.specs.Erased.{args_shown, locals_at_start, returns_blank, sees_result, shown_if};
 ghost use Rattle.fab_meaning.specs.Sights.{sees, sees_given, shows};
 
 use crate::setting::Sight;
 use crate::shown::shown_if;
 use fab_base::{NoMemory, Value};
-use fab_tree::resolved::{Local, Method, Sort};
+use fab_tree::resolved::{Local, Method};
+use fab_values::default;
 use std::alloc::Global;
 
 /// What a call of a method that is skipped gives: a blank, if the method returns.
@@ -84,15 +84,5 @@ fn sees_given(sight: Sight, locals: &[Local], local: usize) -> bool
     match locals.get(local) {
         Some(found) => sight.sees(found.label.number),
         None => true,
-    }
-}
-
-/// What a local holds before it is assigned.
-pub(crate) fn default(sort: Sort) -> Value
-    ensures { result ≡ default sort }
-{
-    match sort {
-        Sort::Int => Value::Int(0),
-        Sort::Class(_) => Value::Null,
     }
 }

@@ -8,13 +8,13 @@ ghost use Rattle.fab_meaning.specs.Sights.{sees};
 
 use crate::expressions::{value, values};
 use crate::halt::{End, Halt};
-use crate::methods::{blank_result, default, locals_at_start, sees_result};
+use crate::methods::{blank_result, locals_at_start, sees_result};
 use crate::setting::{Setting, Sight};
 use crate::shown::{fields_shown, is_seen, sees_local, shown_if, write_shown};
 use crate::state::State;
 use fab_base::{Seq, Stop, Value};
 use fab_tree::resolved::{Expression, Method, Right, Statement};
-use fab_values::holds;
+use fab_values::{default, holds};
 
 /// The statements of a block, in order.
 #[cycle(run)]

@@ -3,6 +3,7 @@ use Rattle.std.proofs.Common.{◌≡◌, ◌≢◌, ℕ, suc, List, [], ◌∷�
 use Rattle.std.specs.List.{AllByRecursion}
 use Rattle.fab_base.specs.declared.token.Token.{Token}
 use Rattle.fab_base.specs.Tokens.{keyword_of, Lexes}
+use Rattle.fab_base.proofs.Lists.{all_map}
 use Rattle.fab_tree.specs.declared.name.Name.{Name}
 use Rattle.fab_tree.specs.declared.declaration.Node.{Node}
 use Rattle.fab_tree.specs.declared.declaration.Class.{Class}
@@ -22,7 +23,6 @@ use Rattle.fab_tree.specs.Syntax.{IsStart, start, IsText}
 use Rattle.fab_language.specs.Numbers.{principals_from, class_of, roots_from, post_of, resolved}
 use Rattle.fab_reports.specs.Lines.{IsWord, AreBytes}
 use Rattle.fab_reports.specs.Showable.{HasWords}
-use Rattle.fab_named.proofs.Lists.{all_made}
 use Rattle.fab_named.proofs.Words.{IsWell, IsWellToken, not_null, all_well}
 use Rattle.fab_named.proofs.Kept.{Leaves, kept_is, kept_name, kept_repeated, kept_role, kept_node, kept_delegation, kept_label, kept_class, kept_method, kept_root, kept_session, kept_post}
 
@@ -126,4 +126,4 @@ have_words {s = s} cut is =
 
 -- posts are bytes
 pub have_bytes : {text : List ℕ} {ts : List Token} {s : Start} → Lexes 0 text ts → IsText ts s → AllByRecursion (λ p. AreBytes p.bytes) (resolved s).posts
-have_bytes {s = s} cut is = all_made (λ (p : Post). AreBytes p.bytes) (post_of s) s.posts (text_says is (all_well cut)).posts
+have_bytes {s = s} cut is = all_map (λ (p : Post). AreBytes p.bytes) (post_of s) s.posts (text_says is (all_well cut)).posts

@@ -1,10 +1,10 @@
 -- Posts, crashes and scheduled events of a bundle without faults are of its workers and stores.
-use Rattle.std.proofs.Common.{◌≡◌, ℕ, Bool, true, false, cond, not, [], ◌∷◌, ◌++◌, length, Option, Some, None, refl, ap, subst, arith}
+use Rattle.std.proofs.Common.{◌≡◌, ℕ, Bool, true, not, [], ◌++◌, length, Option, Some, None, refl, ap, subst, arith}
 use Rattle.std.specs.List.{AllByRecursion, flat_map}
 use Rattle.std.proofs.lemmas.Bool.{and_parts}
+use Rattle.fab_base.proofs.Lists.{left_nil, right_nil, each_nil, all_map, true_if_empty}
 use Rattle.fab_tree.specs.declared.name.Name.{Name}
 use Rattle.fab_tree.specs.declared.declaration.Role.{Role}
-use Rattle.fab_tree.specs.declared.declaration.Role.TheVariants as r
 use Rattle.fab_tree.specs.declared.event.PostLine.{PostLine}
 use Rattle.fab_tree.specs.declared.event.CrashLine.{CrashLine}
 use Rattle.fab_tree.specs.declared.event.Step.{Step}
@@ -18,15 +18,16 @@ use Rattle.fab_tree.specs.Limits.{is_node}
 use Rattle.fab_language.specs.Arity.{miscounted}
 use Rattle.fab_language.specs.Doubled.{doubled}
 use Rattle.fab_language.specs.Faults.{faults}
-use Rattle.fab_language.specs.Names.{named, node_name, is_hostile, is_honest, is_worker, is_honest_worker}
+use Rattle.fab_language.specs.Names.{named, node_name, is_hostile, is_honest, is_honest_worker}
 use Rattle.fab_language.specs.Numbers.{post_of, crash_of, step_of, event_of, resolved}
 use Rattle.fab_language.specs.Roles as roles
 use Rattle.fab_language.specs.Types.{mistyped}
 use Rattle.fab_language.specs.Unknown as unknown
 use Rattle.fab_language.specs.Uses.{node_number}
+use Rattle.fab_language.proofs.Named.{honest_worker_node, hostile_node}
 use Rattle.fab_reports.specs.Showable.{IsNode}
 use Rattle.fab_named.specs.Events.{IsStepOf, IsEventOf}
-use Rattle.fab_named.proofs.Lists.{left_nil, right_nil, each_nil, from_two, all_made}
+use Rattle.fab_named.proofs.Lists.{from_two}
 use Rattle.fab_named.proofs.Numbered.{name_among}
 
 -- a name that isn't unknown stands for something
@@ -34,26 +35,8 @@ found : {A : Type 0} (o : Option A) (x : Name) → unknown.if_found o x ≡ [] �
 found None x e = absurd (omega (arith, ap length e))
 found (Some y) x e = (y, refl)
 
--- what is no fault is allowed
-allowed : {A : Type 0} (b : Bool) (fault : A) → cond b [] (fault ∷ []) ≡ [] → b ≡ true
-allowed true fault e = refl
-allowed false fault e = absurd (omega (arith, ap length e))
-
-hostile_node : (role : Role) → is_hostile role ≡ true → is_node role ≡ true
-hostile_node r.Principal h = h
-hostile_node (r.Worker hostile) h = refl
-hostile_node (r.Store hostile) h = refl
-
 honest_node : (role : Role) → is_honest role ≡ true → is_node role ≡ true
 honest_node role h = (and_parts (is_node role) (not (is_hostile role)) h).0
-
-worker_node : (role : Role) → is_honest_worker role ≡ true → is_node role ≡ true
-worker_node role h = of_worker role (and_parts (is_worker role) (not (is_hostile role)) h).0
-  where
-    of_worker : (role : Role) → is_worker role ≡ true → is_node role ≡ true
-    of_worker r.Principal h = h
-    of_worker (r.Worker hostile) h = refl
-    of_worker (r.Store hostile) h = refl
 
 module _ (s : Start) where
   -- a worker or store of the bundle has this number
@@ -66,7 +49,7 @@ module _ (s : Start) where
   name_has_number kind only x e f =
       let nodes = s.program.nodes in
       let y = found (named node_name nodes x) x e in
-      name_among nodes x y.0 y.1 (only y.0.role (allowed (kind y.0.role) _ (subst (λ o. roles.if_of_kind kind o x ≡ []) y.1 f)))
+      name_among nodes x y.0 y.1 (only y.0.role (true_if_empty (kind y.0.role) _ (subst (λ o. roles.if_of_kind kind o x ≡ []) y.1 f)))
 
   post_has_numbers : (x : PostLine) → unknown.in_post s x ≡ [] → roles.in_post s x ≡ [] → HasNumber (node_number s x.receiver) × HasNumber (node_number s x.sender)
   post_has_numbers x e f =
@@ -82,8 +65,8 @@ module _ (s : Start) where
   crash_has_number x e f = name_has_number is_honest honest_node x.node e f
 
   step_has_numbers : (x : Step) → unknown.in_step s x ≡ [] → roles.in_step s x ≡ [] → IsStepOf (resolved s) (step_of s x)
-  step_has_numbers (steps.Begin x) e f = name_has_number is_honest_worker worker_node x e f
-  step_has_numbers (steps.Resume x) e f = name_has_number is_honest_worker worker_node x e f
+  step_has_numbers (steps.Begin x) e f = name_has_number is_honest_worker honest_worker_node x e f
+  step_has_numbers (steps.Resume x) e f = name_has_number is_honest_worker honest_worker_node x e f
   step_has_numbers (steps.Deliver x y) e f =
       let one = unknown.in_principal s x in
       let two = unknown.in_principal s y in
@@ -95,7 +78,7 @@ module _ (s : Start) where
       let two = unknown.in_principal s y in
       let from = roles.need s is_honest_worker x in
       let to = roles.need s is_node y in
-      (name_has_number is_honest_worker worker_node x (left_nil one two e) (left_nil from to f), name_has_number is_node (λ role h. h) y (right_nil one two e) (right_nil from to f))
+      (name_has_number is_honest_worker honest_worker_node x (left_nil one two e) (left_nil from to f), name_has_number is_node (λ role h. h) y (right_nil one two e) (right_nil from to f))
   step_has_numbers (steps.Recover x) e f = name_has_number is_honest honest_node x e f
 
   event_has_numbers : (x : Event) → unknown.in_event s x ≡ [] → roles.in_event s x ≡ [] → IsEventOf (resolved s) (event_of s x)
@@ -156,18 +139,18 @@ module _ (s : Start) where
 
   pub posts_have_numbers : faults s ≡ [] → AllByRecursion (λ p. HasNumber p.receiver × HasNumber p.sender) (resolved s).posts
   posts_have_numbers e =
-      all_made (λ (p : Post). HasNumber p.receiver × HasNumber p.sender) (post_of s) s.posts
+      all_map (λ (p : Post). HasNumber p.receiver × HasNumber p.sender) (post_of s) s.posts
       (from_two (λ x. unknown.in_post s x ≡ []) (λ x. roles.in_post s x ≡ []) (λ x. HasNumber (node_number s x.receiver) × HasNumber (node_number s x.sender)) s.posts
       post_has_numbers (each_nil (unknown.in_post s) s.posts (both e).0.posts) (each_nil (roles.in_post s) s.posts (both e).1.posts))
 
   pub crashes_have_numbers : faults s ≡ [] → AllByRecursion (λ c. HasNumber c.node) (resolved s).crashes
   crashes_have_numbers e =
-      all_made (λ (c : Crash). HasNumber c.node) (crash_of s) s.crashes
+      all_map (λ (c : Crash). HasNumber c.node) (crash_of s) s.crashes
       (from_two (λ x. unknown.in_crash s x ≡ []) (λ x. roles.in_crash s x ≡ []) (λ x. HasNumber (node_number s x.node)) s.crashes
       crash_has_number (each_nil (unknown.in_crash s) s.crashes (both e).0.crashes) (each_nil (roles.in_crash s) s.crashes (both e).1.crashes))
 
   pub events_have_numbers : faults s ≡ [] → AllByRecursion (IsEventOf (resolved s)) (resolved s).schedule
   events_have_numbers e =
-      all_made (IsEventOf (resolved s)) (event_of s) s.schedule
+      all_map (IsEventOf (resolved s)) (event_of s) s.schedule
       (from_two (λ x. unknown.in_event s x ≡ []) (λ x. roles.in_event s x ≡ []) (λ x. IsEventOf (resolved s) (event_of s x)) s.schedule
       event_has_numbers (each_nil (unknown.in_event s) s.schedule (both e).0.events) (each_nil (roles.in_event s) s.schedule (both e).1.events))

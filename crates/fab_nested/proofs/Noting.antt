@@ -1,5 +1,5 @@
 -- Touches: what noting one more does to the list of pairs and to the objects among them.
-use Rattle.std.proofs.Common.{◌≡◌, ℕ, ◌<◌, ◌≤◌, Bool, true, false, not, ◌&&◌, ◌||◌, ◌==◌, if◌then◌else◌, List, [], ◌∷◌, ◌++◌, length, map, refl, sym, ap, ◌∙◌, append-nil, arith}
+use Rattle.std.proofs.Common.{◌≡◌, ℕ, ◌<◌, ◌≤◌, Bool, true, false, not, ◌&&◌, ◌==◌, if◌then◌else◌, List, [], ◌∷◌, ◌++◌, length, map, refl, sym, ap, ◌∙◌, arith}
 use Rattle.std.specs.List.{list_any}
 use Rattle.std.proofs.lemmas.List.{map-append}
 use Rattle.std.proofs.lemmas.Bool.{true≢false}
@@ -8,8 +8,8 @@ use Rattle.fab_base.specs.declared.object.Oid.{Oid}
 use Rattle.fab_base.specs.FlatMap.{is_same}
 use Rattle.fab_base.specs.contracts.object.OidPartialEq as oids
 use Rattle.std.specs.contracts.prelude.U16PartialEq as numbers
-use Rattle.fab_language.specs.Heaps.{is_among, without, each_once, touched, noted, is_full}
-use Rattle.fab_base.proofs.Names.{same_flips}
+use Rattle.fab_language.specs.Heaps.{is_among, each_once, touched, noted, is_full}
+use Rattle.fab_language.proofs.Touches.{among_once, once_more}
 use Rattle.fab_nested.proofs.Naming.{eq_is, same_any, among_by}
 
 pair_is : (site : ℕ) (o : Oid) (t : ℕ × Oid) → (numbers.TheImpl.ghosts.eq site t.0 && oids.TheImpl.ghosts.eq o t.1) ≡ ((t.0 == site) && is_same t.1 o)
@@ -19,45 +19,6 @@ noted_by : (site : ℕ) (o : Oid) (ts : List (ℕ × Oid)) → list_any (λ (t :
 noted_by site o ts = same_any _ _ (pair_is site o) ts
 
 -- ---- names among names
-
-among_without : (o p : Oid) (xs : List Oid) → is_same p o ≡ false → is_among o (without p xs) ≡ is_among o xs
-among_without o p [] h = refl
-among_without o p (x ∷ xs) h =
-    elim (is_same x p) as (λ b. is_same x p ≡ b → is_among o (if b then without p xs else x ∷ without p xs) ≡ is_among o (x ∷ xs)) [
-      | true ↦ λ e. among_without o p xs h ∙ rw (other x o p e h) refl
-      | false ↦ λ e. ap (λ b. is_same x o || b) (among_without o p xs h)
-    ] refl
-  where
-    other : (x o p : Oid) → is_same x p ≡ true → is_same p o ≡ false → is_same x o ≡ false
-    other x o p e h = grind (arith, nat_tests)
-
-among_once : (o : Oid) (xs : List Oid) → is_among o (each_once xs) ≡ is_among o xs
-among_once o [] = refl
-among_once o (p ∷ ps) =
-    elim (is_same p o) as (λ b. is_same p o ≡ b → (b || is_among o (without p (each_once ps))) ≡ (b || is_among o ps)) [
-      | true ↦ λ e. refl
-      | false ↦ λ e. among_without o p (each_once ps) e ∙ among_once o ps
-    ] refl
-
-without_more : (p o : Oid) (xs : List Oid) → without p (xs ++ o ∷ []) ≡ without p xs ++ (if is_same o p then [] else o ∷ [])
-without_more p o [] = refl
-without_more p o (x ∷ xs) =
-    elim (is_same x p) as (λ b. (if b then without p (xs ++ o ∷ []) else x ∷ without p (xs ++ o ∷ [])) ≡ (if b then without p xs else x ∷ without p xs) ++ (if is_same o p then [] else o ∷ [])) [
-      | true ↦ without_more p o xs
-      | false ↦ ap (λ l. x ∷ l) (without_more p o xs)
-    ]
-
-once_more : (o : Oid) (xs : List Oid) → each_once (xs ++ o ∷ []) ≡ (if is_among o xs then each_once xs else each_once xs ++ o ∷ [])
-once_more o [] = refl
-once_more o (p ∷ ps) = rw (once_more o ps) (split (is_among o ps))
-  where
-    split : (b : Bool) → p ∷ without p (if b then each_once ps else each_once ps ++ o ∷ []) ≡ (if is_same p o || b then p ∷ without p (each_once ps) else p ∷ without p (each_once ps) ++ o ∷ [])
-    split true = elim (is_same p o) as (λ c. p ∷ without p (each_once ps) ≡ (if c || true then p ∷ without p (each_once ps) else p ∷ without p (each_once ps) ++ o ∷ [])) [ true ↦ refl | false ↦ refl ]
-    split false = rw (without_more p o (each_once ps), same_flips o p) (last (is_same p o))
-      where
-        last : (c : Bool) → p ∷ without p (each_once ps) ++ (if c then [] else o ∷ []) ≡ (if c || false then p ∷ without p (each_once ps) else p ∷ without p (each_once ps) ++ o ∷ [])
-        last true = ap (λ l. p ∷ l) (append-nil _)
-        last false = refl
 
 objects_more : (site : ℕ) (o : Oid) (ts : List (ℕ × Oid)) → touched (ts ++ (site, o) ∷ []) ≡ (if is_among o (touched ts) then touched ts else touched ts ++ o ∷ [])
 objects_more site o ts =

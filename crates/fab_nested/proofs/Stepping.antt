@@ -8,10 +8,10 @@ use Rattle.fab_base.specs.declared.object.Oid.{Oid}
 use Rattle.fab_base.specs.declared.object.Object.{Object}
 use Rattle.fab_base.specs.declared.object.Value.{Value}
 use Rattle.fab_base.specs.FlatMap.{FlatMap, is_same, get, put, ascends, map_of}
+use Rattle.fab_base.proofs.NameOrder.{one_name}
 use Rattle.fab_language.specs.Heaps.{Heap, is_among, is_changed, is_spent, changed, with_row, replaced, created}
 use Rattle.fab_language.specs.Meaning.{with_field, unchanged}
 use Rattle.fab_map.specs.Changes.{field_in, put_field, removed}
-use Rattle.fab_map.proofs.Order.{one_name}
 use Rattle.fab_map.proofs.Rows.{ascends-put, ascends-put_all, get-put_same, get-put_other}
 use Rattle.fab_map.proofs.Changing.{put_field_there, put_field-back, removed-put}
 use Rattle.fab_nested.specs.declared.log.Change.{Change}

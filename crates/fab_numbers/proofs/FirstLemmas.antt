@@ -1,6 +1,5 @@
 -- The number of a name is that of the first that has it.
-use Rattle.std.proofs.Common.{◌≡◌, ◌≢◌, ℕ, zero, suc, ◌+◌, ◌<◌, Bool, true, false, cond, List, [], ◌∷◌, map, filter, take, Some, IsSome, slice_get, refl, sym, ap, ◌∙◌, subst, arith}
-use Rattle.std.proofs.lemmas.List.Sums.{sum_by-cons}
+use Rattle.std.proofs.Common.{◌≡◌, ◌≢◌, ℕ, zero, suc, ◌<◌, Bool, true, false, cond, List, [], ◌∷◌, map, filter, Some, IsSome, slice_get, refl, sym, ap, ◌∙◌, subst, arith}
 use Rattle.std.proofs.lemmas.Slice.Eq.{bytes_eq-Decides}
 use Rattle.fab_tree.specs.declared.name.Name.{Name}
 use Rattle.fab_tree.specs.declared.declaration.Node.{Node}
@@ -11,13 +10,10 @@ use Rattle.fab_tree.specs.declared.resolved.Principal.{Principal}
 use Rattle.fab_tree.specs.Limits.{is_node}
 use Rattle.fab_language.specs.Names.{named, number_of, is_same_name, node_name}
 use Rattle.fab_language.specs.Uses.{nodes_before}
-use Rattle.fab_language.specs.MethodNumbers.{Numbered, in_turn, method_of, methods_of}
+use Rattle.fab_language.specs.MethodNumbers.{method_of, methods_of}
 use Rattle.fab_language.specs.Numbers.{principal_of, principals_from, roots_from}
+use Rattle.fab_language.proofs.Named.{same_text, before_cons}
 use Rattle.fab_numbers.specs.FirstNames.{IsFirst}
-
--- two names of one text
-same_text : (x y : Name) → is_same_name x y ≡ true → x.text ≡ y.text
-same_text x y e = (bytes_eq-Decides x.text y.text).0 e
 
 other_text : (x y : Name) → is_same_name x y ≡ false → x.text ≢ y.text
 other_text x y e h = let t = (bytes_eq-Decides x.text y.text).1 h in absurd (cc)
@@ -80,13 +76,6 @@ names_of_nodes n (x ∷ xs) = by (is_node x.role) (principals_from (cond (is_nod
     by : (b : Bool) (ps : List Principal) → map (λ z. z.name) (principals_in ps) ≡ map node_name (nodes_in xs) → map (λ z. z.name) (cond b (principal_of n x ∷ principals_in ps) (principals_in ps)) ≡ map node_name (cond b (x ∷ nodes_in xs) (nodes_in xs))
     by true ps h = ap (λ l. x.name ∷ l) h
     by false ps h = h
-
-before_cons : (k : ℕ) (z : Node) (zs : List Node) → nodes_before (suc k) (z ∷ zs) ≡ cond (is_node z.role) (suc (nodes_before k zs)) (nodes_before k zs)
-before_cons k z zs = sum_by-cons (λ w. cond (is_node w.role) 1 0) z (take k zs) ∙ by (is_node z.role)
-  where
-    by : (b : Bool) → cond b 1 0 + nodes_before k zs ≡ cond b (suc (nodes_before k zs)) (nodes_before k zs)
-    by true = omega arith
-    by false = omega arith
 
 pub first_node : (x : Name) (y : Node) (nodes : List Node) → named node_name nodes x ≡ Some y → is_node y.role ≡ true → IsFirst (map node_name (nodes_in nodes)) (nodes_before (number_of node_name nodes x) nodes) x
 first_node x y [] e of = absurd (cc)

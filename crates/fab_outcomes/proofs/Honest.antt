@@ -14,7 +14,7 @@ use Rattle.fab_base.specs.declared.message.Why.TheVariants as why
 use Rattle.fab_base.specs.declared.object.Object.{Object}
 use Rattle.fab_base.specs.declared.object.Oid.{Oid}
 use Rattle.fab_base.specs.declared.object.Tid.{Tid}
-use Rattle.fab_base.specs.FieldSpelling.{IsOid, IsTid}
+use Rattle.fab_base.specs.FieldSpelling.{IsOid, IsTid, sent_version}
 use Rattle.fab_base.specs.MessageSpelling.{IsBody, spelled}
 use Rattle.fab_rights.specs.Computed.{is_worker}
 use Rattle.fab_protocol.specs.declared.said.Said.{Said}
@@ -105,7 +105,7 @@ module _ (S : Setting) (given : IsSetting S) (Made : Oid → Type 0) (s : ℕ) (
   owes_vote t items h _ = tt
 
   -- to a message that can be spelled, and of which, if it is a Commit of its worker, what it commits has a maker
-  pub fair_hears : (n : ℕ) (heard : Option Message) → ((message : Message) → heard ≡ Some message → IsBody 1 message)
+  pub fair_hears : (n : ℕ) (heard : Option Message) → ((message : Message) → heard ≡ Some message → IsBody sent_version message)
       → ((t : Tid) → heard ≡ Some (m.Commit t) → is_worker S.rights n ≡ true → t.worker ≡ n → (o : Oid) → is_made_in t o ≡ true → Made o)
       → IsFair (hears S.rights s n heard shelf)
   fair_hears n None body made = fair_silent

@@ -9,14 +9,14 @@ use Rattle.fab_base.specs.declared.entry.Entry.TheVariants as e
 use Rattle.fab_base.specs.declared.object.Object.{Object}
 use Rattle.fab_base.specs.declared.object.Oid.{Oid}
 use Rattle.fab_base.specs.declared.object.Tid.{Tid}
-use Rattle.fab_base.specs.FieldSpelling.{AreItems, IsCreate, IsObject, IsOid, IsTid, IsWrite}
+use Rattle.fab_base.specs.FieldSpelling.{AreItems, IsCreate, IsObject, IsOid, IsTid, IsWrite, sent_version}
+use Rattle.fab_base.proofs.Lists.{all_append, all_filter}
 use Rattle.fab_rights.specs.declared.rights.Rights.{Rights}
 use Rattle.fab_rights.specs.Computed.{suits}
 use Rattle.fab_protocol.specs.Shelves.{IsCurrent, IsShelf, IsSuited}
 use Rattle.fab_protocol.specs.Stores.{Item, Prepared, Shelf, Write, Create, all_in, is_unsuited, keeps, prepared_as}
 use Rattle.fab_protocol.specs.Tables.{row_of}
 use Rattle.fab_protocol.specs.Versions.{Row, begun, is_made_in, is_tid, left_by, name_of, raised, risen, version_of}
-use Rattle.fab_protocol.proofs.Lists.{all_append, all_filter}
 use Rattle.fab_protocol.proofs.TableLaws.{all_placed_all, row_of_all, row_of_name}
 use Rattle.fab_protocol.proofs.VersionLaws.{left_versions, version_in, version_by_row}
 use Rattle.fab_integrity.proofs.Invariant.{In}
@@ -28,14 +28,14 @@ use Rattle.fab_integrity.proofs.Tids.{tid_is}
 pub record IsGood (rights : Rights) (Made : Oid → Type 0) (row : Row) : Type 0 where
   pub suited : suits rights row.0 row.2 ≡ true
   pub name : IsOid row.0
-  pub object : IsObject 1 row.2
+  pub object : IsObject sent_version row.2
   pub low : 1 ≤ row.1
   pub high : row.1 < 2 ^ 32
   pub made : Made row.0
 
 -- what is prepared can be spelled
 abbrev pub IsSpelled : Prepared → Type 0
-IsSpelled p = IsTid p.0 × AreItems 1 p.1
+IsSpelled p = IsTid p.0 × AreItems sent_version p.1
 
 pub good_made : (rights : Rights) (P Q : Oid → Type 0) → ((o : Oid) → P o → Q o) → (row : Row) → IsGood rights P row → IsGood rights Q row
 good_made rights P Q f row g =
@@ -73,14 +73,14 @@ module _ (rights : Rights) (Made : Oid → Type 0) (s : ℕ) (shelf : Shelf) (ok
           each_of (IsCurrent shelf) (all_in p.1) item
           (each_of (λ (q : Prepared). AllByRecursion (IsCurrent shelf) (all_in q.1)) shelf.prepared p ok.current i) h
 
-      spelled_here : AreItems 1 p.1
+      spelled_here : AreItems sent_version p.1
       spelled_here = (each_of IsSpelled shelf.prepared p prepared i).1
 
       -- what it writes, as it is behind the commit
       good_write : (x : Row) → In x p.1.writes → 1 ≤ risen x.1 → Good (raised x)
       good_write x h low =
           let are = spelled_here in
-          let write : IsWrite 1 x = each_of (IsWrite 1) p.1.writes x are.writes h in
+          let write : IsWrite sent_version x = each_of (IsWrite sent_version) p.1.writes x are.writes h in
           let stale = or_parts (version_of shelf.rows x.0 == 0) (not (x.1 == version_of shelf.rows x.0)) (current_item (Write x.0 x.1 x.2) (in_writes p.1 x h)) in
           record {
             suited = not-false (suits rights x.0 x.2) (suited_item (Write x.0 x.1 x.2) (in_writes p.1 x h));
@@ -94,7 +94,7 @@ module _ (rights : Rights) (Made : Oid → Type 0) (s : ℕ) (shelf : Shelf) (ok
       good_create : (c : Oid × Object) → In c p.1.creates → ((o : Oid) → is_made_in p.0 o ≡ true → Made o) → Good (begun c)
       good_create c h made =
           let are = spelled_here in
-          let create : IsCreate 1 c = each_of (IsCreate 1) p.1.creates c are.creates h in
+          let create : IsCreate sent_version c = each_of (IsCreate sent_version) p.1.creates c are.creates h in
           let both = and_parts (suits rights c.0 c.1) (is_made_in p.0 c.0) (not-false _ (suited_item (Create c.0 c.1) (in_creates p.1 c h))) in
           record { suited = both.0; name = create.oid; object = create.object; low = omega arith; high = omega arith; made = made c.0 both.1 }
 

@@ -10,6 +10,7 @@ use Rattle.fab_base.specs.declared.message.Message.TheVariants as m
 use Rattle.fab_base.specs.declared.object.Object.{Object}
 use Rattle.fab_base.specs.declared.object.Oid.{Oid}
 use Rattle.fab_base.specs.declared.object.Tid.{Tid}
+use Rattle.fab_base.proofs.Lists.{all_along}
 use Rattle.fab_net.specs.declared.event.Inner.{Inner}
 use Rattle.fab_net.specs.declared.event.Inner.TheVariants as i
 use Rattle.fab_net.specs.declared.note.Commit.{Commit}
@@ -19,7 +20,6 @@ use Rattle.fab_protocol.specs.declared.said.Said.{Said}
 use Rattle.fab_protocol.specs.Shelves.{IsShelf}
 use Rattle.fab_protocol.specs.Stores.{Shelf, asks, hears, keeps_said, says, shelf_at_start, shelf_of}
 use Rattle.fab_protocol.specs.Versions.{begun, is_made_in, maker_of}
-use Rattle.fab_protocol.proofs.Lists.{all_along}
 use Rattle.fab_world.specs.Machine.{Setting, World, Node, Move, Form, Does, act, are_enabled, at_start, enabled, form_of, front_of, is_empty, is_evaluating, kept, lacks}
 use Rattle.fab_world.specs.Machine.{logged, logs, may, meant, node_of, notes_at, of_store, option_list, parts, runs, shelf, step, steps}
 use Rattle.fab_world.specs.Machine as machine

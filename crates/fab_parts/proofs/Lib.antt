@@ -1,3 +1,1 @@
 pub mod Spelled
-pub mod Putting
-pub mod Touching

@@ -8,8 +8,8 @@ ghost use Rattle.fab_rights.specs.Computed.{has_bit, is_store};
 ghost use Rattle.fab_sent.specs.Messages.{all_spelled};
 ghost use Rattle.fab_world.specs.Workers.{to_all};
 
-use crate::items::items_at;
 use fab_base::{Message, NoMemory, Seq, Tid};
+use fab_commit::items_at;
 use fab_protocol::Parts;
 use fab_rights::{Rights, is_in};
 use fab_sent::{Sends, spell};
@@ -77,7 +77,7 @@ pub fn prepares(alloc: Global, tid: Tid, parts: &Parts, stores: &[u16]) -> Resul
 }
 
 /// The stores below this number that the rights know, in the order of their numbers.
-#[tactic(auto, using(crate::proofs::Spelled::one_kept, crate::proofs::Spelled::none_kept))]
+#[tactic(auto, using(fab_base::proofs::Lists::one_kept, fab_base::proofs::Lists::none_kept))]
 pub fn stores_below(alloc: Global, rights: &Rights, end: u16) -> Result<Vec<u16>, NoMemory>
     ensures { IfOk result (λ stores. stores.items ≡ filter (is_store rights.now) (range_with_len 0 end)) }
 {

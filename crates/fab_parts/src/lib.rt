@@ -1,15 +1,9 @@
-//! The parts of an attempt, of what its request means over its answers: which stores take part, what
-//! each is asked to prepare and told, and what caches take of a commit.
+//! What of an attempt the simulator knows: the parts that its request comes to over what is known,
+//! and what stores are asked and told, in bytes.
 #![tactic(auto)]
 
 mod asking;
-mod items;
 mod parts;
-mod puts;
-mod stores;
 
 pub use asking::{add_all, keep_in_set, one, prepares, stores_below, to_all};
-pub use items::items_at;
 pub use parts::parts_from;
-pub use puts::{copies, puts_of};
-pub use stores::participants;

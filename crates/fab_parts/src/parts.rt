@@ -5,60 +5,10 @@ ghost use Rattle.fab_base.specs.FlatMap.{is_among, is_same};
 ghost use Rattle.fab_language.specs.Heaps.{touched};
 ghost use Rattle.fab_protocol.specs.Versions.{version_of};
 
-use crate::puts::row_in;
 use fab_base::{NoMemory, Object, Oid, Seq, Value};
+use fab_commit::{touched_versions, version_in};
 use fab_protocol::Parts;
-use indexmap::IndexSet;
 use std::alloc::Global;
-
-/// The objects that were touched, each once, in the order of first touches.
-fn touched_once(alloc: Global, touches: &[(u16, Oid)]) -> Result<IndexSet<Oid>, NoMemory>
-    ensures { IfOk result (λ names. names.keys ≡ touched touches.now) }
-{
-    let mut names = IndexSet::new(alloc);
-    for touch in touches {
-        names.insert(touch.1)?;
-    }
-    Ok(names)
-}
-
-/// The version with which an object was answered, 0 for none.
-#[tactic(auto, using(fab_protocol::proofs::VersionLaws::version_by_row))]
-fn version_in(answers: &[(Oid, u32, Object)], oid: Oid) -> u32
-    ensures { result ≡ version_of answers.now oid }
-{
-    match row_in(answers, oid) {
-        Some(answer) => answer.1,
-        None => 0,
-    }
-}
-
-/// These names with the versions of these answers.
-fn versions_of(
-    alloc: Global,
-    names: &[Oid],
-    answers: &[(Oid, u32, Object)],
-) -> Result<Seq<(Oid, u32)>, NoMemory>
-    ensures { IfOk result (λ versions. versions ≡ map (λ o. (o, version_of answers.now o)) names.now) }
-{
-    let mut versions = Seq::new(alloc);
-    for name in names {
-        versions.push((*name, version_in(answers, *name)))?;
-    }
-    Ok(versions)
-}
-
-/// What was touched, with the versions of these answers.
-fn touched_versions(
-    alloc: Global,
-    touches: &[(u16, Oid)],
-    answers: &[(Oid, u32, Object)],
-) -> Result<Seq<(Oid, u32)>, NoMemory>
-    ensures { IfOk result (λ names. names ≡ map (λ o. (o, version_of answers.now o)) (touched touches.now)) }
-{
-    let names = touched_once(alloc, touches)?;
-    versions_of(alloc, names.as_slice(), answers)
-}
 
 fn is_one_name(one: Oid, other: Oid) -> bool
     ensures { result ≡ is_same one other }

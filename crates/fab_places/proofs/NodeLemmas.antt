@@ -48,8 +48,8 @@ numbered_is n None is = absurd (false≢true is)
 numbered_is n (Some m) is = ap (λ (k : ℕ). Some k) (sym (eqb-true n m is))
 
 -- whoever has a role is there
-pub there : (r : Resolved) (n : ℕ) (Q : Role → Type 0) → IsSomeAnd (role_of r n) Q → IsNode r n
-there r n Q has = elim (cases_lt (principal_of r n) (length r.nodes)) [
+pub role_is_node : (r : Resolved) (n : ℕ) (Q : Role → Type 0) → IsSomeAnd (role_of r n) Q → IsNode r n
+role_is_node r n Q has = elim (cases_lt (principal_of r n) (length r.nodes)) [
   | inl below ↦ below
   | inr past ↦ absurd (subst (λ (o : Option Principal). IsSomeAnd (option_map (λ x. x.role) o) Q) (slice_get_past r.nodes (principal_of r n) past) has)
 ]

@@ -22,7 +22,7 @@ use Rattle.fab_rights.specs.Rights.{FitsField}
 use Rattle.fab_places.specs.Places.{AreRights, HasNumbers, kind_of, kind_of_sort, MayContain}
 use Rattle.fab_places.specs.ClassRights.{IsClassRights}
 use Rattle.fab_places.proofs.Bits.{in_both}
-use Rattle.fab_places.proofs.NodeLemmas.{there, numbered}
+use Rattle.fab_places.proofs.NodeLemmas.{numbered, role_is_node}
 
 -- ---- one class
 
@@ -39,10 +39,10 @@ module _ (r : Resolved) (class : Class) (numbers : HasNumbers r)
     (is_readers : Reading r (delegations_of r) class.label.number readers) (is_learners : Reading r (delegations_of r) class.access.number learners)
     (is_writers : Influencing r (delegations_of r) class.label.number writers) where
   worker_is : (n : ℕ) → IsWorker r n → (n < 64) × IsNode r n
-  worker_is n worker = let node = there r n (λ x. is_worker x ≡ true) worker in (numbered r n numbers node, node)
+  worker_is n worker = let node = role_is_node r n (λ x. is_worker x ≡ true) worker in (numbered r n numbers node, node)
 
   store_is : (n : ℕ) → IsStore r n → (n < 64) × IsNode r n
-  store_is n store = let node = there r n (λ x. is_store x ≡ true) store in (numbered r n numbers node, node)
+  store_is n store = let node = role_is_node r n (λ x. is_store x ≡ true) store in (numbered r n numbers node, node)
 
   pub fetching : (n : ℕ) → IsBitSet (bit_and workers readers) n ↔ (IsWorker r n × FetchesClass r (delegations_of r) n class)
   fetching n = (
@@ -159,8 +159,8 @@ module _ (r : Resolved) (rights : Rights) (numbers : HasNumbers r)
   rights_are =
       let long : length rights.classes ≡ length r.classes = AllZip-long (IsClassRights r) r.classes rights.classes all in
       record {
-        workers = λ n. (λ bit. ((is_workers n).0 bit).1, λ worker. (is_workers n).1 (numbered r n numbers (there r n (λ x. is_worker x ≡ true) worker), worker));
-        stores = λ n. (λ bit. ((is_stores n).0 bit).1, λ store. (is_stores n).1 (numbered r n numbers (there r n (λ x. is_store x ≡ true) store), store));
+        workers = λ n. (λ bit. ((is_workers n).0 bit).1, λ worker. (is_workers n).1 (numbered r n numbers (role_is_node r n (λ x. is_worker x ≡ true) worker), worker));
+        stores = λ n. (λ bit. ((is_stores n).0 bit).1, λ store. (is_stores n).1 (numbered r n numbers (role_is_node r n (λ x. is_store x ≡ true) store), store));
         classes = λ c. (λ known. omega (arith, long, known), λ known. omega (arith, long, known));
         kinds = all_kinds r r.classes rights.classes all;
         fetched = fetched;

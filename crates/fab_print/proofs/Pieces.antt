@@ -10,6 +10,7 @@ use Rattle.std.proofs.lemmas.Bool.Decides.{nat_tests}
 use Rattle.std.proofs.lemmas.Fmt.{decimal_by_steps, decimal_digit, first_decimal}
 use Rattle.std.proofs.lemmas.List.Sums.{take_while-cons}
 use Rattle.std.proofs.lemmas.List.Folds.{list_all-append}
+use Rattle.std.proofs.lemmas.Bool.{and_from}
 use Rattle.fab_base.specs.declared.token.Mark.{Mark}
 use Rattle.fab_base.specs.declared.token.Mark.TheVariants as m
 use Rattle.fab_base.specs.declared.token.Kind.{Kind}
@@ -26,13 +27,10 @@ on_if : {A : Type 0} (P : A → Type 0) (q : Bool) (x y : A) → (q ≡ true →
 on_if P true x y f g = f refl
 on_if P false x y f g = g refl
 
-both : (s t : Bool) → s ≡ true → t ≡ true → (s && t) ≡ true
-both s t h i = ap (λ q. q && t) h ∙ i
-
 -- ---- runs
 
 passes : (p : ℕ → Bool) (q : Bool) (x : ℕ) (xs : List ℕ) → p x ≡ q → list_all p xs ≡ true → list_all p (cond q (x ∷ xs) []) ≡ true
-passes p true x xs e h = both (p x) (list_all p xs) e h
+passes p true x xs e h = and_from (p x) (list_all p xs) e h
 passes p false x xs e h = refl
 
 -- a run passes its test
@@ -184,9 +182,9 @@ digit_test d h = grind (arith, nat_tests)
 decimal_digits : (n : ℕ) → n < 2 ^ 64 → IsDigits n (decimal n)
 decimal_digits =
     decimal_by_steps IsDigits
-    (λ n h. record { all = both (is_ascii_digit (48 + n)) true (digit_test n h) refl; some = omega arith; value = omega arith })
+    (λ n h. record { all = and_from (is_ascii_digit (48 + n)) true (digit_test n h) refl; some = omega arith; value = omega arith })
     (λ n ds h g. record {
-      all = list_all-append is_ascii_digit ds ((48 + n % 10) ∷ []) ∙ both (list_all is_ascii_digit ds) _ g.all (both (is_ascii_digit (48 + n % 10)) true (digit_test (n % 10) (omega arith)) refl);
+      all = list_all-append is_ascii_digit ds ((48 + n % 10) ∷ []) ∙ and_from (list_all is_ascii_digit ds) _ g.all (and_from (is_ascii_digit (48 + n % 10)) true (digit_test (n % 10) (omega arith)) refl);
       some = omega (arith, length-append ds ((48 + n % 10) ∷ []));
       value = omega (arith, value_push 0 ds (48 + n % 10), g.value);
     })
@@ -197,7 +195,7 @@ digit_byte d h = grind (arith, nat_tests)
 digits_run : (ds : List ℕ) → list_all is_ascii_digit ds ≡ true → list_all is_word_byte ds ≡ true
 digits_run [] h = refl
 digits_run (d ∷ ds) h =
-    both (is_word_byte d) (list_all is_word_byte ds) (digit_byte d (first_so (is_ascii_digit d) (list_all is_ascii_digit ds) h))
+    and_from (is_word_byte d) (list_all is_word_byte ds) (digit_byte d (first_so (is_ascii_digit d) (list_all is_ascii_digit ds) h))
     (digits_run ds (second_so (is_ascii_digit d) (list_all is_ascii_digit ds) h))
 
 abbrev letter : List ℕ → Bool
@@ -234,7 +232,7 @@ digits_kind n (d ∷ ds) h i lead =
     let no_key : keyword_of (d ∷ ds) ≡ None = none_of d ds keywords (digit_low d first) keyword_letters in
     let no_name : is_name_text (d ∷ ds) ≡ false = ap (λ q. not q && nat_le (length ds) 63) first in
     let some : nat_lt 0 (length (d ∷ ds)) ≡ true = grind (arith, nat_tests) in
-    let is_one : is_numeral (d ∷ ds) ≡ true = both (nat_lt 0 (length (d ∷ ds)) && list_all is_ascii_digit (d ∷ ds)) _ (both _ _ some i.all) lead in
+    let is_one : is_numeral (d ∷ ds) ≡ true = and_from (nat_lt 0 (length (d ∷ ds)) && list_all is_ascii_digit (d ∷ ds)) _ (and_from _ _ some i.all) lead in
     ap (λ o. keyword_or o (if is_name_text (d ∷ ds) then Some (k.Name (d ∷ ds)) else (if is_numeral (d ∷ ds) then number_kind (value_from 0 (d ∷ ds)) else None))) no_key
     ∙ ap (λ q. if q then Some (k.Name (d ∷ ds)) else (if is_numeral (d ∷ ds) then number_kind (value_from 0 (d ∷ ds)) else None)) no_name
     ∙ ap (λ q. if q then number_kind (value_from 0 (d ∷ ds)) else None) is_one ∙ ap number_kind i.value ∙ small_kind n h
@@ -270,7 +268,7 @@ are_digits (b ∷ bs) s =
     let two = glyph (b % 16) (omega arith) in
     let same : 16 * hex_value (digit_glyph false (b / 16)) + hex_value (digit_glyph false (b % 16)) ≡ b = omega (arith, one.1, two.1) in
     record {
-      run = both _ _ one.0 (both _ _ two.0 more.run);
+      run = and_from _ _ one.0 (and_from _ _ two.0 more.run);
       even = omega (arith, more.even);
       back = λ i. same i ∷ more.back i;
     }
@@ -289,7 +287,7 @@ quoted_front bs rest s =
     let even : (length (digits_of bs) % 2 == 0) ≡ true = ap (λ n. n == 0) zero_rest in
     let closes : starts_with nat_eq (drop (length (digits_of bs)) text) (34 ∷ []) ≡ true = ap (λ x. starts_with nat_eq x (34 ∷ [])) (drop_front (digits_of bs) (34 ∷ rest)) in
     ap (λ ds. if length ds % 2 == 0 && starts_with nat_eq (drop (length ds) text) (34 ∷ []) then stands (p.Spelled (k.Bytes (bytes_of ds)) (length ds + 2)) else unfit (length ds + 1)) whole
-    ∙ ap (λ q. if q then stands (p.Spelled (k.Bytes (bytes_of (digits_of bs))) (length (digits_of bs) + 2)) else unfit (length (digits_of bs) + 1)) (both _ _ even closes)
+    ∙ ap (λ q. if q then stands (p.Spelled (k.Bytes (bytes_of (digits_of bs))) (length (digits_of bs) + 2)) else unfit (length (digits_of bs) + 1)) (and_from _ _ even closes)
     ∙ ap (λ x. stands (p.Spelled (k.Bytes x) (length (digits_of bs) + 2))) i.back
 
 -- ---- signs

@@ -6,12 +6,12 @@ use Rattle.fab_base.specs.declared.object.Tid.{Tid}
 use Rattle.fab_base.specs.declared.entry.Entry.TheVariants as e
 use Rattle.fab_base.specs.FieldSpelling.{KeepsItems}
 use Rattle.fab_base.specs.FlatMap.{is_same}
+use Rattle.fab_base.proofs.Lists.{all_append, all_split, all_filter, all_along, all_two, all_flat, all_always}
 use Rattle.fab_rights.specs.declared.rights.Rights.{Rights}
 use Rattle.fab_protocol.specs.Versions.{Rows, name_of, version_of, left_by, is_tid}
 use Rattle.fab_protocol.specs.Stores.{Shelf, Prepared, Item, Read, Write, Create, keeps, prepared_as, without, item_name, reads_in, writes_in, creates_in}
 use Rattle.fab_protocol.specs.Stores.{all_in, is_stale}
 use Rattle.fab_protocol.specs.Shelves.{IsShelf, IsCurrent, IsApart, AreApart}
-use Rattle.fab_protocol.proofs.Lists.{all_append, all_split, all_filter, all_along, all_two, all_flat, all_always}
 use Rattle.fab_protocol.proofs.Locks.{Free, free_both_ways, free_unchanged, turned}
 use Rattle.fab_protocol.proofs.Records.{apart_filter}
 use Rattle.fab_protocol.proofs.TableLaws.{all_placed_all, ascends_placed_all, row_of_placed_all}

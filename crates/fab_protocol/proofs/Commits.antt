@@ -10,13 +10,13 @@ use Rattle.fab_base.specs.declared.object.Tid.{Tid}
 use Rattle.fab_base.specs.declared.message.Items.{Items}
 use Rattle.fab_base.specs.declared.entry.Entry.TheVariants as e
 use Rattle.fab_base.specs.FlatMap.{is_among}
+use Rattle.fab_base.proofs.Lists.{all_split, all_of_map, all_at}
 use Rattle.fab_rights.specs.declared.rights.Rights.{Rights}
 use Rattle.fab_protocol.specs.Tables.{row_of, placed_all, OnlyOnce}
 use Rattle.fab_protocol.specs.Versions.{Row, name_of, version_of, risen, raised, begun, left_by, is_tid}
 use Rattle.fab_protocol.specs.Stores.{Shelf, Prepared, Write, Create, keeps, prepared_as, without, behind, all_in, named_by, changed_by}
 use Rattle.fab_protocol.specs.Stores.{reads_in, writes_in, creates_in}
 use Rattle.fab_protocol.specs.Shelves.{IsShelf, IsCurrent, IsApart, AreApart}
-use Rattle.fab_protocol.proofs.Lists.{all_split, all_of_map, all_at}
 use Rattle.fab_protocol.proofs.TableLaws.{each_placed_all, row_of_placed_all}
 use Rattle.fab_protocol.proofs.VersionLaws.{version_of_row, no_row, left_names, left_others, changed_once}
 

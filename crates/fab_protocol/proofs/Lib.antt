@@ -1,7 +1,6 @@
 pub mod Applied
 pub mod Commits
 pub mod Kept
-pub mod Lists
 pub mod Locks
 pub mod NameLists
 pub mod Reasons

@@ -7,9 +7,9 @@ use Rattle.fab_base.specs.declared.object.Oid.{Oid}
 use Rattle.fab_base.specs.declared.object.Object.{Object}
 use Rattle.fab_base.specs.declared.message.Items.{Items}
 use Rattle.fab_base.specs.FlatMap.{is_among}
+use Rattle.fab_base.proofs.Lists.{all_append, all_split, all_along, all_two, all_map, all_of_map}
 use Rattle.fab_protocol.specs.Stores.{Prepared, Item, Read, Write, Create, item_name, reads_in, writes_in, creates_in, all_in}
 use Rattle.fab_protocol.specs.Stores.{changed_by, named_by, is_locked_by}
-use Rattle.fab_protocol.proofs.Lists.{all_append, all_split, all_along, all_two, all_map, all_of_map}
 use Rattle.fab_protocol.proofs.NameLists.{Avoid, avoid_flips, among_append}
 
 -- others don't lock the item

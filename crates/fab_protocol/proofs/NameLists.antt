@@ -6,8 +6,8 @@ use Rattle.std.proofs.lemmas.List.Folds.{list_any-append}
 use Rattle.fab_base.specs.declared.object.Oid.{Oid}
 use Rattle.fab_base.specs.FlatMap.{is_among, is_same}
 use Rattle.fab_base.proofs.Names.{same_flips}
+use Rattle.fab_base.proofs.Lists.{all_along}
 use Rattle.fab_protocol.specs.Tables.{OnlyOnce}
-use Rattle.fab_protocol.proofs.Lists.{all_along}
 
 pub among_append : (o : Oid) (xs ys : List Oid) → is_among o (xs ++ ys) ≡ (is_among o xs || is_among o ys)
 among_append o xs ys = list_any-append (λ p. is_same p o) xs ys

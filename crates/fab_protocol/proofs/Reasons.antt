@@ -10,6 +10,7 @@ use Rattle.fab_base.specs.declared.message.Items.{Items}
 use Rattle.fab_base.specs.declared.message.Answer.{Answer}
 use Rattle.fab_base.specs.declared.message.Answer.TheVariants.{Yes, Stale, Locked, Rights as NoRights, IllFormed, Exists}
 use Rattle.fab_base.specs.FlatMap.{is_before, is_among}
+use Rattle.fab_base.proofs.Lists.{all_append, all_split, all_at, all_of_map, at_head, behind_head}
 use Rattle.fab_rights.specs.declared.rights.Rights.{Rights}
 use Rattle.fab_rights.specs.Computed.{knows}
 use Rattle.fab_protocol.specs.Tables.{ascends, OnlyOnce}
@@ -17,7 +18,6 @@ use Rattle.fab_protocol.specs.Versions.{Rows, version_of}
 use Rattle.fab_protocol.specs.Stores.{Shelf, Prepared, Item, Read, Write, Create, item_name, reads_in, writes_in, creates_in, all_in, named_by}
 use Rattle.fab_protocol.specs.Stores.{is_ill_formed, is_out_of_order, is_unsuited, lacks_right, out_of_date, is_locked_by, locked}
 use Rattle.fab_protocol.specs.Stores.{reasons_of, reasons_in, reasons, first_of, vote}
-use Rattle.fab_protocol.proofs.Lists.{all_append, all_split, all_at, all_of_map, at_head, behind_head}
 use Rattle.fab_protocol.proofs.NameLists.{once_append}
 use Rattle.fab_protocol.proofs.TableLaws.{ascends_once}
 

@@ -9,6 +9,7 @@ use Rattle.fab_base.specs.declared.message.Items.{Items}
 use Rattle.fab_base.specs.declared.entry.Entry.TheVariants as e
 use Rattle.fab_base.specs.FieldSpelling.{KeepsItems}
 use Rattle.fab_base.specs.Tids.{is_above}
+use Rattle.fab_base.proofs.Lists.{all_append, all_filter, all_passed, all_along}
 use Rattle.fab_rights.specs.declared.rights.Rights.{Rights}
 use Rattle.fab_rights.specs.Computed.{is_worker}
 use Rattle.fab_rights.proofs.Bits.{bit_below, has_bit_exact}
@@ -18,7 +19,6 @@ use Rattle.fab_protocol.specs.Versions.{is_tid}
 use Rattle.fab_protocol.specs.Stores.{Shelf, Prepared, Item, keeps, all_in, named_by, item_name, start_of, last_of, sender_in, with_last, with_boot}
 use Rattle.fab_protocol.specs.Stores.{is_unsuited, lacks_right}
 use Rattle.fab_protocol.specs.Shelves.{IsShelf, IsAllowed, IsCurrent, IsApart, IsSuited, AreApart, CanKeep}
-use Rattle.fab_protocol.proofs.Lists.{all_append, all_filter, all_passed, all_along}
 use Rattle.fab_protocol.proofs.Locks.{Free, free_both_ways, exchanged}
 use Rattle.fab_protocol.proofs.Reasons.{IsFine, yes_is_fine, yes_names_once}
 use Rattle.fab_protocol.proofs.Senders.{sender_at, sender_other, as_many, remembered_last, remembered_boot}

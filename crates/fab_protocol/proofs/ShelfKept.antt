@@ -11,6 +11,7 @@ use Rattle.fab_base.specs.declared.object.Object.{Object}
 use Rattle.fab_base.specs.declared.object.Oid.{Oid}
 use Rattle.fab_base.specs.FlatMap.{FlatMap, is_before, ascends as flat_ascends}
 use Rattle.fab_base.specs.MessageSpelling.{KeepsCounts}
+use Rattle.fab_base.proofs.Lists.{all_filter, all_passed, all_map, all_always}
 use Rattle.fab_rights.specs.declared.rights.Rights.{Rights}
 use Rattle.fab_protocol.specs.Tables.{ascends}
 use Rattle.fab_protocol.specs.Versions.{Row, name_of, begun}
@@ -18,7 +19,6 @@ use Rattle.fab_protocol.specs.Stores.{Shelf, keeps, keeps_said, says, hears, she
 use Rattle.fab_protocol.specs.Shelves.{IsShelf, CanKeep}
 use Rattle.fab_protocol.proofs.Applied.{applied_keeps}
 use Rattle.fab_protocol.proofs.Kept.{says_can_keep}
-use Rattle.fab_protocol.proofs.Lists.{all_filter, all_passed, all_map, all_always}
 use Rattle.fab_protocol.proofs.Records.{refused_keeps, released_keeps, boot_keeps, prepared_keeps}
 use Rattle.fab_protocol.proofs.TableLaws.{ascends_filter, ascends_map}
 

@@ -1,78 +1,15 @@
--- Laws of tables: the order of names; what a table is behind placed rows, row by row; parts of tables.
-use Rattle.std.proofs.Common.{◌≡◌, ℕ, Bool, true, false, cond, if◌then◌else◌, IsTrue, IsFalse}
-use Rattle.std.proofs.Common.{List, [], ◌∷◌, ◌++◌, map, length, get_or, Some, None, unwrap_or, refl, sym, subst, ap, ◌∙◌, arith}
-use Rattle.std.specs.Cmp.Lexicographic.{bytes_decides}
+-- Laws of tables: what a table is behind placed rows, row by row; parts of tables.
+use Rattle.std.proofs.Common.{◌≡◌, Bool, true, false, cond, if◌then◌else◌, IsTrue, IsFalse}
+use Rattle.std.proofs.Common.{List, [], ◌∷◌, ◌++◌, map, Some, None, unwrap_or, refl, sym, subst, ap, ◌∙◌, arith}
 use Rattle.std.specs.List.{filter, AllByRecursion}
-use Rattle.std.specs.Str.{bytes_eq}
-use Rattle.std.proofs.lemmas.Bool.{and_parts, and_from, true≢false}
-use Rattle.std.proofs.lemmas.Bool.Decides.{nat_tests}
+use Rattle.std.proofs.lemmas.Bool.{and_parts, and_from}
 use Rattle.fab_base.specs.declared.object.Oid.{Oid}
-use Rattle.fab_base.specs.FlatMap.{parts_of, precedes, is_before, is_same}
+use Rattle.fab_base.specs.FlatMap.{is_before, is_same}
 use Rattle.fab_base.proofs.Names.{same_self, same_flips}
+use Rattle.fab_base.proofs.NameOrder.{one_name, same_name, not_itself, differ, before_trans, not_back}
+use Rattle.fab_base.proofs.Lists.{all_along, all_filter, all_map, all_of_map}
 use Rattle.fab_protocol.specs.Tables.{row_of, placed, placed_all, ascends, OnlyOnce}
-use Rattle.fab_protocol.proofs.Lists.{all_along, all_filter, all_map, all_of_map}
 use Rattle.fab_protocol.proofs.NameLists.{among_none, none_among}
-
--- ---- the order of names
-
-abbrev of_parts : List ℕ → Oid
-of_parts xs = record {
-  store = get_or xs 0 0;
-  class = get_or xs 1 0;
-  worker = get_or xs 2 0;
-  boot = get_or xs 3 0;
-  number = get_or xs 4 0;
-  site = get_or xs 5 0;
-  index = get_or xs 6 0;
-}
-
--- names that are alike are one
-pub one_name : (o p : Oid) → is_same o p ≡ true → o ≡ p
-one_name o p h = ap of_parts ((bytes_decides (parts_of o) (parts_of p)).0 h)
-
-neither : (xs ys : List ℕ) → length xs ≡ length ys → precedes xs ys ≡ false → precedes ys xs ≡ false → bytes_eq xs ys ≡ true
-neither [] [] n h g = refl
-neither [] (y ∷ ys) n h g = absurd (omega (arith, n))
-neither (x ∷ xs) [] n h g = absurd (omega (arith, n))
-neither (x ∷ xs) (y ∷ ys) n h g = grind (arith, nat_tests, neither xs ys (omega (arith, n)))
-
--- so are names of which neither is before the other
-pub same_name : (o p : Oid) → is_before o p ≡ false → is_before p o ≡ false → o ≡ p
-same_name o p h g = one_name o p (neither (parts_of o) (parts_of p) refl h g)
-
-not_itself : (xs : List ℕ) → precedes xs xs ≡ false
-not_itself [] = refl
-not_itself (x ∷ xs) = grind (arith, nat_tests, not_itself xs)
-
--- no name is before itself
-pub before_not_itself : (o : Oid) → is_before o o ≡ false
-before_not_itself o = not_itself (parts_of o)
-
--- a name that is before another is another
-pub before_apart : (o p : Oid) → is_before o p ≡ true → is_same o p ≡ false
-before_apart o p h =
-    elim (is_same o p) as (λ b. is_same o p ≡ b → b ≡ false) [
-      | true ↦ λ e. absurd (true≢false (sym (subst (λ q. is_before q p ≡ true) (one_name o p e) h) ∙ before_not_itself p))
-      | false ↦ λ e. refl
-    ] refl
-
-goes_on : (xs ys zs : List ℕ) → precedes xs ys ≡ true → precedes ys zs ≡ true → precedes xs zs ≡ true
-goes_on [] ys zs h g = absurd (true≢false (sym h))
-goes_on (x ∷ xs) [] zs h g = absurd (true≢false (sym h))
-goes_on (x ∷ xs) (y ∷ ys) [] h g = absurd (true≢false (sym g))
-goes_on (x ∷ xs) (y ∷ ys) (z ∷ zs) h g = grind (arith, nat_tests, goes_on xs ys zs)
-
--- before what is before
-pub before_goes_on : (o p q : Oid) → is_before o p ≡ true → is_before p q ≡ true → is_before o q ≡ true
-before_goes_on o p q h g = goes_on (parts_of o) (parts_of p) (parts_of q) h g
-
--- and not behind it
-pub before_not_back : (o p : Oid) → is_before o p ≡ true → is_before p o ≡ false
-before_not_back o p h =
-    elim (is_before p o) as (λ b. is_before p o ≡ b → b ≡ false) [
-      | true ↦ λ e. absurd (true≢false (sym (before_goes_on o p o h e) ∙ before_not_itself o))
-      | false ↦ λ e. refl
-    ] refl
 
 -- ---- tables
 
@@ -142,7 +79,7 @@ module _ {R : Type 0} (name : R → Oid) where
           elim (is_same (name x) o) as (λ b. is_same (name x) o ≡ b → (if b then Some x else (if is_same (name r) o then Some r else row_of name xs o))
           ≡ (if is_same (name r) o then Some r else (if b then Some x else row_of name xs o))) [
             | true ↦ λ e. sym (ap (λ b. if b then Some r else Some x)
-                (same_flips (name r) o ∙ before_apart o (name r) (subst (λ p. is_before p (name r) ≡ true) (one_name (name x) o e) f)))
+                (same_flips (name r) o ∙ differ o (name r) (subst (λ p. is_before p (name r) ≡ true) (one_name (name x) o e) f)))
             | false ↦ λ e. refl
           ] refl
 
@@ -186,7 +123,7 @@ module _ {R : Type 0} (name : R → Oid) where
     where
       led : (ys : List R) → IsTrue (leads name (name x) ys) → IsTrue (leads name o ys)
       led [] k = refl
-      led (y ∷ ys) k = before_goes_on o (name x) (name y) h k
+      led (y ∷ ys) k = before_trans o (name x) (name y) h k
 
   leads_from : (o : Oid) (xs : List R) → AllByRecursion (λ x. IsTrue (is_before o (name x))) xs → IsTrue (leads name o xs)
   leads_from o [] h = refl
@@ -224,7 +161,7 @@ module _ {R : Type 0} (name : R → Oid) where
   ascends_once (x ∷ xs) h =
       let g = parted x xs h in
       let apart = all_along (λ y. IsTrue (is_before (name x) (name y))) (λ y. IsFalse (is_same (name y) (name x)))
-      (λ y k. same_flips (name y) (name x) ∙ before_apart (name x) (name y) k) xs (leads_all (name x) xs g.0 g.1) in
+      (λ y k. same_flips (name y) (name x) ∙ differ (name x) (name y) k) xs (leads_all (name x) xs g.0 g.1) in
       (among_none (name x) (map name xs) (all_map (λ o. IsFalse (is_same o (name x))) name xs apart), ascends_once xs g.1)
 
   -- what passes a test ascends still
@@ -281,7 +218,7 @@ module _ {R : Type 0} (name : R → Oid) where
   pub placed_behind : (r : R) (xs ys : List R) → AllByRecursion (λ x. IsTrue (is_before (name x) (name r))) xs
       → placed name r (xs ++ ys) ≡ xs ++ placed name r ys
   placed_behind r [] ys h = refl
-  placed_behind r (x ∷ xs) ys h = rw (before_not_back (name x) (name r) h.0, h.0) (ap (λ zs. x ∷ zs) (placed_behind r xs ys h.1))
+  placed_behind r (x ∷ xs) ys h = rw (not_back (name x) (name r) h.0, h.0) (ap (λ zs. x ∷ zs) (placed_behind r xs ys h.1))
 
   -- it goes before those of names behind its own
   pub placed_before : (r : R) (ys : List R) → IsTrue (leads name (name r) ys) → placed name r ys ≡ r ∷ ys
@@ -294,21 +231,21 @@ module _ {R : Type 0} (name : R → Oid) where
   placed_over r y ys h =
       let same = one_name (name y) (name r) h in
       ap (λ b. if b then r ∷ y ∷ ys else (if is_before (name y) (name r) then y ∷ placed name r ys else r ∷ ys))
-      (subst (λ o. is_before (name r) o ≡ false) (sym same) (before_not_itself (name r)))
-      ∙ ap (λ b. if b then y ∷ placed name r ys else r ∷ ys) (subst (λ o. is_before o (name r) ≡ false) (sym same) (before_not_itself (name r)))
+      (subst (λ o. is_before (name r) o ≡ false) (sym same) (not_itself (name r)))
+      ∙ ap (λ b. if b then y ∷ placed name r ys else r ∷ ys) (subst (λ o. is_before o (name r) ≡ false) (sym same) (not_itself (name r)))
 
   -- behind rows of names before it, and before rows of names behind it, there is no row of a name
   pub row_of_behind : (xs ys : List R) (o : Oid) → AllByRecursion (λ x. IsTrue (is_before (name x) o)) xs
       → row_of name (xs ++ ys) o ≡ row_of name ys o
   row_of_behind xs ys o h =
       row_of_others xs ys o
-      (all_along (λ x. IsTrue (is_before (name x) o)) (λ x. IsFalse (is_same (name x) o)) (λ x k. before_apart (name x) o k) xs h)
+      (all_along (λ x. IsTrue (is_before (name x) o)) (λ x. IsFalse (is_same (name x) o)) (λ x k. differ (name x) o k) xs h)
 
   pub row_of_before : (ys : List R) (o : Oid) → IsTrue (leads name o ys) → IsTrue (ascends name ys) → row_of name ys o ≡ None
   row_of_before ys o h g =
       row_of_none ys o
       (all_along (λ x. IsTrue (is_before o (name x))) (λ x. IsFalse (is_same (name x) o))
-      (λ x k. same_flips (name x) o ∙ before_apart o (name x) k) ys (leads_all o ys h g))
+      (λ x k. same_flips (name x) o ∙ differ o (name x) k) ys (leads_all o ys h g))
 
   -- the rows in front of one in ascending rows are before it, and those behind it behind
   pub ascends_parts : (xs ys : List R) (y : R) → IsTrue (ascends name (xs ++ y ∷ ys))

@@ -9,10 +9,10 @@ use Rattle.fab_base.specs.declared.object.Object.{Object}
 use Rattle.fab_base.specs.declared.message.Items.{Items}
 use Rattle.fab_base.specs.FieldSpelling.{KeepsItems}
 use Rattle.fab_base.specs.FlatMap.{is_among, is_same}
+use Rattle.fab_base.proofs.Lists.{all_append, all_map, all_of_map, all_by_recursion, all_always}
 use Rattle.fab_protocol.specs.Tables.{row_of, placed, OnlyOnce}
 use Rattle.fab_protocol.specs.Versions.{Row, Rows, name_of, version_of, risen, raised, begun, left_by}
 use Rattle.fab_protocol.specs.Stores.{Write, Create, item_name, reads_in, writes_in, creates_in, changed_by, named_by}
-use Rattle.fab_protocol.proofs.Lists.{all_append, all_map, all_of_map, all_by_recursion, all_always}
 use Rattle.fab_protocol.proofs.NameLists.{none_among, once_parts}
 use Rattle.fab_protocol.proofs.TableLaws.{row_of_placed}
 

@@ -1,6 +1,6 @@
 -- The parts of what a request means, and commits that are looked for.
-use Rattle.std.proofs.Common.{◌≡◌, ℕ, Bool, ◌||◌, List, [], ◌∷◌, map, Option, refl, sym, ap, ◌∙◌}
-use Rattle.std.specs.List.{filter, list_any}
+use Rattle.std.proofs.Common.{◌≡◌, ℕ, List, map, Option, sym, ap, ◌∙◌}
+use Rattle.std.specs.List.{filter}
 use Rattle.fab_base.specs.declared.object.Oid.{Oid}
 use Rattle.fab_base.specs.declared.object.Value.{Value}
 use Rattle.fab_base.specs.FlatMap.{FlatMap, is_among}
@@ -27,6 +27,3 @@ pub parts_are : (known : Rows) (value : Option Value) (touches : List (ℕ × Oi
 parts_are known value touches written made objects x what e f g h is ended = λ i.
     made_of known (sym (ap value_of ended) i) ((e ∙ is.touches) i) ((f ∙ is.written) i) ((g ∙ is.made) i) ((h ∙ is.map) i)
 
-pub any_map : {A B : Type 0} (p : B → Bool) (f : A → B) (xs : List A) → list_any p (map f xs) ≡ list_any (λ x. p (f x)) xs
-any_map p f [] = refl
-any_map p f (x ∷ xs) = ap (λ b. p (f x) || b) (any_map p f xs)

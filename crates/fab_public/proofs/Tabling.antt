@@ -8,8 +8,8 @@ use Rattle.fab_base.specs.declared.object.Object.{Object}
 use Rattle.fab_base.specs.declared.object.Oid.{Oid}
 use Rattle.fab_base.specs.FlatMap.{is_same}
 use Rattle.fab_base.proofs.Names.{same_self}
+use Rattle.fab_base.proofs.NameOrder.{one_name}
 use Rattle.fab_protocol.specs.Versions.{Rows}
-use Rattle.fab_protocol.proofs.TableLaws.{one_name}
 use Rattle.fab_release.specs.Replay.{WorkerSeen, got_by, row_at}
 use Rattle.fab_release.specs.Sights.{Public, Sight}
 use Rattle.fab_language.specs.declared.ending.Ending.{Ending}

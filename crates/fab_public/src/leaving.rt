@@ -12,7 +12,7 @@ ghost use Rattle.fab_public.specs.States.{commitment_of};
 use crate::setting::Setting;
 use crate::states::Commitment;
 use fab_base::{NoMemory, Object, Oid, Seq, Tid};
-use fab_parts::puts_of;
+use fab_commit::puts_of;
 use fab_protocol::Parts;
 use fab_rights::is_in;
 use fab_versions::next_version;

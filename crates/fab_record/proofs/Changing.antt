@@ -7,6 +7,7 @@ use Rattle.indexmap.specs.IndexSet.{insert_key}
 use Rattle.fab_base.specs.declared.object.Object.{Object}
 use Rattle.fab_base.specs.declared.object.Oid.{Oid}
 use Rattle.fab_base.specs.declared.object.Tid.{Tid}
+use Rattle.fab_base.proofs.Lists.{any_map}
 use Rattle.fab_protocol.specs.Versions.{Row, is_tid}
 use Rattle.fab_release.specs.Sights.{Sight}
 use Rattle.fab_sets.proofs.Listing.{insert_more, or_false, or_parts}
@@ -45,10 +46,6 @@ change_left sight u o b old is fails s t = sym (or_false (is_noted (at_store t s
     none true true c h = sym h
     none true false c h = refl
     none false z c h = refl
-
-any_map : {A B : Type 0} (p : B → Bool) (f : A → B) (xs : List A) → list_any p (map f xs) ≡ list_any (λ x. p (f x)) xs
-any_map p f [] = refl
-any_map p f (x ∷ xs) = ap (λ b. p (f x) || b) (any_map p f xs)
 
 -- what an evaluation told that it changed
 pub ended_put : (sight : Sight) (u : Tid) (writes : List Row) (creates : List (Oid × Object)) (old mid new : List ChangedAt)

@@ -1,5 +1,5 @@
 -- What is gathered behind a list, part by part.
-use Rattle.std.proofs.Common.{◌≡◌, ℕ, ◌+◌, ◌<◌, ◌≤◌, List, [], ◌∷◌, ◌++◌, drop, length, get_or, refl, sym, ap, ◌∙◌, append_assoc, length-drop, drop-cons, add-one, arith}
+use Rattle.std.proofs.Common.{◌≡◌, ℕ, ◌+◌, ◌<◌, ◌≤◌, List, [], ◌∷◌, ◌++◌, drop, length, get_or, refl, sym, ap, ◌∙◌, append_assoc, length-drop, arith}
 use Rattle.std.specs.List.{flat_map}
 use Rattle.fab_authority.proofs.Walks.{front}
 
@@ -21,6 +21,3 @@ past_end {A} xs i past = empty (drop i xs) (simp length-drop (omega arith))
     empty [] e = refl
     empty (y ∷ ys) e = absurd (omega (arith, e))
 
--- the first of what is left of a list, and the rest
-pub front_at : {A : Type 0} (xs : List A) (i : ℕ) (d : A) → i < length xs → drop i xs ≡ get_or xs i d ∷ drop (i + 1) xs
-front_at {A} xs i d within = drop-cons xs i d within ∙ ap (λ (j : ℕ). get_or xs i d ∷ drop j xs) (sym (add-one i))

@@ -2,9 +2,10 @@
 use Rattle.std.proofs.Common.{◌≡◌, ℕ, zero, suc, ◌+◌, ◌<◌, ◌≤◌, Bool, List, [], ◌∷◌, ◌++◌, drop, length, get_or, refl, sym, ap, ◌∙◌, append-nil, append_assoc, add-one}
 use Rattle.std.specs.Prelude.{slice_get}
 use Rattle.fab_base.specs.declared.object.Value.{Value}
+use Rattle.fab_base.proofs.Lists.{front_at}
 use Rattle.fab_tree.specs.declared.resolved.Local.{Local}
 use Rattle.fab_erasure.specs.Erased.{args_shown}
-use Rattle.fab_record.proofs.Gathering.{front_at, past_end}
+use Rattle.fab_record.proofs.Gathering.{past_end}
 use Rattle.fab_record.specs.Parts.{shown_to}
 
 module _ (sees shows : ℕ → Bool) where

@@ -7,13 +7,14 @@ use Rattle.indexmap.specs.IndexSet.{insert_key}
 use Rattle.fab_base.specs.declared.object.Oid.{Oid}
 use Rattle.fab_base.specs.FlatMap.{is_among, is_same}
 use Rattle.fab_base.specs.contracts.object.OidPartialEq as oids
+use Rattle.fab_base.proofs.Lists.{front_at}
 use Rattle.fab_net.specs.declared.note.Note.{Note}
 use Rattle.fab_net.specs.declared.note.Note.TheVariants as note
 use Rattle.fab_release.specs.Record.{is_in_view, seen_behind}
 use Rattle.fab_release.specs.Sights.{Sight}
 use Rattle.fab_authority.proofs.Walks.{front}
 use Rattle.fab_nested.proofs.Naming as nested
-use Rattle.fab_record.proofs.Gathering.{front_at, past_end}
+use Rattle.fab_record.proofs.Gathering.{past_end}
 use Rattle.fab_sets.proofs.Listing.{insert_more, or_false}
 use Rattle.fab_record.specs.Kept.{AreSame, seen_touch}
 

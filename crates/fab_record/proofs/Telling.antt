@@ -7,13 +7,14 @@ use Rattle.fab_base.specs.declared.object.Oid.{Oid}
 use Rattle.fab_base.specs.declared.object.Value.{Value}
 use Rattle.fab_base.specs.FlatMap.{is_among, is_same}
 use Rattle.fab_base.specs.contracts.object.OidPartialEq as oids
+use Rattle.fab_base.proofs.Lists.{front_at}
 use Rattle.fab_authority.proofs.Walks as walks
 use Rattle.fab_release.specs.declared.release.Release.{Release}
 use Rattle.fab_release.specs.declared.release.Release.TheVariants.{Down, Got}
 use Rattle.fab_release.specs.declared.release.Released.{Released}
 use Rattle.fab_release.specs.Record.{downs_to, gots_to, is_in_view}
 use Rattle.fab_release.specs.Sights.{Sight}
-use Rattle.fab_record.proofs.Gathering.{front_at, past_end}
+use Rattle.fab_record.proofs.Gathering.{past_end}
 use Rattle.fab_record.proofs.Naming.{among_append, names_more}
 use Rattle.fab_record.specs.Kept.{AreSame}
 use Rattle.fab_record.specs.Places.{entry_if, told}

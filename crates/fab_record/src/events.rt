@@ -1,23 +1,9 @@
-//! The nodes that events are of.
+//! The nodes whose notes events have.
 ghost use Rattle.std.specs.Prelude.{◌≡◌, ℕ};
 ghost use Rattle.fab_release.specs.Record.{is_of};
-ghost use Rattle.fab_world.specs.Machine.{node_of};
 ghost use Rattle.fab_record.specs.Events.{is_number};
 
-use fab_net::{Event, Inner};
-
-/// The node that an event is of.
-pub(crate) fn node_of(inner: Inner) -> u16
-    ensures { result ≡ node_of inner }
-{
-    match inner {
-        Inner::Begin(n)
-        | Inner::Resume(n)
-        | Inner::Deliver(_, n)
-        | Inner::Idle(n, _)
-        | Inner::Recover(n) => n,
-    }
-}
+use fab_net::{Event, node_of};
 
 /// The node whose notes an event has, if it is of one.
 pub(crate) fn node_of_event(event: Event) -> Option<u16>

@@ -9,11 +9,10 @@ ghost use Rattle.fab_record.specs.Places.{sight_at, told};
 ghost use Rattle.fab_record.specs.Views.{sight_in};
 
 use crate::entries::{Place, put, put_notes};
-use crate::events::node_of;
 use crate::past::Past;
 use crate::sights::Sights;
 use fab_base::{NoMemory, Seq};
-use fab_net::{Event, Inner, Logged};
+use fab_net::{Event, Inner, Logged, node_of};
 use fab_places::Seen;
 use fab_release::{Release, Released};
 use fab_tree::resolved::Resolved;

@@ -8,7 +8,8 @@ use Rattle.fab_node.specs.Standing.{JournalModel}
 use Rattle.fab_core.specs.declared.applied.Applied.{Applied}
 use Rattle.fab_core.specs.declared.applied.Applied.TheVariants as a
 use Rattle.fab_core.specs.Cores.{slot}
-use Rattle.fab_core.specs.Moved.{IsCaused, IsCut, faults_in, node_at}
+use Rattle.fab_net.specs.Events.{node_at}
+use Rattle.fab_core.specs.Moved.{IsCaused, IsCut, faults_in}
 use Rattle.fab_core.specs.Telling.{JournalsGain, OnlyGainRoom}
 use Rattle.fab_replay.specs.Running.{AreBehind, IsBehind, fails_by}
 use Rattle.fab_replay.specs.declared.running.Came.{Came}

@@ -1,23 +1,19 @@
 -- A class that no distrusted node may have influenced is one that none of them may write or hold.
-use Rattle.std.specs.Prelude.{ℕ, Bool, IsTrue, Option, Some, None, slice_get, IsBitSet, IsSomeAnd}
-use Rattle.std.proofs.Common.{sym, subst, true≢false}
+use Rattle.std.specs.Prelude.{ℕ, Bool, slice_get, IsBitSet}
+use Rattle.std.proofs.Common.{subst}
 use Rattle.std.proofs.lemmas.Bool.{false_from_ne_true}
+use Rattle.fab_trusted.proofs.Replays.{written_bit}
 use Rattle.fab_language.specs.Flows.{delegations_of}
 use Rattle.fab_labelling.specs.Placement.{MayHoldNumber, MayWriteNumber}
 use Rattle.fab_places.specs.Places.{AreRights, ClassExcludes}
 use Rattle.fab_tree.specs.declared.resolved.Resolved.{Resolved}
-use Rattle.fab_rights.specs.Computed.{has_bit, may_hold, may_write, writes}
-use Rattle.fab_rights.specs.declared.rights.ClassRights.{ClassRights}
+use Rattle.fab_rights.specs.Computed.{has_bit, may_hold, may_write}
 use Rattle.fab_rights.proofs.Bits.{has_bit_exact}
 use Rattle.fab_settings.proofs.Nodes.{holds_number}
 use Rattle.fab_world.specs.Serial.{Excludes}
 use Rattle.fab_node.specs.Standing.{GivenModel, IsGiven}
 use Rattle.fab_core.specs.Cores.{setting}
 use Rattle.fab_replay.specs.Integral.{IsExcluded}
-
-written_bit : (o : Option ClassRights) (n : ℕ) → IsTrue (writes o n) → IsSomeAnd o (λ c. IsBitSet c.writers n)
-written_bit None n h = absurd (true≢false (sym h))
-written_bit (Some c) n h = (has_bit_exact c.writers n).0 h
 
 module _ (g : GivenModel) (given : IsGiven g) (nodes : ℕ) (ex : ℕ → Bool) (h : IsExcluded g nodes ex) where
   rights : AreRights g.program g.rights

@@ -6,7 +6,7 @@ use Rattle.fab_net.specs.declared.note.Logged.{Logged}
 use Rattle.fab_world.specs.Machine.{Setting, World, Move, at_start, logged, logs, step}
 use Rattle.fab_node.specs.Standing.{GivenModel}
 use Rattle.fab_core.specs.Cores.{marked, setting}
-use Rattle.fab_core.specs.Moved.{node_at}
+use Rattle.fab_net.specs.Events.{node_at}
 use Rattle.fab_replay.specs.Kept.{has_mark}
 use Rattle.fab_replay.specs.Replays.{first_mark, moves_of}
 use Rattle.fab_replay.proofs.Moves.{failed_node}

@@ -10,7 +10,7 @@ use Rattle.fab_net.specs.declared.event.Inner.TheVariants as i
 use Rattle.fab_world.specs.Machine.{Setting, World, Move, Form, Does, Cuts, Fails, Posts, Crashes, Never, form_of, step, enabled, runs, are_enabled}
 use Rattle.fab_world.specs.Serial.{attempts, attempts_at, attempts_in}
 use Rattle.fab_core.specs.Cores.{failed_in, marked, unmarked}
-use Rattle.fab_core.specs.Moved.{node_at}
+use Rattle.fab_net.specs.Events.{node_at}
 use Rattle.fab_core.proofs.Histories.{attempts_more}
 use Rattle.fab_replay.specs.Kept.{has_mark}
 use Rattle.fab_replay.specs.Replays.{moves_of}

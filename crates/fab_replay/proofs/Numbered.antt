@@ -3,10 +3,10 @@ use Rattle.std.specs.Prelude.{◌≡◌, ℕ, zero, suc, ◌+◌, ◌<◌, Bool,
 use Rattle.std.specs.List.{filter, range_with_len, AllByRecursion}
 use Rattle.std.proofs.Common.{refl, sym, ap, ◌∙◌, subst, arith, append-nil}
 use Rattle.std.proofs.lemmas.Bool.{and_parts}
+use Rattle.fab_base.proofs.Lists.{all_append, range_more}
 use Rattle.fab_rights.specs.Computed.{is_node}
 use Rattle.fab_rights.specs.declared.rights.Rights.{Rights}
 use Rattle.fab_tree.specs.declared.resolved.Resolved.{Resolved}
-use Rattle.fab_protocol.proofs.Lists.{all_append}
 use Rattle.fab_node.specs.Standing.{GivenModel, IsGiven, JournalModel}
 use Rattle.fab_core.specs.Cores.{is_honest, setting, slot}
 use Rattle.fab_core.specs.Telling.{those_in}
@@ -74,17 +74,13 @@ filter_more h (x ∷ xs) n = by (h x) (filter_more h xs n)
     by true e = ap (λ ys. x ∷ ys) e
     by false e = e
 
-row_more : (k n : ℕ) → range_with_len k (suc n) ≡ range_with_len k n ++ (k + n) ∷ []
-row_more k zero = ap (λ m. m ∷ []) (omega arith)
-row_more k (suc n) = ap (λ ys. k ∷ ys) (row_more (k + 1) n ∙ ap (λ m. range_with_len (k + 1) n ++ m ∷ []) (omega arith))
-
 in_row : (g : GivenModel) (n : ℕ) → honest_up g n ≡ filter (is_honest g) (range_with_len 0 n)
 unfolding honest_up
 in_row g zero = refl
 in_row g (suc n) =
     ap (λ ns. ns ++ cond (is_honest g n) (n ∷ []) []) (in_row g n)
     ∙ ap (λ k. filter (is_honest g) (range_with_len 0 n) ++ cond (is_honest g k) (k ∷ []) []) (omega arith)
-    ∙ sym (ap (filter (is_honest g)) (row_more 0 n) ∙ filter_more (is_honest g) (range_with_len 0 n) (0 + n))
+    ∙ sym (ap (filter (is_honest g)) (range_more 0 n) ∙ filter_more (is_honest g) (range_with_len 0 n) (0 + n))
 
 module _ (g : GivenModel) (m : ℕ) (few : (n : ℕ) → IsTrue (is_honest g n) → n < m) (Q : ℕ → JournalModel → Type 0) (js : List (Option JournalModel))
     (s : (n : ℕ) → StandsAt (is_honest g) Q n (slot js n)) where

@@ -9,7 +9,7 @@ use Rattle.fab_world.specs.Machine.{Enabled, enabled, form_of}
 use Rattle.fab_world.specs.Serial.{attempts}
 use Rattle.fab_node.specs.Standing.{GivenModel}
 use Rattle.fab_core.specs.Cores.{CoreModel, marked, setting, slot, unmarked, world_by}
-use Rattle.fab_core.specs.Moved.{node_at}
+use Rattle.fab_net.specs.Events.{node_at}
 use Rattle.fab_replay.specs.Replays.{StopsBefore, StopsIn, event_of, events_of, moves_of}
 use Rattle.fab_replay.specs.Running.{AreBehind, ComesBy, fails_by}
 use Rattle.fab_replay.specs.declared.running.Came.{Came}

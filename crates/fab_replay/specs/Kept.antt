@@ -12,7 +12,7 @@ use Rattle.fab_world.specs.Machine.{Move}
 use Rattle.fab_world.specs.Serial.{IsRun}
 use Rattle.fab_node.specs.Standing.{GivenModel, IsJournalOf}
 use Rattle.fab_core.specs.Cores.{is_honest, setting, world_by}
-use Rattle.fab_core.specs.Moved.{node_at}
+use Rattle.fab_net.specs.Events.{node_at}
 use Rattle.fab_core.specs.Honest.{AreFor, honest_in, honest_up}
 use Rattle.fab_core.specs.Starts.{IsFresh, IsLeft}
 use Rattle.fab_replay.specs.Integral.{IsExcluded, IsIntegral}

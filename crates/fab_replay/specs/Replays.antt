@@ -19,7 +19,7 @@ use Rattle.fab_world.specs.Crashing.{IsOver, KeepsLines}
 use Rattle.fab_settings.specs.Settings.{lines_of}
 use Rattle.fab_node.specs.Standing.{GivenModel}
 use Rattle.fab_core.specs.Cores.{marked, setting, unmarked, world_by}
-use Rattle.fab_core.specs.Moved.{event_of as whole, node_at}
+use Rattle.fab_net.specs.Events.{uncut as whole, node_at}
 use Rattle.fab_core.specs.Telling.{all_held, all_outcomes}
 use Rattle.fab_listing.specs.Listing.{listing}
 use Rattle.fab_listing.specs.Trusted.{trusted_text}

@@ -9,7 +9,8 @@ use Rattle.fab_tree.specs.declared.resolved.Resolved.{Resolved}
 use Rattle.fab_world.specs.Machine.{Move, Enabled, enabled, form_of}
 use Rattle.fab_node.specs.Standing.{GivenModel, JournalModel}
 use Rattle.fab_core.specs.Cores.{EventHasDone, is_honest, marked, setting, slot, unmarked, world_by}
-use Rattle.fab_core.specs.Moved.{faults_in, node_at, sure_in}
+use Rattle.fab_net.specs.Events.{node_at}
+use Rattle.fab_core.specs.Moved.{faults_in, sure_in}
 use Rattle.fab_core.specs.Honest.{AreFor}
 use Rattle.fab_replay.specs.Kept.{IsCutOff, IsOfRun, has_mark, lost_behind, unlost, with_more}
 use Rattle.fab_replay.specs.Replays.{StopsBefore, StopsIn, events_of, moves_of}

@@ -3,12 +3,11 @@
 ghost use Rattle.std.specs.Prelude.{◌≡◌, find, IfOk, IsTrue};
 ghost use Rattle.std.specs.Option.{option_map};
 ghost use Rattle.fab_lines.specs.Numbered.{AreNumbered};
-ghost use Rattle.fab_core.specs.Moved.{node_at as node_in};
+ghost use Rattle.fab_net.specs.Events.{node_at as node_in};
 ghost use Rattle.fab_replay.specs.Replays.{IsReady, IsRunOver, IsTold, is_scheduled, report_of, summary_of_run, text_of, told_of};
 ghost use Rattle.fab_replay.specs.Running.{ComesTo};
 ghost use Rattle.fab_replay.specs.declared.replayed.Wanted.TheVariants as wants;
 
-use crate::events::node_at;
 use crate::replayed::{Replayed, Wanted};
 use crate::running::Ran;
 use crate::trust::trust_of;
@@ -18,7 +17,7 @@ use fab_command::Telling;
 use fab_core::Core;
 use fab_device::Journal;
 use fab_drill::print_summary;
-use fab_net::Logged;
+use fab_net::{Logged, node_at};
 use fab_trace::print_report;
 use fab_tree::resolved::Resolved;
 use std::alloc::Global;

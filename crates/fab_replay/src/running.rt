@@ -9,12 +9,12 @@ ghost use Rattle.fab_core.specs.Cores.{HasDone, setting, world};
 ghost use Rattle.fab_replay.specs.Kept.{IsFrontRun};
 ghost use Rattle.fab_replay.specs.Running.{AreBehind, ComesBy, ComesTo, ComesWith, MayCome, failed_by, fails_by};
 
-use crate::events::{event_of, node_at};
+use crate::events::event_of;
 use fab_base::NoMemory;
 use fab_core::{Applied, Core};
 use fab_device::Journal;
 use fab_eval::{Done, evaluate};
-use fab_net::{Event, Inner};
+use fab_net::{Event, Inner, node_at};
 use fab_tree::resolved::Resolved;
 use std::alloc::{AllocError, Global};
 

@@ -23,7 +23,7 @@ use Rattle.fab_language.specs.Faults.{faults}
 use Rattle.fab_flows.proofs.Declared.{has_principals}
 use Rattle.fab_front.specs.Named.{are_node_names, is_named}
 use Rattle.fab_release.specs.Bundles.{public_part}
-use Rattle.fab_tables.proofs.LimitLemmas.{is_within}
+use Rattle.fab_tree.proofs.Within.{is_within}
 use Rattle.fab_views.specs.Views.{IsSeenBy}
 use Rattle.fab_views.proofs.Declared.{class_label_declared}
 use Rattle.fab_replay.specs.declared.replayed.Wanted.{Wanted}
@@ -101,8 +101,8 @@ can_be_seen s r within right is =
     let limits = is_within s within in
     let labels : length (resolved s).labels ≡ length s.program.labels = length-map s.program.labels _ in
     let classes : length (resolved s).classes ≡ length s.program.classes = length-map s.program.classes _ in
-    let few_labels = limits.labels in
-    let few_classes = limits.classes in
+    let few_labels : length s.program.labels ≤ 64 = limits.labels in
+    let few_classes : length s.program.classes ≤ 64 = limits.classes in
     subst CanBeSeen (sym is)
     (record {
       principals = has_principals s within right;

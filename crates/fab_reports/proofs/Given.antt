@@ -1,6 +1,6 @@
 -- Given words keep to what readers keep to, where none of them begins another.
 use Rattle.std.proofs.Common.{◌≡◌, ℕ, zero, suc, ◌-◌, ◌<◌, ◌≤◌, max, Bool, true, false, cond, not, eqb, ltb, ◌&&◌, List, [], ◌∷◌, ◌++◌, length, take, drop, Result, Ok, Err, refl, sym, ap, subst, ◌∙◌, length-drop, length-take, arith, inl, inr, ◌⊎◌}
-use Rattle.std.proofs.lemmas.Bool.{eqb-true, cases_lt}
+use Rattle.std.proofs.lemmas.Bool.{eqb-true, cases_lt, and_parts}
 use Rattle.std.proofs.lemmas.Bool.Decides.{nat_tests}
 use Rattle.std.specs.List.{list_all}
 use Rattle.fab_wire.specs.Reading.{are_bytes}
@@ -14,10 +14,6 @@ opposite false h k = absurd cc
 pub by_test : (t : Bool) → (t ≡ true) ⊎ (t ≡ false)
 by_test true = inl refl
 by_test false = inr refl
-
-pub both_true : (a b : Bool) → (a && b) ≡ true → (a ≡ true) × (b ≡ true)
-both_true true b h = (refl, h)
-both_true false b h = absurd cc
 
 -- what was read, and the bytes after it
 abbrev pub answer : {A : Type 0} → A → List ℕ → Result (A × List ℕ) ℕ
@@ -33,7 +29,7 @@ answers_are {A = A} x y r s e =
 pub small_bytes : (bytes : List ℕ) → are_bytes bytes ≡ true → IsBytes bytes
 small_bytes [] h = IsBytes-nil
 small_bytes (b ∷ bytes) h =
-    let g = both_true (ltb b 256) (are_bytes bytes) h in
+    let g = and_parts (ltb b 256) (are_bytes bytes) h in
     IsBytes-cons b bytes (grind (arith, nat_tests)) (small_bytes bytes g.1)
 
 -- ---- what two lists have in common
@@ -203,13 +199,13 @@ unequal m n h = grind (arith, nat_tests)
 -- of two words apart, the one doesn't stand where the other does
 apart_then : (w v rest : List ℕ) → begins_neither w v ≡ true → (eqb (shared w (v ++ rest)) (length w)) ≡ false
 apart_then w v rest h =
-    let g = both_true (not (eqb (shared w v) (length w))) (not (eqb (shared v w) (length v))) h in
+    let g = and_parts (not (eqb (shared w v) (length w))) (not (eqb (shared v w) (length v))) h in
     unequal (shared w (v ++ rest)) (length w) (not_begun w v rest (unlike (shared w v) (length w) g.0) (unlike (shared v w) (length v) g.1))
 
 from_all : {K : Type 0} (test : K → Bool) (ks : List K) (k : K) → list_all test ks ≡ true → IsIn k ks → test k ≡ true
 from_all test [] k h i = absurd i
-from_all test (l ∷ ks) k h (inl e) = ap test e ∙ (both_true (test l) (list_all test ks) h).0
-from_all test (l ∷ ks) k h (inr i) = from_all test ks k (both_true (test l) (list_all test ks) h).1 i
+from_all test (l ∷ ks) k h (inl e) = ap test e ∙ (and_parts (test l) (list_all test ks) h).0
+from_all test (l ∷ ks) k h (inr i) = from_all test ks k (and_parts (test l) (list_all test ks) h).1 i
 
 kind_again : {K : Type 0} (text : K → List ℕ) (ks : List K) (m : ℕ) (k : K) (rest : List ℕ) → are_apart text ks ≡ true → IsIn k ks
     → kind_from text m ks (text k ++ rest) ≡ Ok (k, rest)
@@ -221,7 +217,7 @@ kind_again {K = K} text (l ∷ ks) m k rest h (inl e) =
     ∙ ap (λ (y : List ℕ). Ok (l, y)) (behind_front (text l) rest) in
     subst (λ (x : K). kind_from text m (l ∷ ks) (text x ++ rest) ≡ Ok (x, rest)) (sym e) whole
 kind_again text (l ∷ ks) m k rest h (inr i) =
-    let g = both_true (list_all (λ x. begins_neither (text l) (text x)) ks) (are_apart text ks) h in
+    let g = and_parts (list_all (λ x. begins_neither (text l) (text x)) ks) (are_apart text ks) h in
     let off = apart_then (text l) (text k) rest (from_all (λ x. begins_neither (text l) (text x)) ks k g.0 i) in
     ap (λ (t : Bool). cond t (Ok (l, drop (length (text l)) (text k ++ rest))) (kind_from text (max m (shared (text l) (text k ++ rest))) ks (text k ++ rest))) off
     ∙ kind_again text ks (max m (shared (text l) (text k ++ rest))) k rest g.1 i

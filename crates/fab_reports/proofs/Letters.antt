@@ -4,10 +4,10 @@ use Rattle.std.proofs.lemmas.Bool.Decides.{nat_tests}
 use Rattle.std.proofs.lemmas.List.{take_more, drop_more}
 use Rattle.std.specs.List.{list_all}
 use Rattle.std.specs.Str.{IsAscii}
+use Rattle.std.proofs.lemmas.Bool.{and_from, and_parts}
 use Rattle.fab_base.specs.Tokens.{is_word_byte}
 use Rattle.fab_reports.specs.Reading.{is_end, scan, may_go_on, word_step, word_done, word_at}
-use Rattle.fab_reports.proofs.Given.{both_true}
-use Rattle.fab_reports.proofs.Words.{and_true, all_append}
+use Rattle.fab_reports.proofs.Words.{all_append}
 
 -- so many bytes of a word were read
 pub record IsSpelling (ends bytes rest : List ℕ) (n : ℕ) : Type 0 where
@@ -32,7 +32,7 @@ one_letter ends bytes rest n b after s e never on =
     let more : take (n + 1) bytes ≡ take n bytes ++ b ∷ [] = take_more bytes n 0 lt ∙ ap (λ (x : ℕ). take n bytes ++ x ∷ []) byte in
     let len : length (take n bytes) ≡ n = omega (arith, length-take n bytes) in
     let goes : may_go_on (length (take n bytes)) b ≡ true = ap (λ (k : ℕ). may_go_on k b) len ∙ on in
-    let is_word : is_word_byte b ≡ true = (both_true (is_word_byte b) _ on).0 in
+    let is_word : is_word_byte b ≡ true = (and_parts (is_word_byte b) _ on).0 in
     let step : scan word_step word_done ends (take n bytes) (b ∷ after) ≡ scan word_step word_done ends (take n bytes ++ b ∷ []) after = rw (never, goes) refl in
     record {
       going =
@@ -40,10 +40,10 @@ one_letter ends bytes rest n b after s e never on =
           ∙ ap (λ (x : List ℕ). scan word_step word_done ends (take n bytes) x) (sym e) ∙ s.going;
       rest_is = sym others;
       within = omega arith;
-      letters = ap (λ (w : List ℕ). list_all is_word_byte w) more ∙ all_append is_word_byte (take n bytes) (b ∷ []) s.letters (and_true (is_word_byte b) true is_word refl);
+      letters = ap (λ (w : List ℕ). list_all is_word_byte w) more ∙ all_append is_word_byte (take n bytes) (b ∷ []) s.letters (and_from (is_word_byte b) true is_word refl);
     }
 
 pub word_ascii : (w : List ℕ) → list_all is_word_byte w ≡ true → IsAscii w
 word_ascii [] h i = omega arith
-word_ascii (b ∷ w) h zero = let g = (both_true (is_word_byte b) (list_all is_word_byte w) h).0 in grind (arith, nat_tests)
-word_ascii (b ∷ w) h (suc i) = word_ascii w (both_true (is_word_byte b) (list_all is_word_byte w) h).1 i
+word_ascii (b ∷ w) h zero = let g = (and_parts (is_word_byte b) (list_all is_word_byte w) h).0 in grind (arith, nat_tests)
+word_ascii (b ∷ w) h (suc i) = word_ascii w (and_parts (is_word_byte b) (list_all is_word_byte w) h).1 i

@@ -10,6 +10,7 @@ use Rattle.std.specs.Char.{is_ascii_digit}
 use Rattle.std.specs.Int.{w32}
 use Rattle.std.specs.Fmt.{decimal, digit_glyph}
 use Rattle.std.specs.Str.{bytes_eq}
+use Rattle.std.proofs.lemmas.Bool.{and_from, and_parts}
 use Rattle.fab_base.specs.declared.object.Oid.{Oid}
 use Rattle.fab_base.specs.FieldSpelling.{two_bytes, four_bytes, oid_bytes, IsOid}
 use Rattle.fab_base.specs.Tokens.{is_word_byte, is_name_text, is_hex_digit, hex_value}
@@ -24,8 +25,8 @@ use Rattle.fab_reports.specs.declared.line.ShownValue.TheVariants as v
 use Rattle.fab_reports.specs.Lines.{shown_name, shown_value, IsWord, IsShownName, IsShownValue}
 use Rattle.fab_reports.specs.Reading.{is_end, number_at, digit_at, pair_at, two_at, four_at, oid_at, end_at, unnamed_at, rooted_at, name_at, negative_at, natural_at, named_value, named_at, value_at}
 use Rattle.fab_reports.proofs.Combining.{Image, image_reads, Begins, either_reads}
-use Rattle.fab_reports.proofs.Given.{both_true, by_test, opposite, answers_are}
-use Rattle.fab_reports.proofs.Words.{hex_append, AreEnds, and_true, number_reads, word_reads, glyph_of, glyph_is, glyph_small, one_byte}
+use Rattle.fab_reports.proofs.Given.{by_test, opposite, answers_are}
+use Rattle.fab_reports.proofs.Words.{hex_append, AreEnds, number_reads, word_reads, glyph_of, glyph_is, glyph_small, one_byte}
 
 -- ---- one byte that passes a test
 
@@ -190,9 +191,9 @@ word_first test w = Begins test false w
 no_first : (test : ℕ → Bool) → ((b : ℕ) → is_word_byte b ≡ true → is_ascii_digit b ≡ false → test b ≡ false) → (w : List ℕ) (e : ℕ) → IsWord w → Begins test false (w ++ e ∷ [])
 no_first test never [] e h = absurd cc
 no_first test never (b ∷ w) e h =
-    let p = both_true (list_all is_word_byte (b ∷ w)) (is_name_text (b ∷ w)) h in
-    let q = both_true (is_word_byte b) (list_all is_word_byte w) p.0 in
-    let r = both_true (not (is_ascii_digit b)) (leb (length w) 63) p.1 in
+    let p = and_parts (list_all is_word_byte (b ∷ w)) (is_name_text (b ∷ w)) h in
+    let q = and_parts (is_word_byte b) (list_all is_word_byte w) p.0 in
+    let r = and_parts (not (is_ascii_digit b)) (leb (length w) 63) p.1 in
     never b q.0 (grind (arith, nat_tests))
 
 name_to : (ends : List ℕ) (p : ShownName × ℕ) → Image unnamed_of (λ p. ((35 ≤ p.0) × (p.0 ≤ 35)) × (IsOid p.1.0 × (is_end ends p.1.1 ≡ true))) p ⊎ Image rooted_of (fits_ended IsWord ends) p
@@ -259,13 +260,13 @@ text_eq [] [] h = refl
 text_eq [] (y ∷ b) h = absurd cc
 text_eq (x ∷ a) [] h = absurd cc
 text_eq (x ∷ a) (y ∷ b) h =
-    let g = both_true (eqb x y) (bytes_eq a b) h in
+    let g = and_parts (eqb x y) (bytes_eq a b) h in
     let e : x ≡ y = grind (arith, nat_tests) in
     ap (λ (n : ℕ). n ∷ a) e ∙ ap (λ (z : List ℕ). y ∷ z) (text_eq a b g.1)
 
 text_itself : (a : List ℕ) → bytes_eq a a ≡ true
 text_itself [] = refl
-text_itself (x ∷ a) = and_true (eqb x x) (bytes_eq a a) (grind (arith, nat_tests)) (text_itself a)
+text_itself (x ∷ a) = and_from (eqb x x) (bytes_eq a a) (grind (arith, nat_tests)) (text_itself a)
 
 null_text : List ℕ
 null_text = codes "null"

@@ -7,12 +7,12 @@ use Rattle.std.specs.List.{list_all}
 use Rattle.std.specs.Char.{is_ascii_digit}
 use Rattle.std.specs.Fmt.{decimal, digit_glyph}
 use Rattle.std.specs.Prelude.{option_map}
+use Rattle.std.proofs.lemmas.Bool.{and_from, and_parts}
 use Rattle.fab_base.specs.Tokens.{is_word_byte, is_name_text, is_hex_digit, hex_value}
 use Rattle.fab_language.specs.Words.{hex}
 use Rattle.fab_wire.proofs.ReaderLaws.{IsBytes, IsBytes-nil, IsBytes-cons, IsBytes-append, Reads}
 use Rattle.fab_reports.specs.Lines.{IsWord, AreBytes}
 use Rattle.fab_reports.specs.Reading.{is_end, next_number, number_step, number_at, may_go_on, word_step, word_done, word_at, hex_step, hex_done, bytes_at}
-use Rattle.fab_reports.proofs.Given.{both_true}
 use Rattle.fab_reports.proofs.Scans.{Reaches, Inside, Scans, reaches_more, scan_found, scan_reads}
 
 -- ---- what a test lets through
@@ -20,9 +20,6 @@ use Rattle.fab_reports.proofs.Scans.{Reaches, Inside, Scans, reaches_more, scan_
 pub some_if : {A : Type 0} (c : Bool) (v m : A) → cond c (Some v) None ≡ Some m → (c ≡ true) × (v ≡ m)
 some_if true v m h = (refl, cc)
 some_if false v m h = absurd cc
-
-pub and_true : (a b : Bool) → a ≡ true → b ≡ true → (a && b) ≡ true
-and_true a b h k = rw (h, k) refl
 
 mapped : {A : Type 0} (o : Option A) (s : Option A) → option_map (λ n. Some n) o ≡ Some s → (m : A) × (o ≡ Some m) × (s ≡ Some m)
 mapped None s h = absurd cc
@@ -37,8 +34,8 @@ inside_append ends (x ∷ a) b ha hb = (ha.0, inside_append ends a b ha.1 hb)
 first_next : (least most b m : ℕ) → next_number least most None b ≡ Some m → (48 ≤ b) × (b < 58) × (m ≡ b - 48) × (least ≤ m) × (m ≤ most)
 first_next least most b m h =
     let g = some_if (is_ascii_digit b && (leb least (b - 48) && leb (b - 48) most)) (b - 48) m h in
-    let p = both_true (is_ascii_digit b) (leb least (b - 48) && leb (b - 48) most) g.0 in
-    let q = both_true (leb least (b - 48)) (leb (b - 48) most) p.1 in
+    let p = and_parts (is_ascii_digit b) (leb least (b - 48) && leb (b - 48) most) g.0 in
+    let q = and_parts (leb least (b - 48)) (leb (b - 48) most) p.1 in
     let low : 48 ≤ b = grind (arith, nat_tests) in
     let high : b < 58 = grind (arith, nat_tests) in
     let l : least ≤ b - 48 = grind (arith, nat_tests) in
@@ -48,8 +45,8 @@ first_next least most b m h =
 later_next : (least most n b m : ℕ) → next_number least most (Some n) b ≡ Some m → (48 ≤ b) × (b < 58) × (m ≡ 10 * n + (b - 48)) × (0 < n) × (m ≤ most)
 later_next least most n b m h =
     let g = some_if (is_ascii_digit b && (not (eqb n 0) && leb (10 * n + (b - 48)) most)) (10 * n + (b - 48)) m h in
-    let p = both_true (is_ascii_digit b) (not (eqb n 0) && leb (10 * n + (b - 48)) most) g.0 in
-    let q = both_true (not (eqb n 0)) (leb (10 * n + (b - 48)) most) p.1 in
+    let p = and_parts (is_ascii_digit b) (not (eqb n 0) && leb (10 * n + (b - 48)) most) g.0 in
+    let q = and_parts (not (eqb n 0)) (leb (10 * n + (b - 48)) most) p.1 in
     let low : 48 ≤ b = grind (arith, nat_tests) in
     let high : b < 58 = grind (arith, nat_tests) in
     let l : 0 < n = grind (arith, nat_tests) in
@@ -62,7 +59,7 @@ to_first least most d h l m =
     let e : 48 + d - 48 ≡ d = omega arith in
     let b : leb least (48 + d - 48) ≡ true = grind (arith, nat_tests) in
     let c : leb (48 + d - 48) most ≡ true = grind (arith, nat_tests) in
-    ap (λ (t : Bool). cond t (Some (48 + d - 48)) None) (and_true _ _ a (and_true _ _ b c)) ∙ ap (λ (n : ℕ). Some n) e
+    ap (λ (t : Bool). cond t (Some (48 + d - 48)) None) (and_from _ _ a (and_from _ _ b c)) ∙ ap (λ (n : ℕ). Some n) e
 
 to_later : (least most n d : ℕ) → d < 10 → 0 < n → 10 * n + d ≤ most → next_number least most (Some n) (48 + d) ≡ Some (10 * n + d)
 to_later least most n d h l m =
@@ -70,7 +67,7 @@ to_later least most n d h l m =
     let e : 10 * n + (48 + d - 48) ≡ 10 * n + d = omega arith in
     let b : not (eqb n 0) ≡ true = grind (arith, nat_tests) in
     let c : leb (10 * n + (48 + d - 48)) most ≡ true = grind (arith, nat_tests) in
-    ap (λ (t : Bool). cond t (Some (10 * n + (48 + d - 48))) None) (and_true _ _ a (and_true _ _ b c)) ∙ ap (λ (n : ℕ). Some n) e
+    ap (λ (t : Bool). cond t (Some (10 * n + (48 + d - 48))) None) (and_from _ _ a (and_from _ _ b c)) ∙ ap (λ (n : ℕ). Some n) e
 
 abbrev pub IsWithin : ℕ → ℕ → ℕ → Type 0
 IsWithin least most n = (least ≤ n) × (n ≤ most)
@@ -179,20 +176,20 @@ number_reads least most ends are low high small =
 
 pub all_append : (test : ℕ → Bool) (a b : List ℕ) → list_all test a ≡ true → list_all test b ≡ true → list_all test (a ++ b) ≡ true
 all_append test [] b h k = k
-all_append test (x ∷ a) b h k = let g = both_true (test x) (list_all test a) h in and_true (test x) (list_all test (a ++ b)) g.0 (all_append test a b g.1 k)
+all_append test (x ∷ a) b h k = let g = and_parts (test x) (list_all test a) h in and_from (test x) (list_all test (a ++ b)) g.0 (all_append test a b g.1 k)
 
 all_first : (test : ℕ → Bool) (a : List ℕ) (b : ℕ) (bs : List ℕ) → list_all test (a ++ (b ∷ bs)) ≡ true → test b ≡ true
-all_first test [] b bs h = (both_true (test b) (list_all test bs) h).0
-all_first test (x ∷ a) b bs h = all_first test a b bs (both_true (test x) (list_all test (a ++ (b ∷ bs))) h).1
+all_first test [] b bs h = (and_parts (test b) (list_all test bs) h).0
+all_first test (x ∷ a) b bs h = all_first test a b bs (and_parts (test x) (list_all test (a ++ (b ∷ bs))) h).1
 
 goes_first : (b : ℕ) → may_go_on 0 b ≡ true → (is_word_byte b ≡ true) × (is_ascii_digit b ≡ false)
 goes_first b h =
-    let g = both_true (is_word_byte b) (not (is_ascii_digit b)) h in
+    let g = and_parts (is_word_byte b) (not (is_ascii_digit b)) h in
     (g.0, grind (arith, nat_tests))
 
 goes_later : (n b : ℕ) → may_go_on (suc n) b ≡ true → (is_word_byte b ≡ true) × (n < 63)
 goes_later n b h =
-    let g = both_true (is_word_byte b) (cond (eqb (suc n) 0) (not (is_ascii_digit b)) (ltb (suc n) 64)) h in
+    let g = and_parts (is_word_byte b) (cond (eqb (suc n) 0) (not (is_ascii_digit b)) (ltb (suc n) 64)) h in
     let never : eqb (suc n) 0 ≡ false = grind (arith, nat_tests) in
     let k : ltb (suc n) 64 ≡ true = ap (λ (t : Bool). cond t (not (is_ascii_digit b)) (ltb (suc n) 64)) (sym never) ∙ g.1 in
     (g.0, grind (arith, nat_tests))
@@ -201,16 +198,16 @@ word_more : (s : List ℕ) (b : ℕ) → (s ≡ []) ⊎ IsWord s → may_go_on (
 word_more [] b i h =
     let g = goes_first b h in
     let never : not (is_ascii_digit b) ≡ true = ap not g.1 in
-    and_true (is_word_byte b && true) (not (is_ascii_digit b) && leb 0 63) (and_true (is_word_byte b) true g.0 refl) (and_true (not (is_ascii_digit b)) (leb 0 63) never refl)
+    and_from (is_word_byte b && true) (not (is_ascii_digit b) && leb 0 63) (and_from (is_word_byte b) true g.0 refl) (and_from (not (is_ascii_digit b)) (leb 0 63) never refl)
 word_more (c ∷ s) b (inl e) h = absurd cc
 word_more (c ∷ s) b (inr w) h =
     let g = goes_later (length s) b h in
-    let p = both_true (list_all is_word_byte (c ∷ s)) (is_name_text (c ∷ s)) w in
-    let q = both_true (not (is_ascii_digit c)) (leb (length s) 63) p.1 in
+    let p = and_parts (list_all is_word_byte (c ∷ s)) (is_name_text (c ∷ s)) w in
+    let q = and_parts (not (is_ascii_digit c)) (leb (length s) 63) p.1 in
     let len : length (s ++ b ∷ []) ≡ length s + 1 = length-append s (b ∷ []) in
     let short : leb (length (s ++ b ∷ [])) 63 ≡ true = grind (arith, nat_tests) in
-    and_true (list_all is_word_byte ((c ∷ s) ++ b ∷ [])) (is_name_text ((c ∷ s) ++ b ∷ []))
-    (all_append is_word_byte (c ∷ s) (b ∷ []) p.0 (and_true (is_word_byte b) true g.0 refl)) (and_true (not (is_ascii_digit c)) (leb (length (s ++ b ∷ [])) 63) q.0 short)
+    and_from (list_all is_word_byte ((c ∷ s) ++ b ∷ [])) (is_name_text ((c ∷ s) ++ b ∷ []))
+    (all_append is_word_byte (c ∷ s) (b ∷ []) p.0 (and_from (is_word_byte b) true g.0 refl)) (and_from (not (is_ascii_digit c)) (leb (length (s ++ b ∷ [])) 63) q.0 short)
 
 word_run : (w s t : List ℕ) → (s ≡ []) ⊎ IsWord s → Reaches word_step s w t → (t ≡ s ++ w) × ((t ≡ []) ⊎ IsWord t)
 word_run [] s t i h = (sym h ∙ sym (append-nil s), subst (λ (x : List ℕ). (x ≡ []) ⊎ IsWord x) h i)
@@ -222,18 +219,18 @@ word_run (b ∷ w) s t i h =
 
 may_go : (s : List ℕ) (b : ℕ) (w : List ℕ) → IsWord (s ++ (b ∷ w)) → may_go_on (length s) b ≡ true
 may_go [] b w i =
-    let p = both_true (list_all is_word_byte (b ∷ w)) (is_name_text (b ∷ w)) i in
-    let q = both_true (is_word_byte b) (list_all is_word_byte w) p.0 in
-    let r = both_true (not (is_ascii_digit b)) (leb (length w) 63) p.1 in
-    and_true (is_word_byte b) (not (is_ascii_digit b)) q.0 r.0
+    let p = and_parts (list_all is_word_byte (b ∷ w)) (is_name_text (b ∷ w)) i in
+    let q = and_parts (is_word_byte b) (list_all is_word_byte w) p.0 in
+    let r = and_parts (not (is_ascii_digit b)) (leb (length w) 63) p.1 in
+    and_from (is_word_byte b) (not (is_ascii_digit b)) q.0 r.0
 may_go (c ∷ s) b w i =
-    let p = both_true (list_all is_word_byte (c ∷ (s ++ (b ∷ w)))) (is_name_text (c ∷ (s ++ (b ∷ w)))) i in
+    let p = and_parts (list_all is_word_byte (c ∷ (s ++ (b ∷ w)))) (is_name_text (c ∷ (s ++ (b ∷ w)))) i in
     let each : is_word_byte b ≡ true = all_first is_word_byte (c ∷ s) b w p.0 in
-    let r = both_true (not (is_ascii_digit c)) (leb (length (s ++ (b ∷ w))) 63) p.1 in
+    let r = and_parts (not (is_ascii_digit c)) (leb (length (s ++ (b ∷ w))) 63) p.1 in
     let len : length (s ++ (b ∷ w)) ≡ length s + suc (length w) = length-append s (b ∷ w) in
     let short : ltb (suc (length s)) 64 ≡ true = grind (arith, nat_tests) in
     let never : eqb (suc (length s)) 0 ≡ false = grind (arith, nat_tests) in
-    and_true (is_word_byte b) (cond (eqb (suc (length s)) 0) (not (is_ascii_digit b)) (ltb (suc (length s)) 64)) each
+    and_from (is_word_byte b) (cond (eqb (suc (length s)) 0) (not (is_ascii_digit b)) (ltb (suc (length s)) 64)) each
     (ap (λ (t : Bool). cond t (not (is_ascii_digit b)) (ltb (suc (length s)) 64)) never ∙ short)
 
 to_word : (w s : List ℕ) → IsWord (s ++ w) → Reaches word_step s w (s ++ w)
@@ -247,14 +244,14 @@ to_word (b ∷ w) s i =
 
 words_inside : (ends : List ℕ) → ((b : ℕ) → is_word_byte b ≡ true → is_end ends b ≡ false) → (w : List ℕ) → list_all is_word_byte w ≡ true → Inside ends w
 words_inside ends never [] h = tt
-words_inside ends never (b ∷ w) h = let g = both_true (is_word_byte b) (list_all is_word_byte w) h in (never b g.0, words_inside ends never w g.1)
+words_inside ends never (b ∷ w) h = let g = and_parts (is_word_byte b) (list_all is_word_byte w) h in (never b g.0, words_inside ends never w g.1)
 
 word_small : (b : ℕ) → is_word_byte b ≡ true → b < 256
 word_small b h = grind (arith, nat_tests)
 
 words_bytes : (w : List ℕ) → list_all is_word_byte w ≡ true → IsBytes w
 words_bytes [] h = IsBytes-nil
-words_bytes (b ∷ w) h = let g = both_true (is_word_byte b) (list_all is_word_byte w) h in IsBytes-cons b w (word_small b g.0) (words_bytes w g.1)
+words_bytes (b ∷ w) h = let g = and_parts (is_word_byte b) (list_all is_word_byte w) h in IsBytes-cons b w (word_small b g.0) (words_bytes w g.1)
 
 done_word : (w : List ℕ) → IsWord w → word_done w ≡ Some w
 done_word [] h = absurd cc
@@ -277,8 +274,8 @@ word_scans ends are = record {
         | inl none ↦ (codes "a", refl, codes "a", ap (λ (x : List ℕ). x ++ codes "a") (sym none ∙ r.0))
         | inr word ↦ (w, subst IsWord r.0 word, [], sym (append-nil w))
       ];
-  inside = λ w i. words_inside ends are.words w (both_true (list_all is_word_byte w) (is_name_text w) i).0;
-  bytes = λ w i. words_bytes w (both_true (list_all is_word_byte w) (is_name_text w) i).0;
+  inside = λ w i. words_inside ends are.words w (and_parts (list_all is_word_byte w) (is_name_text w) i).0;
+  bytes = λ w i. words_bytes w (and_parts (list_all is_word_byte w) (is_name_text w) i).0;
 }
 
 pub word_reads : (ends : List ℕ) → AreEnds ends → Reads (word_at ends) (λ p. p.0 ++ p.1 ∷ []) (λ p. IsWord p.0 × (is_end ends p.1 ≡ true))

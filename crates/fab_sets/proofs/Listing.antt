@@ -1,9 +1,10 @@
 -- Numbers in sets.
-use Rattle.std.proofs.Common.{◌≡◌, ℕ, ◌+◌, ◌<◌, Bool, true, false, ◌||◌, ◌==◌, if◌then◌else◌, List, [], ◌∷◌, ◌++◌, drop, length, get_or, drop-cons, add-one, refl, sym, ap, ◌∙◌, arith}
+use Rattle.std.proofs.Common.{◌≡◌, ℕ, ◌+◌, ◌<◌, Bool, true, false, ◌||◌, ◌==◌, if◌then◌else◌, List, [], ◌∷◌, ◌++◌, drop, length, get_or, refl, sym, ap, ◌∙◌, arith}
 use Rattle.std.specs.List.{list_any}
 use Rattle.std.proofs.lemmas.List.Folds.{list_any-append}
 use Rattle.std.proofs.lemmas.Bool.Decides.{nat_tests}
 use Rattle.std.specs.contracts.prelude.U16PartialEq as numbers
+use Rattle.fab_base.proofs.Lists.{front_at}
 use Rattle.indexmap.specs.IndexSet.{insert_key}
 use Rattle.fab_sets.specs.Numbers.{is_listed}
 
@@ -47,10 +48,6 @@ listed_more n k ks = insert_more numbers.TheImpl.ghosts.eq (λ a b. a == b) eq_i
 pub or_parts : (a b c : Bool) → ((a || b) || c) ≡ (a || (b || c))
 or_parts true b c = refl
 or_parts false b c = refl
-
--- the first of what is left of a list, and the rest
-front_at : {A : Type 0} (xs : List A) (i : ℕ) (d : A) → i < length xs → drop i xs ≡ get_or xs i d ∷ drop (i + 1) xs
-front_at {A} xs i d within = drop-cons xs i d within ∙ ap (λ (j : ℕ). get_or xs i d ∷ drop j xs) (sym (add-one i))
 
 -- one number more of a list, of which the rest is still to come
 pub listed_step : (old new : List ℕ) (xs : List ℕ) (i d : ℕ) → i < length xs → new ≡ insert_key numbers.TheImpl.ghosts.eq old (get_or xs i d)

@@ -8,7 +8,7 @@ use Rattle.fab_base.specs.declared.object.Oid.{Oid}
 use Rattle.fab_base.specs.declared.object.Object.{Object}
 use Rattle.fab_base.specs.declared.object.Value.{Value}
 use Rattle.fab_base.specs.declared.object.Value.TheVariants.{Int, Null, Ref}
-use Rattle.fab_base.specs.FieldSpelling.{IsOid, IsValue}
+use Rattle.fab_base.specs.FieldSpelling.{IsOid, IsValue, sent_version}
 use Rattle.fab_tree.specs.declared.resolved.Class.{Class}
 use Rattle.fab_tree.specs.declared.resolved.Field.{Field}
 use Rattle.fab_tree.specs.declared.resolved.Resolved.{Resolved}
@@ -86,7 +86,7 @@ module _ (rights : Rights) where
   p = fits_name rights
 
   -- what a field may hold, and a message can spell, passes
-  value_passes : (f : Option ℕ) (v : Value) → IsTrue (computed.fits_field rights f v) → IsValue 1 v → Passes p v
+  value_passes : (f : Option ℕ) (v : Value) → IsTrue (computed.fits_field rights f v) → IsValue sent_version v → Passes p v
   value_passes f (Int n) h i = tt
   value_passes f Null h i = tt
   value_passes None (Ref o) h i = absurd (true≢false (sym h))
@@ -96,7 +96,7 @@ module _ (rights : Rights) where
       let held : IsTrue (may_hold rights o.store o.class) = subst (λ c. IsTrue (may_hold rights o.store c)) (sym same) both.1 in
       held_passes rights o held i
 
-  values_pass : (fs : List (Option ℕ)) (vs : List Value) → IsTrue (computed.fit_fields rights fs vs) → AllByRecursion (IsValue 1) vs → AllPass p vs
+  values_pass : (fs : List (Option ℕ)) (vs : List Value) → IsTrue (computed.fit_fields rights fs vs) → AllByRecursion (IsValue sent_version) vs → AllPass p vs
   values_pass [] [] h i = tt
   values_pass [] (v ∷ vs) h i = absurd (true≢false (sym h))
   values_pass (f ∷ fs) [] h i = absurd (true≢false (sym h))
@@ -104,7 +104,7 @@ module _ (rights : Rights) where
       let both = and_parts (computed.fits_field rights f v) (computed.fit_fields rights fs vs) h in
       (value_passes f v both.0 i.0, values_pass fs vs both.1 i.1)
 
-  class_passes : (o : Option ClassRights) (x : Object) → IsTrue (computed.fits_class rights o x) → AllByRecursion (IsValue 1) x.fields → AllPass p x.fields
+  class_passes : (o : Option ClassRights) (x : Object) → IsTrue (computed.fits_class rights o x) → AllByRecursion (IsValue sent_version) x.fields → AllPass p x.fields
   class_passes None x h i = absurd (true≢false (sym h))
   class_passes (Some c) x h i = values_pass c.fields x.fields h i
 
@@ -142,21 +142,21 @@ module _ (rights : Rights) where
       class_held rs cs rest n store x h i k
 
   -- a value that passes and is within 32 bits can be spelled
-  pub value_spelled : HasFew rights → (v : Value) → Passes p v → IsSmall v → IsValue 1 v
+  pub value_spelled : HasFew rights → (v : Value) → Passes p v → IsSmall v → IsValue sent_version v
   value_spelled few (Int n) h i = i
   value_spelled few Null h i = tt
   value_spelled few (Ref o) h i = passes_spelled rights o few h
 
-  values_spelled : HasFew rights → (vs : List Value) → AllPass p vs → AreSmall vs → AllByRecursion (IsValue 1) vs
+  values_spelled : HasFew rights → (vs : List Value) → AllPass p vs → AreSmall vs → AllByRecursion (IsValue sent_version) vs
   values_spelled few [] h i = tt
   values_spelled few (v ∷ vs) h i = (value_spelled few v h.0 i.0, values_spelled few vs h.1 i.1)
 
-small_value : (v : Value) → IsValue 1 v → IsSmall v
+small_value : (v : Value) → IsValue sent_version v → IsSmall v
 small_value (Int n) h = h
 small_value Null h = tt
 small_value (Ref o) h = tt
 
-small_values : (vs : List Value) → AllByRecursion (IsValue 1) vs → AreSmall vs
+small_values : (vs : List Value) → AllByRecursion (IsValue sent_version) vs → AreSmall vs
 small_values [] h = tt
 small_values (v ∷ vs) h = (small_value v h.0, small_values vs h.1)
 

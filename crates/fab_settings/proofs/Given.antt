@@ -9,6 +9,7 @@ use Rattle.fab_base.specs.declared.object.Object.{Object}
 use Rattle.fab_base.specs.declared.object.Value.{Value}
 use Rattle.fab_base.specs.declared.object.Value.TheVariants.{Int, Null, Ref}
 use Rattle.fab_base.specs.FlatMap.{FlatMap, get, ascends}
+use Rattle.fab_base.proofs.Lists.{all_split, at_index}
 use Rattle.fab_map.proofs.Rows.{ascends-put_all}
 use Rattle.fab_tree.specs.declared.start.Literal.{Literal}
 use Rattle.fab_tree.specs.declared.start.Literal.TheVariants as literals
@@ -27,7 +28,7 @@ use Rattle.fab_language.specs.Names.{named, number_of, root_name}
 use Rattle.fab_language.specs.Numbers.{oid_of, reference_to, value_of, values_of, root_of, roots_from, asked_from, session_of, resolved}
 use Rattle.fab_laws.specs.Origins.{Passes, AllPass}
 use Rattle.fab_laws.specs.Shapes.{IsFitting}
-use Rattle.fab_shapes.proofs.Lists.{in_both, at_index, from_two}
+use Rattle.fab_shapes.proofs.Lists.{from_two}
 use Rattle.fab_shapes.proofs.Maps.{each_of_map}
 use Rattle.fab_shapes.proofs.Named.{at_number}
 use Rattle.fab_shapes.proofs.Objects.{objects_have_shapes}
@@ -50,7 +51,7 @@ use Rattle.fab_settings.proofs.Nodes.{few_roots, has_few, number_holds}
 
 small_from : (vs : List Value) → AllFit (in_values vs) → AreSmall vs
 small_from [] h = tt
-small_from (v ∷ vs) h = let p = in_both (FitsSigned w32) (in_value v) (in_values vs) h in (one v p.0, small_from vs p.1)
+small_from (v ∷ vs) h = let p = all_split (FitsSigned w32) (in_value v) (in_values vs) h in (one v p.0, small_from vs p.1)
   where
     one : (v : Value) → AllFit (in_value v) → IsSmall v
     one (Int n) h = h.0
@@ -72,13 +73,13 @@ of_found P test (x ∷ xs) h =
 small_requests : (xs : List Session) → AllFit (flat_map in_session xs) → AllByRecursion (λ x. AllByRecursion (λ q. AreSmall q.args) (requests_in (Some x))) xs
 small_requests [] h = tt
 small_requests (x ∷ xs) h =
-    let p = in_both (FitsSigned w32) (in_session x) (flat_map in_session xs) h in
+    let p = all_split (FitsSigned w32) (in_session x) (flat_map in_session xs) h in
     (each x.requests p.0, small_requests xs p.1)
   where
     each : (ys : List Asked) → AllFit (flat_map (λ (y : Asked). in_values y.request.args) ys) → AllByRecursion (λ q. AreSmall q.args) (map (λ (y : Asked). y.request) ys)
     each [] h = tt
     each (y ∷ ys) h =
-        let p = in_both (FitsSigned w32) (in_values y.request.args) (flat_map (λ (z : Asked). in_values z.request.args) ys) h in
+        let p = all_split (FitsSigned w32) (in_values y.request.args) (flat_map (λ (z : Asked). in_values z.request.args) ys) h in
         (small_from y.request.args p.0, each ys p.1)
 
 -- ---- the roots
@@ -112,7 +113,7 @@ of_rows P (x ∷ xs) h = (h.0, of_rows P xs h.1)
 small_roots : (xs : List NumberedRoot) → AllFit (flat_map (λ x. in_values x.values) xs) → AllByRecursion (λ x. AreSmall x.values) xs
 small_roots [] h = tt
 small_roots (x ∷ xs) h =
-    let p = in_both (FitsSigned w32) (in_values x.values) (flat_map (λ (y : NumberedRoot). in_values y.values) xs) h in
+    let p = all_split (FitsSigned w32) (in_values x.values) (flat_map (λ (y : NumberedRoot). in_values y.values) xs) h in
     (small_from x.values p.0, small_roots xs p.1)
 
 -- ---- an accepted bundle
@@ -136,10 +137,10 @@ module _ (s : Start) (rights : Rights) (a : IsAcceptedWith s rights) where
   -- ---- numbers
 
   three : AllFit (flat_map in_method bundle.methods ++ flat_map (λ x. in_values x.values) bundle.roots) × AllFit (flat_map in_session bundle.sessions)
-  three = in_both (FitsSigned w32) (flat_map in_method bundle.methods ++ flat_map (λ x. in_values x.values) bundle.roots) (flat_map in_session bundle.sessions) a.numbers
+  three = all_split (FitsSigned w32) (flat_map in_method bundle.methods ++ flat_map (λ x. in_values x.values) bundle.roots) (flat_map in_session bundle.sessions) a.numbers
 
   two : AllFit (flat_map in_method bundle.methods) × AllFit (flat_map (λ x. in_values x.values) bundle.roots)
-  two = in_both (FitsSigned w32) (flat_map in_method bundle.methods) (flat_map (λ x. in_values x.values) bundle.roots) three.0
+  two = all_split (FitsSigned w32) (flat_map in_method bundle.methods) (flat_map (λ x. in_values x.values) bundle.roots) three.0
 
   pub program_small : AllFit (flat_map in_method bundle.methods)
   program_small = two.0

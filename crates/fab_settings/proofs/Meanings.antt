@@ -8,11 +8,11 @@ use Rattle.fab_base.specs.declared.object.Oid.{Oid}
 use Rattle.fab_base.specs.declared.object.Object.{Object}
 use Rattle.fab_base.specs.declared.object.Tid.{Tid}
 use Rattle.fab_base.specs.declared.object.Value.{Value}
-use Rattle.fab_base.specs.FieldSpelling.{IsTid, IsValue}
+use Rattle.fab_base.specs.FieldSpelling.{IsTid, IsValue, sent_version}
 use Rattle.fab_base.specs.FlatMap.{FlatMap, get, is_same, is_among}
 use Rattle.fab_base.specs.FlatMap as flat
 use Rattle.fab_base.proofs.Names.{same_self}
-use Rattle.fab_map.proofs.Order.{one_name}
+use Rattle.fab_base.proofs.NameOrder.{one_name}
 use Rattle.fab_tree.specs.declared.resolved.Request.{Request}
 use Rattle.fab_tree.specs.declared.resolved.Resolved.{Resolved}
 use Rattle.fab_tree.specs.declared.start.Start.{Start}
@@ -234,7 +234,7 @@ module _ (s : Start) (rights : Rights) (a : IsAcceptedWith s rights) where
     missing_one : (site : ℕ) (o : Oid) → m.ending ≡ Missing site o → IsFitName S o
     missing_one site o e = name_fits S (few s rights a) o (passing.missing site o e)
 
-    value_one : (v : Value) → m.ending ≡ Ended (Some v) → IsValue 1 v
+    value_one : (v : Value) → m.ending ≡ Ended (Some v) → IsValue sent_version v
     value_one v e =
         value_spelled rights (few s rights a) v (passing.result v e)
         (result_small bundle t (program_small s rights a) N q 1000000 sound.numbers small_rows v e)
@@ -261,7 +261,7 @@ module _ (s : Start) (rights : Rights) (a : IsAcceptedWith s rights) where
   missing_by None sound t N site o is h e = absurd (cc)
   missing_by (Some x) sound t N site o is h e = missing_one t is N h x (sound x refl) site o e
 
-  value_by : (q : Option Request) → Sound q → (t : Tid) (N : FlatMap) (v : Value) → IsTid t → AreFit S N → (meant_of bundle q t N).ending ≡ Ended (Some v) → IsValue 1 v
+  value_by : (q : Option Request) → Sound q → (t : Tid) (N : FlatMap) (v : Value) → IsTid t → AreFit S N → (meant_of bundle q t N).ending ≡ Ended (Some v) → IsValue sent_version v
   value_by None sound t N v is h e = absurd (cc)
   value_by (Some x) sound t N v is h e = value_one t is N h x (sound x refl) v e
 

@@ -1,16 +1,16 @@
 -- What an accepted bundle says of its nodes and counts.
-use Rattle.std.proofs.Common.{◌≡◌, ℕ, zero, suc, ◌^◌, ◌<◌, ◌≤◌, Bool, true, false, cond, IsTrue, IsFalse, List, [], ◌∷◌, length, Option, Some, None, refl, sym, ap, arith, IsBitSet, IsSomeAnd}
-use Rattle.std.specs.Prelude.{slice_get, find}
-use Rattle.std.specs.List.{AllByRecursion}
-use Rattle.std.specs.Option.{is_none}
-use Rattle.std.proofs.lemmas.Bool.{true≢false, false≢true, ltb-false}
+use Rattle.std.proofs.Common.{◌≡◌, ℕ, zero, suc, ◌^◌, ◌<◌, ◌≤◌, Bool, true, false, IsTrue, IsFalse, List, [], ◌∷◌, length, Option, Some, None, refl, sym, arith, IsBitSet, IsSomeAnd}
+use Rattle.std.specs.Prelude.{slice_get}
+use Rattle.std.proofs.lemmas.Bool.{true≢false}
 use Rattle.std.proofs.lemmas.List.{length-map}
+use Rattle.fab_base.specs.declared.limit.What.TheVariants as w
 use Rattle.fab_tree.specs.declared.declaration.Role.{Role}
 use Rattle.fab_tree.specs.declared.declaration.Role.TheVariants as r
 use Rattle.fab_tree.specs.declared.resolved.Resolved.{Resolved}
 use Rattle.fab_tree.specs.declared.start.Start.{Start}
-use Rattle.fab_tree.specs.Limits.{passes, order, first_passed}
+use Rattle.fab_tree.specs.Limits.{IsWithin, limit_of, first_passed}
 use Rattle.fab_tree.specs.Sites.{site_places}
+use Rattle.fab_tree.proofs.Within.{is_within}
 use Rattle.fab_language.specs.Flows.{delegations_of}
 use Rattle.fab_language.specs.Names as names
 use Rattle.fab_language.specs.Numbers.{class_of, resolved}
@@ -25,28 +25,18 @@ use Rattle.fab_settings.proofs.Fitting.{HasFew}
 
 -- ---- the limits
 
--- where a search finds none, none passes the test
-none_passes : {A : Type 0} (test : A → Bool) (xs : List A) → find test xs ≡ None → AllByRecursion (λ x. test x ≡ false) xs
-none_passes test [] e = tt
-none_passes test (x ∷ xs) e = by (test x) refl e (λ h. none_passes test xs h)
-  where
-    by : (b : Bool) → test x ≡ b → cond b (Some x) (find test xs) ≡ None → (find test xs ≡ None → AllByRecursion (λ y. test y ≡ false) xs)
-        → AllByRecursion (λ y. test y ≡ false) (x ∷ xs)
-    by true g h later = absurd (false≢true (ap is_none h))
-    by false g h later = (g, later h)
-
 module _ (s : Start) (limits : first_passed s ≡ None) where
-  within : AllByRecursion (λ what. passes s what ≡ false) order
-  within = none_passes (passes s) order limits
+  within : IsWithin s
+  within = is_within s limits
 
-  pub few_classes : length s.program.classes ≤ 64
-  few_classes = ltb-false 64 _ within.1.1.1.0
+  pub few_classes : length s.program.classes ≤ limit_of w.Classes
+  few_classes = within.classes
 
-  pub few_sites : length (site_places s.program) ≤ 65000
-  few_sites = ltb-false 65000 _ within.1.1.1.1.1.1.1.1.0
+  pub few_sites : length (site_places s.program) ≤ limit_of w.Sites
+  few_sites = within.sites
 
-  pub few_roots : length s.roots ≤ 100000
-  few_roots = ltb-false 100000 _ within.1.1.1.1.1.1.1.1.1.0
+  pub few_roots : length s.roots ≤ limit_of w.Roots
+  few_roots = within.roots
 
 -- ---- rights
 
@@ -73,7 +63,7 @@ written_bit : (o : Option ClassRights) (n : ℕ) → IsTrue (computed.writes o n
 written_bit None n h = absurd (true≢false (sym h))
 written_bit (Some c) n h = (has_bit_exact c.writers n).0 h
 
-some_below : {A : Type 0} (P : A → Type 0) (xs : List A) (i : ℕ) → IsSomeAnd (slice_get xs i) P → i < length xs
+pub some_below : {A : Type 0} (P : A → Type 0) (xs : List A) (i : ℕ) → IsSomeAnd (slice_get xs i) P → i < length xs
 some_below P [] i h = absurd h
 some_below P (x ∷ xs) zero h = omega arith
 some_below P (x ∷ xs) (suc i) h = let k = some_below P xs i h in omega (arith, k)

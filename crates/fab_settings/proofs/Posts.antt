@@ -1,13 +1,12 @@
 -- Who isn't declared hostile has nothing to post.
-use Rattle.std.proofs.Common.{◌≡◌, ℕ, zero, suc, ◌+◌, ◌==◌, Bool, true, false, cond, List, [], ◌∷◌, ◌++◌, map, length, take, Option, Some, None, option_map, unwrap_or, refl, sym, ap, ◌∙◌, subst, arith}
+use Rattle.std.proofs.Common.{◌≡◌, ℕ, zero, suc, ◌+◌, ◌==◌, Bool, true, false, cond, List, [], ◌∷◌, ◌++◌, map, Option, Some, None, option_map, unwrap_or, refl, sym, ap, ◌∙◌, subst, arith}
 use Rattle.std.specs.Prelude.{slice_get}
 use Rattle.std.specs.List.{AllByRecursion, filter, flat_map}
 use Rattle.std.proofs.lemmas.Bool.{true≢false, false≢true, eq-eqb, ne_eqb, eqb-true}
-use Rattle.std.proofs.lemmas.List.Sums.{sum_by-cons}
+use Rattle.fab_base.proofs.Lists.{left_nil, right_nil, each_nil, true_if_empty}
 use Rattle.fab_tree.specs.declared.name.Name.{Name}
 use Rattle.fab_tree.specs.declared.declaration.Node.{Node}
 use Rattle.fab_tree.specs.declared.declaration.Role.{Role}
-use Rattle.fab_tree.specs.declared.declaration.Role.TheVariants as r
 use Rattle.fab_tree.specs.declared.event.PostLine.{PostLine}
 use Rattle.fab_tree.specs.declared.start.Start.{Start}
 use Rattle.fab_tree.specs.declared.resolved.Post.{Post}
@@ -22,30 +21,18 @@ use Rattle.fab_language.specs.Roles as roles
 use Rattle.fab_language.specs.Types.{mistyped}
 use Rattle.fab_language.specs.Unknown as unknown
 use Rattle.fab_language.specs.Uses.{nodes_before, node_number}
+use Rattle.fab_language.proofs.Named.{before_cons, hostile_node}
 use Rattle.fab_labelling.specs.Readers.{is_numbered, place_from}
 use Rattle.fab_rights.specs.declared.rights.Rights.{Rights}
-use Rattle.fab_shapes.proofs.Lists.{left_nil, right_nil, each_nil, from_two}
+use Rattle.fab_shapes.proofs.Lists.{from_two}
 use Rattle.fab_shapes.proofs.Named.{found}
 use Rattle.fab_world.specs.Serial.{ArePosts}
 use Rattle.fab_settings.specs.Settings.{IsAcceptedWith, is_hostile_node, setting_of}
 
--- one node more before the others
-before_cons : (k : ℕ) (z : Node) (zs : List Node) → nodes_before (suc k) (z ∷ zs) ≡ cond (is_node z.role) (suc (nodes_before k zs)) (nodes_before k zs)
-before_cons k z zs = sum_by-cons (λ (w : Node). cond (is_node w.role) 1 0) z (take k zs) ∙ by (is_node z.role)
-  where
-    by : (b : Bool) → cond b 1 0 + nodes_before k zs ≡ cond b (suc (nodes_before k zs)) (nodes_before k zs)
-    by true = omega arith
-    by false = omega arith
-
--- what is no fault is allowed
-pub allowed : {A : Type 0} (b : Bool) (fault : A) → cond b [] (fault ∷ []) ≡ [] → b ≡ true
-allowed true fault e = refl
-allowed false fault e = absurd (omega (arith, ap length e))
-
 -- ---- what a node is, by its number
 
 -- behind one principal more, each place is one further
-place_further : (p n : ℕ) (xs : List Principal) → place_from (suc p) n xs ≡ suc (place_from p n xs)
+pub place_further : (p n : ℕ) (xs : List Principal) → place_from (suc p) n xs ≡ suc (place_from p n xs)
 place_further p n [] = refl
 place_further p n (x ∷ xs) =
     elim (is_numbered n x.node) as (λ b. cond b (suc p) (place_from (suc (suc p)) n xs) ≡ suc (cond b p (place_from (suc p) n xs))) [
@@ -104,11 +91,6 @@ role_at k (z ∷ zs) x y e of = by (is_same_name z.name x) e (λ j h. role_at j 
         ∙ role_step (k + cond (is_node z.role) (suc (nodes_before i zs)) (nodes_before i zs)) _ (others (is_node z.role))
         ∙ behind (is_node z.role) (nodes_before i zs) (λ j. later j h)
 
-hostile_node : (role : Role) → is_hostile role ≡ true → is_node role ≡ true
-hostile_node r.Principal h = h
-hostile_node (r.Worker hostile) h = refl
-hostile_node (r.Store hostile) h = refl
-
 -- ---- who posts
 
 module _ (s : Start) where
@@ -121,7 +103,7 @@ module _ (s : Start) where
       let nodes = s.program.nodes in
       let y = found (named node_name nodes x.sender) x.sender (left_nil (unknown.in_principal s x.sender) (unknown.in_principal s x.receiver) e) in
       let placed = left_nil (roles.need s is_hostile x.sender) (roles.need s is_honest x.receiver) f in
-      let hostile = allowed (is_hostile y.0.role) _ (subst (λ o. roles.if_of_kind is_hostile o x.sender ≡ []) y.1 placed) in
+      let hostile = true_if_empty (is_hostile y.0.role) _ (subst (λ o. roles.if_of_kind is_hostile o x.sender ≡ []) y.1 placed) in
       let number : node_number s x.sender ≡ 0 + node_number s x.sender = omega arith in
       ap (is_hostile_node (resolved s)) number
       ∙ ap (λ o. unwrap_or (option_map is_hostile o) false) (role_at 0 nodes x.sender y.0 y.1 (hostile_node y.0.role hostile))

@@ -16,7 +16,8 @@ use Rattle.fab_base.specs.declared.object.Value.{Value}
 use Rattle.fab_base.specs.declared.object.Value.TheVariants.{Int, Null, Ref}
 use Rattle.fab_base.specs.declared.object.Stop.TheVariants.{Fuel, Depth, Reads, Writes}
 use Rattle.fab_base.specs.FlatMap.{FlatMap, get, put, is_same}
-use Rattle.fab_map.proofs.Order.{one_name}
+use Rattle.fab_base.proofs.NameOrder.{one_name}
+use Rattle.fab_base.proofs.Lists.{all_split, at_index}
 use Rattle.fab_map.proofs.Rows.{get-put_same, get-put_other}
 use Rattle.fab_tree.specs.declared.expression.Operator.{Operator}
 use Rattle.fab_tree.specs.declared.expression.Operator.TheVariants.{Or, And, Add, Subtract, Multiply, Divide}
@@ -40,7 +41,7 @@ use Rattle.fab_language.specs.Meaning.{State, End, failed, stopped, missing, Run
 use Rattle.fab_language.specs.Meaning.{next_name, make, create, noted_down, int_of, holds, truth, wrapped, quotient, operate, chained, form_step, value, form_value, operand_value, values, in_order, turns, or_else, atomically}
 use Rattle.fab_language.specs.Meaning.{right, statement_step, statement, block, returned, body_of, default, locals_at_start, back_with, entered, called, requested, meant_by, meaning, state_at_start}
 use Rattle.fab_laws.proofs.Values.{at_place, all_set, all_at_start}
-use Rattle.fab_shapes.proofs.Lists.{in_both, in_each, at_index}
+use Rattle.fab_shapes.proofs.Lists.{in_each}
 use Rattle.fab_settings.specs.Numbers.{all_of, in_form, in_expression, in_expressions, in_right, in_statement_step, in_statement, in_block, in_result, in_method}
 
 abbrev pub AllFit : List ℤ → Type 0
@@ -277,7 +278,7 @@ chains [] c v p = done IsSmall v p
 chains (x ∷ xs) c v p =
     let o = operand_value x.0 in
     let rest = chained operate (map operand_value (plain_operands xs)) in
-    let both = in_both (FitsSigned w32) (in_operand x.0) (all_of (map in_operand (plain_operands xs))) c in
+    let both = all_split (FitsSigned w32) (in_operand x.0) (all_of (map in_operand (plain_operands xs))) c in
     then_on IsSmall IsSmall o.1 (λ w. operate o.0 v w >>= rest) (x.1.gives both.0)
     (λ w q. then_on IsSmall IsSmall (operate o.0 v w) rest (operates o.0 v w p q) (λ u r. chains xs both.1 u r))
 
@@ -300,12 +301,12 @@ by_form (f.Negative x) = record {
 by_form (f.Not x) = record { gives = λ c. then_on IsSmall IsSmall (value x.0) _ (x.1.gives c) (λ v p. done IsSmall (truth _) (truth_fits _)) }
 by_form (f.Chain x others) = record {
   gives = λ c.
-      let both = in_both (FitsSigned w32) (in_expression x.0) (all_of (map in_operand (plain_operands others))) c in
+      let both = all_split (FitsSigned w32) (in_expression x.0) (all_of (map in_operand (plain_operands others))) c in
       then_on IsSmall IsSmall (value x.0) (chained operate (map operand_value (plain_operands others))) (x.1.gives both.0) (chains others both.1);
 }
 by_form (f.Compared x comparison y) = record {
   gives = λ c.
-      let both = in_both (FitsSigned w32) (in_expression x.0) (in_expression y.0) c in
+      let both = all_split (FitsSigned w32) (in_expression x.0) (in_expression y.0) c in
       then_on IsSmall IsSmall (value x.0) _ (x.1.gives both.0)
       (λ a p. then_on IsSmall IsSmall (value y.0) _ (y.1.gives both.1) (λ b q. done IsSmall (truth _) (truth_fits _)));
 }
@@ -333,7 +334,7 @@ expressions = ind-Expression (λ x. Stands (in_a_form x) (form_value x)) (λ x. 
 all_values : (es : List Expression) → AllFit (in_expressions es) → Gives AreSmall (values es)
 all_values [] c = done AreSmall [] tt
 all_values (e ∷ es) c =
-    let both = in_both (FitsSigned w32) (in_expression e) (in_expressions es) c in
+    let both = all_split (FitsSigned w32) (in_expression e) (in_expressions es) c in
     then_on IsSmall AreSmall (value e) (λ v. values es >>= λ vs. gives (v ∷ vs)) ((expressions e).gives both.0)
     (λ v p. then_on AreSmall AreSmall (values es) (λ vs. gives (v ∷ vs)) (all_values es both.1) (λ vs q. done AreSmall (v ∷ vs) (p, q)))
 
@@ -397,7 +398,7 @@ module _ (tid : Tid) (call : ℕ → List Value → M (Option Value)) (calls : C
   each : (ks : List Known) → AllFit (all_of (map in_statement (plain ks))) → Each (map (statement tid call) (plain ks))
   each [] c = tt
   each (k ∷ ks) c =
-      let both = in_both (FitsSigned w32) (in_statement k.0) (all_of (map in_statement (plain ks))) c in
+      let both = all_split (FitsSigned w32) (in_statement k.0) (all_of (map in_statement (plain ks))) c in
       (k.1.goes both.0, each ks both.1)
 
   abbrev parts : s.Statement-F Known → s.Statement-F Statement
@@ -413,14 +414,14 @@ module _ (tid : Tid) (call : ℕ → List Value → M (Option Value)) (calls : C
       paid _ (then_on AreSmall Any (values es) (λ vs. call m.number vs >>= λ r. gives tt) (all_values es c)
       (λ vs p. then_on Answers Any (call m.number vs) (λ r. gives tt) (calls m.number vs p) (λ r q. done Any tt tt)))
   layer (s.If e a b) c =
-      let first = in_both (FitsSigned w32) (in_expression e ++ all_of (map in_statement (plain a))) (all_of (map in_statement (plain b))) c in
-      let two = in_both (FitsSigned w32) (in_expression e) (all_of (map in_statement (plain a))) first.0 in
+      let first = all_split (FitsSigned w32) (in_expression e ++ all_of (map in_statement (plain a))) (all_of (map in_statement (plain b))) c in
+      let two = all_split (FitsSigned w32) (in_expression e) (all_of (map in_statement (plain a))) first.0 in
       paid _ (then_on IsSmall Any (value e) _ ((expressions e).gives two.0) (λ v p. choice (holds v) _ _ (orders _ (each a two.1)) (orders _ (each b first.1))))
   layer (s.While e a) c =
-      let both = in_both (FitsSigned w32) (in_expression e) (all_of (map in_statement (plain a))) c in
+      let both = all_split (FitsSigned w32) (in_expression e) (all_of (map in_statement (plain a))) c in
       record { by = λ t h. (all_turns t.fuel (value e) _ ((expressions e).gives both.0) (orders _ (each a both.1))).by t h }
   layer (s.Atomic label a b at) c =
-      let both = in_both (FitsSigned w32) (all_of (map in_statement (plain a))) (all_of (map in_statement (plain b))) c in
+      let both = all_split (FitsSigned w32) (all_of (map in_statement (plain a))) (all_of (map in_statement (plain b))) c in
       paid _ (atomics _ _ (orders _ (each a both.0)) (orders _ (each b both.1)))
   layer (s.Fail at) c = paid _ (over Any failed)
 
@@ -434,7 +435,7 @@ module _ (tid : Tid) (call : ℕ → List Value → M (Option Value)) (calls : C
   blocks : (xs : List Statement) → AllFit (in_block xs) → Goes (block tid call xs)
   blocks [] c = done Any tt tt
   blocks (x ∷ xs) c =
-      let both = in_both (FitsSigned w32) (in_statement x) (in_block xs) c in
+      let both = all_split (FitsSigned w32) (in_statement x) (in_block xs) c in
       one_by_one Any (statement tid call x) (block tid call xs) ((statements x).goes both.0) (blocks xs both.1)
 
   all_returned : (r : Option Return) → AllFit (in_result r) → Gives Answers (returned r)
@@ -443,7 +444,7 @@ module _ (tid : Tid) (call : ℕ → List Value → M (Option Value)) (calls : C
 
   bodies : (m : Method) → AllFit (in_method m) → Gives Answers (body_of tid call m)
   bodies m c =
-      let both = in_both (FitsSigned w32) (in_block m.body) (in_result m.result) c in
+      let both = all_split (FitsSigned w32) (in_block m.body) (in_result m.result) c in
       one_by_one Answers (block tid call m.body) (returned m.result) (blocks m.body both.0) (all_returned m.result both.1)
 
 -- ---- calls

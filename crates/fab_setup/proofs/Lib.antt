@@ -1,3 +1,1 @@
 pub mod Numbers
-pub mod Records
-pub mod Driving

@@ -9,7 +9,7 @@ use Rattle.fab_base.specs.declared.object.Oid.{Oid}
 use Rattle.fab_base.specs.declared.object.Tid.{Tid}
 use Rattle.fab_base.specs.declared.entry.Entry.TheVariants as e
 use Rattle.fab_base.specs.declared.message.Items.{Items}
-use Rattle.fab_base.specs.FieldSpelling.{IsObject}
+use Rattle.fab_base.specs.FieldSpelling.{IsObject, sent_version}
 use Rattle.fab_base.specs.FlatMap.{is_among}
 use Rattle.fab_net.specs.declared.note.Commit.{Commit}
 use Rattle.fab_net.specs.declared.note.Logged.{Logged}
@@ -134,9 +134,9 @@ module _ (S : Setting) (sight : Sight) (P : Public) (shared : IsShared S sight P
     ]
 
     -- what is there can be spelled
-    pub applied_spelled : AllByRecursion (λ row. IsObject 1 row.2) applied.rows
+    pub applied_spelled : AllByRecursion (λ row. IsObject sent_version row.2) applied.rows
     applied_spelled =
         let known = shadows S sight P shared w log cs k stands s me in
-        subst (AllByRecursion (λ (row : Row). IsObject 1 row.2)) (sym applied_rows)
-        (all_placed_all name_of (λ (row : Row). IsObject 1 row.2) (left_by items) now.rows
-        (each_of (λ (p : Prepared). AllByRecursion (λ row. IsObject 1 row.2) (left_by p.1)) now.prepared (t, items) known.left_spelled there) known.spelled)
+        subst (AllByRecursion (λ (row : Row). IsObject sent_version row.2)) (sym applied_rows)
+        (all_placed_all name_of (λ (row : Row). IsObject sent_version row.2) (left_by items) now.rows
+        (each_of (λ (p : Prepared). AllByRecursion (λ row. IsObject sent_version row.2) (left_by p.1)) now.prepared (t, items) known.left_spelled there) known.spelled)

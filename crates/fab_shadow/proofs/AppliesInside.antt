@@ -10,7 +10,8 @@ use Rattle.fab_base.specs.declared.object.Oid.{Oid}
 use Rattle.fab_base.specs.declared.object.Tid.{Tid}
 use Rattle.fab_base.specs.declared.entry.Entry.TheVariants as e
 use Rattle.fab_base.specs.declared.message.Items.{Items}
-use Rattle.fab_base.specs.FieldSpelling.{IsObject}
+use Rattle.fab_base.specs.FieldSpelling.{IsObject, sent_version}
+use Rattle.fab_base.proofs.Lists.{all_filter}
 use Rattle.fab_net.specs.declared.note.Commit.{Commit}
 use Rattle.fab_net.specs.declared.note.Logged.{Logged}
 use Rattle.fab_net.specs.declared.note.Note.TheVariants as note
@@ -18,7 +19,6 @@ use Rattle.fab_protocol.specs.Stores as stores
 use Rattle.fab_protocol.specs.Stores.{Shelf, Prepared, keeps, prepared_as, records}
 use Rattle.fab_protocol.specs.Tables.{row_of, placed_all}
 use Rattle.fab_protocol.specs.Versions.{Row, Rows, is_tid, left_by, name_of, version_of}
-use Rattle.fab_protocol.proofs.Lists.{all_filter}
 use Rattle.fab_world.specs.Machine.{Setting, World, shelf}
 use Rattle.fab_release.specs.declared.release.Release.{Release}
 use Rattle.fab_release.specs.Sights.{Sight, Public}
@@ -91,7 +91,7 @@ module _ (S : Setting) (sight : Sight) (P : Public) (shared : IsShared S sight P
     wide = known.wide;
     senders = known.senders;
     spelled = applied_spelled S sight P shared w log cs k stands s me t items there;
-    left_spelled = all_filter (λ (p : Prepared). AllByRecursion (λ row. IsObject 1 row.2) (left_by p.1)) (λ (p : Prepared). not (is_tid p.0 t)) now.prepared
+    left_spelled = all_filter (λ (p : Prepared). AllByRecursion (λ row. IsObject sent_version row.2) (left_by p.1)) (λ (p : Prepared). not (is_tid p.0 t)) now.prepared
         known.left_spelled;
   }
 

@@ -11,7 +11,8 @@ use Rattle.fab_base.specs.declared.object.Oid.{Oid}
 use Rattle.fab_base.specs.declared.object.Tid.{Tid}
 use Rattle.fab_base.specs.declared.entry.Entry.TheVariants as e
 use Rattle.fab_base.specs.declared.message.Items.{Items}
-use Rattle.fab_base.specs.FieldSpelling.{IsObject}
+use Rattle.fab_base.specs.FieldSpelling.{IsObject, sent_version}
+use Rattle.fab_base.proofs.Lists.{all_filter}
 use Rattle.fab_net.specs.declared.note.Commit.{Commit}
 use Rattle.fab_net.specs.declared.note.Logged.{Logged}
 use Rattle.fab_net.specs.declared.note.Note.TheVariants as note
@@ -21,7 +22,6 @@ use Rattle.fab_protocol.specs.Parts.{items_at}
 use Rattle.fab_protocol.specs.Stores.{Shelf, Prepared, records, sender_in}
 use Rattle.fab_protocol.specs.Tables.{row_of, placed_all}
 use Rattle.fab_protocol.specs.Versions.{Row, Rows, begun, is_tid, left_by, name_of, raised, version_of}
-use Rattle.fab_protocol.proofs.Lists.{all_filter}
 use Rattle.fab_protocol.proofs.VersionLaws.{version_of_row}
 use Rattle.fab_world.specs.Machine.{Setting, World, shelf}
 use Rattle.fab_release.specs.declared.release.Release.{Release}
@@ -243,7 +243,7 @@ module _ (S : Setting) (sight : Sight) (P : Public) (shared : IsShared S sight P
     wide = ap length senders ∙ known.wide;
     senders = λ d inside. ap (λ xs. sender_in xs d) senders ∙ known.senders d inside;
     spelled = applied_spelled S sight P shared w log cs k stands s me t items there;
-    left_spelled = all_filter (λ (p : Prepared). AllByRecursion (λ row. IsObject 1 row.2) (left_by p.1)) (λ (p : Prepared). not (is_tid p.0 t)) now.prepared
+    left_spelled = all_filter (λ (p : Prepared). AllByRecursion (λ row. IsObject sent_version row.2) (left_by p.1)) (λ (p : Prepared). not (is_tid p.0 t)) now.prepared
         known.left_spelled;
   }
 

@@ -6,13 +6,13 @@ use Rattle.std.specs.List.{filter, flat_map, AllByRecursion}
 use Rattle.std.proofs.lemmas.Bool.{and_parts}
 use Rattle.std.proofs.lemmas.List.{append-nil, length-append, length-map}
 use Rattle.std.proofs.lemmas.List.Elements.{filter-append, filter_agree}
-use Rattle.fab_protocol.proofs.Lists.{all_append}
 use Rattle.fab_protocol.proofs.StoreActs.{answered}
 use Rattle.fab_base.specs.declared.object.Object.{Object}
 use Rattle.fab_base.specs.declared.object.Oid.{Oid}
 use Rattle.fab_base.specs.declared.object.Tid.{Tid}
 use Rattle.fab_base.specs.declared.message.Message.{Message}
 use Rattle.fab_base.specs.declared.message.Message.TheVariants as m
+use Rattle.fab_base.proofs.Lists.{all_append}
 use Rattle.fab_language.specs.Meaning.{Meant}
 use Rattle.fab_net.specs.declared.event.Inner.{Inner}
 use Rattle.fab_net.specs.declared.event.Inner.TheVariants as i

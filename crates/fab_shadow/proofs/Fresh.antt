@@ -6,10 +6,10 @@ use Rattle.fab_base.specs.declared.object.Tid.{Tid}
 use Rattle.fab_base.specs.declared.message.Answer.{Answer}
 use Rattle.fab_base.specs.declared.message.Answer.TheVariants as answers
 use Rattle.fab_base.specs.declared.message.Items.{Items}
+use Rattle.fab_base.proofs.Lists.{all_append}
 use Rattle.fab_rights.specs.declared.rights.Rights.{Rights}
 use Rattle.fab_protocol.specs.Stores.{Shelf, Prepared, Item, Read, Write, Create, creates_in, first_of, item_name, locked, out_of_date, reads_in, reasons, reasons_in, reasons_of, vote, writes_in}
 use Rattle.fab_protocol.specs.Versions.{Rows}
-use Rattle.fab_protocol.proofs.Lists.{all_append}
 
 abbrev pub is_old : Answer → Bool
 is_old (answers.OldTid t) = true

@@ -8,11 +8,11 @@ use Rattle.fab_base.specs.declared.object.Tid.{Tid}
 use Rattle.fab_base.specs.FieldSpelling.{IsTid}
 use Rattle.fab_base.specs.FlatMap.{FlatMap, map_of}
 use Rattle.fab_base.specs.FlatMap as flat
+use Rattle.fab_base.proofs.Lists.{all_map}
 use Rattle.fab_net.specs.declared.note.Commit.{Commit}
 use Rattle.fab_net.specs.declared.note.Logged.{Logged}
 use Rattle.fab_protocol.specs.declared.parts.Parts.{Parts}
 use Rattle.fab_protocol.specs.Versions.{Row, Rows, objects_of}
-use Rattle.fab_protocol.proofs.Lists.{all_map}
 use Rattle.fab_protocol.proofs.Records.{worker_below}
 use Rattle.fab_world.specs.Machine.{Setting, World, kept, shelf}
 use Rattle.fab_world.specs.Serial.{AreFit, IsFit, IsFitName}

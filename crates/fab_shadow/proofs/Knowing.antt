@@ -9,6 +9,8 @@ use Rattle.std.proofs.lemmas.List.Elements.{filter-append}
 use Rattle.std.proofs.lemmas.Option.{none-some}
 use Rattle.fab_base.specs.declared.object.Oid.{Oid}
 use Rattle.fab_base.specs.FlatMap.{FlatMap, get, map_of, is_among, is_same}
+use Rattle.fab_base.proofs.NameOrder.{one_name}
+use Rattle.fab_base.proofs.Lists.{all_of_map}
 use Rattle.fab_laws.specs.Closed.{HasOne}
 use Rattle.fab_laws.specs.Locality.{IsPart}
 use Rattle.fab_net.specs.declared.note.Commit.{Commit}
@@ -16,8 +18,7 @@ use Rattle.fab_net.specs.declared.note.Logged.{Logged}
 use Rattle.fab_protocol.specs.Tables.{row_of, OnlyOnce}
 use Rattle.fab_protocol.specs.Versions.{Row, Rows, name_of, names_of, objects_of}
 use Rattle.fab_protocol.proofs.NameLists.{none_among, once_append}
-use Rattle.fab_protocol.proofs.TableLaws.{one_name, row_of_name, row_of_none}
-use Rattle.fab_protocol.proofs.Lists.{all_of_map}
+use Rattle.fab_protocol.proofs.TableLaws.{row_of_name, row_of_none}
 use Rattle.fab_laws.proofs.Names.{among_once}
 use Rattle.fab_language.specs.Heaps.{touched}
 use Rattle.fab_world.specs.Machine.{Setting, World, kept, meant}

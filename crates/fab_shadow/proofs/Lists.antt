@@ -6,11 +6,11 @@ use Rattle.std.specs.List.{filter, filter_map, cons_option, AllByRecursion}
 use Rattle.std.proofs.lemmas.Bool.{both_ways, eqb-true, eqb-false, ltb-true, ltb-false, lt-ltb, ne_eqb}
 use Rattle.fab_base.specs.declared.object.Oid.{Oid}
 use Rattle.fab_base.specs.FlatMap.{is_among, is_same}
+use Rattle.fab_base.proofs.NameOrder.{one_name}
+use Rattle.fab_base.proofs.Lists.{all_filter}
 use Rattle.fab_language.specs.Heaps.{each_once, without}
 use Rattle.fab_protocol.specs.Parts.{with_number}
 use Rattle.fab_protocol.specs.Tables.{row_of}
-use Rattle.fab_protocol.proofs.Lists.{all_filter}
-use Rattle.fab_protocol.proofs.TableLaws.{one_name}
 use Rattle.fab_integrity.proofs.Invariant.{In}
 
 -- a test that chooses between the same chooses nothing

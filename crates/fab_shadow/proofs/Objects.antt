@@ -10,13 +10,13 @@ use Rattle.fab_base.specs.declared.object.Oid.{Oid}
 use Rattle.fab_base.specs.declared.object.Tid.{Tid}
 use Rattle.fab_base.specs.FlatMap.{is_among, is_same}
 use Rattle.fab_base.specs.Tids.{is_above}
+use Rattle.fab_base.proofs.NameOrder.{one_name}
 use Rattle.fab_net.specs.declared.note.Commit.{Commit}
 use Rattle.fab_net.specs.declared.note.Logged.{Logged}
 use Rattle.fab_net.specs.declared.outcome.Denial.TheVariants.{IllFormed}
 use Rattle.fab_net.specs.declared.outcome.ReqOutcome.TheVariants.{Denied}
 use Rattle.fab_protocol.specs.declared.parts.Parts.{Parts}
 use Rattle.fab_protocol.specs.Versions.{Row, is_tid, maker_of, names_of}
-use Rattle.fab_protocol.proofs.TableLaws.{one_name}
 use Rattle.fab_rights.specs.Computed.{is_store, suits}
 use Rattle.fab_world.specs.Machine.{Setting, World, front_of, kept, meant, parts, shelf}
 use Rattle.fab_world.specs.Workers as workers

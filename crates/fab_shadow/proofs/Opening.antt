@@ -6,12 +6,12 @@ use Rattle.std.proofs.lemmas.Bool.{and_parts, eq-eqb}
 use Rattle.std.proofs.lemmas.Option.{none-some, same_Some}
 use Rattle.fab_base.specs.declared.object.Oid.{Oid}
 use Rattle.fab_base.specs.declared.object.Object.{Object}
-use Rattle.fab_base.specs.FieldSpelling.{IsObject}
+use Rattle.fab_base.specs.FieldSpelling.{IsObject, sent_version}
 use Rattle.fab_base.specs.FlatMap.{FlatMap, is_same}
+use Rattle.fab_base.proofs.Lists.{all_along, all_filter, all_map}
 use Rattle.fab_protocol.specs.Stores.{Shelf, shelf_at_start}
 use Rattle.fab_protocol.specs.Tables.{row_of}
 use Rattle.fab_protocol.specs.Versions.{Row, Rows, begun, name_of}
-use Rattle.fab_protocol.proofs.Lists.{all_along, all_filter, all_map}
 use Rattle.fab_world.specs.Machine.{Setting, at_start, shelf}
 use Rattle.fab_world.specs.Serial.{IsFit}
 use Rattle.fab_world.specs.Workers.{Kept}
@@ -99,9 +99,9 @@ module _ (S : Setting) (sight : Sight) (P : Public) (shared : IsShared S sight P
         prepared = refl;
         wide = refl;
         senders = λ d inside. refl;
-        spelled = all_map (λ (r : Row). IsObject 1 r.2) begun (filter (λ (root : Oid × Object). root.0.store == s) S.roots)
-            (all_filter (λ (root : Oid × Object). IsObject 1 root.1) (λ (root : Oid × Object). root.0.store == s) S.roots
-            (all_along (IsFit S) (λ (root : Oid × Object). IsObject 1 root.1) (λ root fit. fit.spelled) S.roots shared.setting.roots_fit));
+        spelled = all_map (λ (r : Row). IsObject sent_version r.2) begun (filter (λ (root : Oid × Object). root.0.store == s) S.roots)
+            (all_filter (λ (root : Oid × Object). IsObject sent_version root.1) (λ (root : Oid × Object). root.0.store == s) S.roots
+            (all_along (IsFit S) (λ (root : Oid × Object). IsObject sent_version root.1) (λ root fit. fit.spelled) S.roots shared.setting.roots_fit));
         left_spelled = tt;
       })
 

@@ -10,6 +10,7 @@ use Rattle.fab_base.specs.declared.object.Oid.{Oid}
 use Rattle.fab_base.specs.declared.message.Message.{Message}
 use Rattle.fab_base.specs.declared.message.Message.TheVariants as m
 use Rattle.fab_base.specs.FlatMap.{map_of, is_among, is_same}
+use Rattle.fab_base.proofs.NameOrder.{one_name}
 use Rattle.fab_language.specs.declared.ending.Ending.TheVariants as endings
 use Rattle.fab_language.specs.Meaning.{Meant}
 use Rattle.fab_fewer.specs.Fewer.{AreKnown}
@@ -29,7 +30,7 @@ use Rattle.fab_release.specs.Record.{seen_by}
 use Rattle.fab_release.specs.Replay.{Rebuilt, WorkerSeen, Runs, Waits, asks_by, asked_by, fetch, run, tid_of, unless_cached}
 use Rattle.fab_isolation.specs.Law.{IsShared}
 use Rattle.fab_isolation.specs.Owed.{Follows, given_by, is_seen, seen_in}
-use Rattle.fab_protocol.proofs.TableLaws.{one_name, row_of_name}
+use Rattle.fab_protocol.proofs.TableLaws.{row_of_name}
 use Rattle.fab_world.specs.Serial.{IsFitName}
 use Rattle.fab_integrity.proofs.Invariant.{IsWorker, Standing, standing, tid_at}
 use Rattle.fab_integrity.proofs.Lasting.{kept_behind}

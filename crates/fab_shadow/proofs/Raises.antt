@@ -13,6 +13,8 @@ use Rattle.fab_base.specs.declared.message.Answer.TheVariants as answers
 use Rattle.fab_base.specs.declared.message.Items.{Items}
 use Rattle.fab_base.specs.declared.message.Message.{Message}
 use Rattle.fab_base.specs.FlatMap.{is_same}
+use Rattle.fab_base.proofs.NameOrder.{one_name}
+use Rattle.fab_base.proofs.Lists.{few_pass}
 use Rattle.fab_rights.specs.declared.rights.Rights.{Rights}
 use Rattle.fab_protocol.specs.Shelves.{IsCurrent, IsShelf}
 use Rattle.fab_protocol.specs.Stores.{Prepared, Shelf, Write, all_in, behind}
@@ -21,11 +23,10 @@ use Rattle.fab_protocol.specs.Stores.{prepared_as, says, vote, voted, without}
 use Rattle.fab_protocol.specs.Tables.{placed, placed_all}
 use Rattle.fab_protocol.specs.Versions.{Row, Rows, begun, is_tid, left_by, name_of, raised, risen, version_of}
 use Rattle.fab_protocol.proofs.StoreActs.{answered}
-use Rattle.fab_protocol.proofs.TableLaws.{one_name}
 use Rattle.fab_protocol.proofs.VersionLaws.{version_of_placed}
 use Rattle.fab_integrity.proofs.Invariant.{In}
 use Rattle.fab_integrity.proofs.Items.{in_writes}
-use Rattle.fab_integrity.proofs.Lists.{each_of, few_pass, in_append, in_filter, in_flat, in_map}
+use Rattle.fab_integrity.proofs.Lists.{each_of, in_append, in_filter, in_flat, in_map}
 use Rattle.fab_integrity.proofs.Replays.{fresh_is}
 use Rattle.fab_shadow.proofs.Asks.{asks, is_prepare}
 

@@ -7,6 +7,7 @@ use Rattle.fab_base.specs.declared.message.Message.TheVariants as m
 use Rattle.fab_base.specs.declared.object.Oid.{Oid}
 use Rattle.fab_base.specs.declared.object.Tid.{Tid}
 use Rattle.fab_base.specs.FlatMap.{map_of}
+use Rattle.fab_base.proofs.Lists.{all_append}
 use Rattle.fab_language.specs.declared.ending.Ending.TheVariants as endings
 use Rattle.fab_language.specs.Meaning.{Meant}
 use Rattle.fab_net.specs.declared.event.Inner.{Inner}
@@ -20,7 +21,6 @@ use Rattle.fab_protocol.specs.Parts.{stores_of, items_at}
 use Rattle.fab_protocol.specs.Stores as stores
 use Rattle.fab_protocol.specs.Stores.{Shelf, Prepared, asks}
 use Rattle.fab_protocol.specs.Versions.{objects_of}
-use Rattle.fab_protocol.proofs.Lists.{all_append}
 use Rattle.fab_protocol.proofs.StoreActs.{answered}
 use Rattle.fab_rights.specs.declared.rights.Rights.{Rights}
 use Rattle.fab_rights.specs.Computed.{is_node, is_store, is_worker, stores_in}

@@ -6,11 +6,12 @@ use Rattle.std.proofs.lemmas.Bool.{and_parts, cases_Bool, eq-eqb, eqb-true, fals
 use Rattle.fab_base.specs.declared.object.Oid.{Oid}
 use Rattle.fab_base.specs.FlatMap.{is_among, is_same}
 use Rattle.fab_base.proofs.Names.{same_self}
+use Rattle.fab_base.proofs.NameOrder.{one_name}
+use Rattle.fab_base.proofs.Lists.{all_of_map}
 use Rattle.fab_protocol.specs.Tables.{row_of, placed, placed_all}
 use Rattle.fab_protocol.specs.Versions.{Row, Rows, name_of, names_of}
-use Rattle.fab_protocol.proofs.Lists.{all_of_map}
 use Rattle.fab_protocol.proofs.NameLists.{none_among}
-use Rattle.fab_protocol.proofs.TableLaws.{one_name, row_of_placed, row_of_placed_all}
+use Rattle.fab_protocol.proofs.TableLaws.{row_of_placed, row_of_placed_all}
 use Rattle.fab_release.specs.Replay.{row_at}
 use Rattle.fab_integrity.proofs.Invariant.{In}
 use Rattle.fab_integrity.proofs.Lists.{in_map}

@@ -3,6 +3,7 @@ use Rattle.std.proofs.Common.{◌≡◌, ℕ, ◌+◌, ◌≤◌, true, false, n
 use Rattle.std.specs.List.{flat_map}
 use Rattle.std.proofs.lemmas.Bool.{and_parts}
 use Rattle.std.proofs.lemmas.List.{append_assoc, append-nil, length-append}
+use Rattle.fab_base.proofs.Lists.{few_pass}
 use Rattle.fab_net.specs.declared.note.Commit.{Commit}
 use Rattle.fab_net.specs.declared.note.Logged.{Logged}
 use Rattle.fab_world.specs.Machine.{Setting, World, Move, form_of, step, enabled, are_enabled, logged, logs, runs, at_start, notes_at}
@@ -19,7 +20,6 @@ use Rattle.fab_settings.proofs.Gives.{gives_setting}
 use Rattle.fab_settings.proofs.Meanings.{evaluates}
 use Rattle.fab_integrity.proofs.Costs.{noted_outside}
 use Rattle.fab_integrity.proofs.Counts.{Counted, counted_start, counted_step}
-use Rattle.fab_integrity.proofs.Lists.{few_pass}
 use Rattle.fab_integrity.proofs.Once.{commits_more}
 use Rattle.fab_integrity.proofs.Runs.{counting, counts_grow, excludes_none, front_run, holds_run}
 use Rattle.fab_integrity.proofs.Steps.{Holds}

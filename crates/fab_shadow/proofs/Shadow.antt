@@ -11,7 +11,7 @@ use Rattle.fab_base.specs.declared.object.Object.{Object}
 use Rattle.fab_base.specs.declared.object.Tid.{Tid}
 use Rattle.fab_base.specs.declared.object.Value.{Value}
 use Rattle.fab_base.specs.declared.message.Message.TheVariants as m
-use Rattle.fab_base.specs.FieldSpelling.{IsObject}
+use Rattle.fab_base.specs.FieldSpelling.{IsObject, sent_version}
 use Rattle.fab_base.specs.FlatMap.{is_among}
 use Rattle.fab_language.specs.declared.ending.Ending.TheVariants.{Missing}
 use Rattle.fab_net.specs.declared.note.Commit.{Commit}
@@ -139,8 +139,8 @@ module _ (S : Setting) (sight : Sight) (P : Public) where
     pub wide : length y.shelf.senders ≡ 64
     pub senders : (d : ℕ) → sight.has d ≡ true → sender_in y.shelf.senders d ≡ sender_in x.senders d
     -- and what the store has and will have can be spelled
-    pub spelled : AllByRecursion (λ row. IsObject 1 row.2) x.rows
-    pub left_spelled : AllByRecursion (λ p. AllByRecursion (λ row. IsObject 1 row.2) (left_by p.1)) x.prepared
+    pub spelled : AllByRecursion (λ row. IsObject sent_version row.2) x.rows
+    pub left_spelled : AllByRecursion (λ p. AllByRecursion (λ row. IsObject sent_version row.2) (left_by p.1)) x.prepared
 
   -- ---- the table
 

@@ -10,6 +10,7 @@ use Rattle.fab_base.specs.declared.object.Value.{Value}
 use Rattle.fab_base.specs.declared.message.Message.{Message}
 use Rattle.fab_base.specs.MessageSpelling.{spelled}
 use Rattle.fab_base.specs.FlatMap.{is_among}
+use Rattle.fab_base.proofs.Lists.{all_append}
 use Rattle.fab_net.specs.declared.event.Event.{Event}
 use Rattle.fab_net.specs.declared.event.Event.TheVariants as e
 use Rattle.fab_net.specs.declared.event.Inner.{Inner}
@@ -19,7 +20,6 @@ use Rattle.fab_net.specs.declared.note.Logged.{Logged}
 use Rattle.fab_net.specs.declared.note.Note.{Note}
 use Rattle.fab_net.specs.declared.note.Note.TheVariants as note
 use Rattle.fab_rights.specs.Computed.{is_node, is_store, is_worker}
-use Rattle.fab_protocol.proofs.Lists.{all_append}
 use Rattle.fab_world.specs.Machine.{Setting, World, Node, Move, Fails, node_of, act, may, ready, lands, cut, at_node, down}
 use Rattle.fab_world.specs.Machine.{kept, posted, steps, step, bytes_in, bytes_to, enabled, record_at}
 use Rattle.fab_world.specs.Machine.{notes_if, notes_at, logged, form_of, form_by, with_at, option_list, is_evaluating}

@@ -10,8 +10,9 @@ use Rattle.fab_base.specs.declared.object.Tid.{Tid}
 use Rattle.fab_base.specs.declared.message.Message.{Message}
 use Rattle.fab_base.specs.declared.message.Message.TheVariants as m
 use Rattle.fab_base.specs.declared.message.Items.{Items}
-use Rattle.fab_base.specs.FieldSpelling.{AreItems, IsCreate, IsObject, IsWrite}
+use Rattle.fab_base.specs.FieldSpelling.{AreItems, IsCreate, IsObject, IsWrite, sent_version}
 use Rattle.fab_base.specs.MessageSpelling.{spelled}
+use Rattle.fab_base.proofs.Lists.{all_along}
 use Rattle.fab_net.specs.declared.note.Commit.{Commit}
 use Rattle.fab_net.specs.declared.note.Logged.{Logged}
 use Rattle.fab_protocol.specs.declared.said.Said.{Said}
@@ -19,7 +20,6 @@ use Rattle.fab_protocol.specs.Shelves.{IsShelf}
 use Rattle.fab_protocol.specs.Stores.{Shelf, Prepared, shelf_of, keeps_said, sender_in}
 use Rattle.fab_protocol.specs.Tables.{row_of}
 use Rattle.fab_protocol.specs.Versions.{Row, Rows, name_of, left_by, version_of}
-use Rattle.fab_protocol.proofs.Lists.{all_along}
 use Rattle.fab_protocol.proofs.VersionLaws.{left_all}
 use Rattle.fab_world.specs.Machine.{Setting, World, shelf, of_store}
 use Rattle.fab_release.specs.declared.release.Release.{Release}
@@ -160,14 +160,14 @@ module _ (S : Setting) (sight : Sight) (P : Public) (shared : IsShared S sight P
   -- the replay stands to another shelf as to this one
   pub shadows_still : (behind : Shelf) → behind.rows ≡ now.rows → filter (λ p. sight.has p.0.worker) behind.prepared ≡ filter (λ p. sight.has p.0.worker) now.prepared
       → ((d : ℕ) → sight.has d ≡ true → sender_in behind.senders d ≡ sender_in now.senders d)
-      → AllByRecursion (λ p. AllByRecursion (λ row. IsObject 1 row.2) (left_by p.1)) behind.prepared
+      → AllByRecursion (λ p. AllByRecursion (λ row. IsObject sent_version row.2) (left_by p.1)) behind.prepared
       → ShadowsStore S sight P s behind seen_now
   shadows_still behind rows prepared senders left = record {
     rows = λ o shown here. shadows.rows o shown here ∙ ap (λ rs. row_of name_of rs o) (sym rows);
     prepared = shadows.prepared ∙ sym prepared;
     wide = shadows.wide;
     senders = λ d inside. shadows.senders d inside ∙ sym (senders d inside);
-    spelled = subst (AllByRecursion (λ (row : Row). IsObject 1 row.2)) (sym rows) shadows.spelled;
+    spelled = subst (AllByRecursion (λ (row : Row). IsObject sent_version row.2)) (sym rows) shadows.spelled;
     left_spelled = left;
   }
 
@@ -187,7 +187,7 @@ module _ (S : Setting) (sight : Sight) (P : Public) (shared : IsShared S sight P
       absurd (no_object (same_kind S shared.setting message (m.Object t o version x) is))
 
 -- what a Prepare that was read leaves can be spelled
-pub items_spelled : (items : Items) → AreItems 1 items → AllByRecursion (λ row. IsObject 1 row.2) (left_by items)
+pub items_spelled : (items : Items) → AreItems sent_version items → AllByRecursion (λ row. IsObject sent_version row.2) (left_by items)
 items_spelled items are =
-    left_all (λ row. IsObject 1 row.2) items (all_along (IsWrite 1) (λ (r : Row). IsObject 1 r.2) (λ r g. g.object) items.writes are.writes)
-    (all_along (IsCreate 1) (λ (c : Oid × Object). IsObject 1 c.1) (λ c g. g.object) items.creates are.creates)
+    left_all (λ row. IsObject sent_version row.2) items (all_along (IsWrite sent_version) (λ (r : Row). IsObject sent_version r.2) (λ r g. g.object) items.writes are.writes)
+    (all_along (IsCreate sent_version) (λ (c : Oid × Object). IsObject sent_version c.1) (λ c g. g.object) items.creates are.creates)

@@ -17,8 +17,9 @@ use Rattle.fab_base.specs.declared.message.Items.{Items}
 use Rattle.fab_base.specs.declared.message.Message.{Message}
 use Rattle.fab_base.specs.declared.message.Message.TheVariants as m
 use Rattle.fab_base.specs.declared.message.Why.TheVariants as why
-use Rattle.fab_base.specs.FieldSpelling.{IsObject}
+use Rattle.fab_base.specs.FieldSpelling.{IsObject, sent_version}
 use Rattle.fab_base.specs.Tids.{is_above}
+use Rattle.fab_base.proofs.Lists.{all_append, all_filter}
 use Rattle.fab_net.specs.declared.event.Inner.TheVariants as i
 use Rattle.fab_net.specs.declared.note.Commit.{Commit}
 use Rattle.fab_net.specs.declared.note.Logged.{Logged}
@@ -31,7 +32,6 @@ use Rattle.fab_protocol.specs.Stores.{Shelf, Prepared, asked, boot_of, does, fet
 use Rattle.fab_protocol.specs.Stores.{replies, says, sender_in, silent, start_of, vote, voted, votes, with_last}
 use Rattle.fab_protocol.specs.Tables.{row_of}
 use Rattle.fab_protocol.specs.Versions.{Row, is_tid, left_by, name_of}
-use Rattle.fab_protocol.proofs.Lists.{all_append, all_filter}
 use Rattle.fab_protocol.proofs.Records.{worker_below}
 use Rattle.fab_protocol.proofs.Senders.{as_many, sender_at, sender_other}
 use Rattle.fab_world.specs.Machine.{Setting, World, shelf, front_of, may, of_store}
@@ -232,9 +232,9 @@ module _ (S : Setting) (sight : Sight) (P : Public) (shared : IsShared S sight P
             ∙ ap (filter (λ (p : Prepared). sight.has p.0.worker)) (sym (rest now));
         wide = wide;
         senders = senders;
-        spelled = subst (AllByRecursion (λ (row : Row). IsObject 1 row.2)) (sym (rows now)) known.spelled;
-        left_spelled = subst (AllByRecursion (λ (p : Prepared). AllByRecursion (λ row. IsObject 1 row.2) (left_by p.1))) (sym (rest now))
-            (all_filter (λ (p : Prepared). AllByRecursion (λ row. IsObject 1 row.2) (left_by p.1)) test now.prepared known.left_spelled);
+        spelled = subst (AllByRecursion (λ (row : Row). IsObject sent_version row.2)) (sym (rows now)) known.spelled;
+        left_spelled = subst (AllByRecursion (λ (p : Prepared). AllByRecursion (λ row. IsObject sent_version row.2) (left_by p.1))) (sym (rest now))
+            (all_filter (λ (p : Prepared). AllByRecursion (λ row. IsObject sent_version row.2) (left_by p.1)) test now.prepared known.left_spelled);
       })
       (rows now) (λ p h settled. (in_filter test p now.prepared (subst (In p) (rest now) h)).0)
       (λ p h settled. subst (In p) (sym (rest now)) (filter_in test p now.prepared h (spares p settled)))
@@ -367,7 +367,7 @@ module _ (S : Setting) (sight : Sight) (P : Public) (shared : IsShared S sight P
           wide = wide_still;
           senders = last_known;
           spelled = known.spelled;
-          left_spelled = all_append (λ (p : Prepared). AllByRecursion (λ row. IsObject 1 row.2) (left_by p.1)) now.prepared ((t, items) ∷ []) known.left_spelled
+          left_spelled = all_append (λ (p : Prepared). AllByRecursion (λ row. IsObject sent_version row.2) (left_by p.1)) now.prepared ((t, items) ∷ []) known.left_spelled
               (items_spelled items ((spelled_so S shared.setting bytes (m.Prepare t items) read).body).1, tt);
         })
         refl

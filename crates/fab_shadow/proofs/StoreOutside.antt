@@ -17,9 +17,10 @@ use Rattle.fab_base.specs.declared.message.Message.{Message}
 use Rattle.fab_base.specs.declared.message.Message.TheVariants as m
 use Rattle.fab_base.specs.declared.message.Why.{Why}
 use Rattle.fab_base.specs.declared.message.Why.TheVariants as why
-use Rattle.fab_base.specs.FieldSpelling.{IsObject, IsOid, IsTid}
+use Rattle.fab_base.specs.FieldSpelling.{IsObject, IsOid, IsTid, sent_version}
 use Rattle.fab_base.specs.MessageSpelling.{IsBody, spelled}
 use Rattle.fab_base.specs.Tids.{is_above}
+use Rattle.fab_base.proofs.Lists.{all_append, all_filter}
 use Rattle.fab_net.specs.declared.event.Inner.TheVariants as i
 use Rattle.fab_net.specs.declared.note.Commit.{Commit}
 use Rattle.fab_net.specs.declared.note.Logged.{Logged}
@@ -30,7 +31,6 @@ use Rattle.fab_protocol.specs.Stores.{Shelf, Prepared, asked, boot_of, does, fet
 use Rattle.fab_protocol.specs.Stores.{vote, voted, votes, with_last}
 use Rattle.fab_protocol.specs.Tables.{row_of}
 use Rattle.fab_protocol.specs.Versions.{Row, name_of, version_of, left_by, is_tid}
-use Rattle.fab_protocol.proofs.Lists.{all_append, all_filter}
 use Rattle.fab_protocol.proofs.Senders.{sender_other}
 use Rattle.fab_protocol.proofs.TableLaws.{row_of_all, row_of_name}
 use Rattle.fab_protocol.proofs.VersionLaws.{version_of_row}
@@ -129,8 +129,8 @@ module _ (S : Setting) (sight : Sight) (P : Public) (shared : IsShared S sight P
       let found : version_of now.rows o ≡ row.1 = version_of_row now.rows o row there in
       let low = stands.low s me o in
       let fits : row.1 < 2 ^ 32 = omega (arith, found, low) in
-      let object : IsObject 1 row.2 =
-      row_of_all name_of (λ (r : Row). IsObject 1 r.2) now.rows o row (shadows S sight P shared w log cs k stands s me).spelled there in
+      let object : IsObject sent_version row.2 =
+      row_of_all name_of (λ (r : Row). IsObject sent_version r.2) now.rows o row (shadows S sight P shared w log cs k stands s me).spelled there in
       let back : m.Object u p version x ≡ m.Object t o row.1 row.2 =
       read_back S shared.setting (m.Object t o row.1 row.2) (m.Object u p version x) (tid, name, fits, object) is in
       let name_is : p ≡ o = cc in
@@ -147,7 +147,7 @@ module _ (S : Setting) (sight : Sight) (P : Public) (shared : IsShared S sight P
 
   fetch_heard : (t : Tid) (o : Oid) → Heard (m.Fetch t o)
   fetch_heard t o read own =
-      let body : IsBody 1 (m.Fetch t o) = (spelled_so S shared.setting bytes (m.Fetch t o) read).body in
+      let body : IsBody sent_version (m.Fetch t o) = (spelled_so S shared.setting bytes (m.Fetch t o) read).body in
       unreceived (fetched S.rights s a t o now)
       (by_test S sight P shared w log cs k stands s me [] (not (o.store == s) || not (knows S.rights o.class)) (replies a (m.Deny t o why.Missing))
       (if not (may_fetch S.rights a o.class) then replies a (m.Deny t o why.Rights) else found a t o (row_of name_of now.rows o))
@@ -206,7 +206,7 @@ module _ (S : Setting) (sight : Sight) (P : Public) (shared : IsShared S sight P
         ∙ ap (λ b. filter (λ (p : Prepared). sight.has p.0.worker) now.prepared ++ (if b then (t, items) ∷ [] else [])) (ap sight.has mine ∙ side)
         ∙ append-nil (filter (λ (p : Prepared). sight.has p.0.worker) now.prepared))
         same_senders
-        (all_append (λ (p : Prepared). AllByRecursion (λ row. IsObject 1 row.2) (left_by p.1)) now.prepared ((t, items) ∷ [])
+        (all_append (λ (p : Prepared). AllByRecursion (λ row. IsObject sent_version row.2) (left_by p.1)) now.prepared ((t, items) ∷ [])
         (shadows S sight P shared w log cs k stands s me).left_spelled
         (items_spelled items ((spelled_so S shared.setting bytes (m.Prepare t items) read).body).1, tt))
 
@@ -263,8 +263,8 @@ module _ (S : Setting) (sight : Sight) (P : Public) (shared : IsShared S sight P
       (shadows_still S sight P shared w log cs k stands s me (keeps entry now) rows
       (ap (filter (λ (p : Prepared). sight.has p.0.worker)) rest ∙ filter_twice (λ (p : Prepared). sight.has p.0.worker) test keeps_theirs now.prepared)
       senders
-      (subst (AllByRecursion (λ (p : Prepared). AllByRecursion (λ row. IsObject 1 row.2) (left_by p.1))) (sym rest)
-      (all_filter (λ (p : Prepared). AllByRecursion (λ row. IsObject 1 row.2) (left_by p.1)) test now.prepared
+      (subst (AllByRecursion (λ (p : Prepared). AllByRecursion (λ row. IsObject sent_version row.2) (left_by p.1))) (sym rest)
+      (all_filter (λ (p : Prepared). AllByRecursion (λ row. IsObject sent_version row.2) (left_by p.1)) test now.prepared
       (shadows S sight P shared w log cs k stands s me).left_spelled)))
       rows (λ p h settled. (in_filter test p now.prepared (subst (In p) rest h)).0)
       (λ p h settled. subst (In p) (sym rest) (filter_in test p now.prepared h (keeps_settled p h settled)))

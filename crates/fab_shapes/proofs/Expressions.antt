@@ -1,6 +1,7 @@
 -- The kinds of expressions.
 use Rattle.std.proofs.Common.{◌≡◌, ℕ, List, [], ◌∷◌, map, refl, sym, ap, ◌∙◌, subst}
 use Rattle.std.specs.List.{AllByRecursion}
+use Rattle.fab_base.proofs.Lists.{left_nil, right_nil}
 use Rattle.fab_tree.specs.declared.expression.Expression.{Expression, roll-Expression, ind-Expression, fold-roll-Expression}
 use Rattle.fab_tree.specs.declared.expression.Form.{Form, roll-Form, map-Form, fold-Form, fold-roll-Form}
 use Rattle.fab_tree.specs.declared.expression.Form.TheOpen as f
@@ -26,7 +27,6 @@ use Rattle.fab_language.specs.MethodNumbers.{Numbered, in_turn, form_step, form_
 use Rattle.fab_language.proofs.NumberedForms.{expression_numbers, form_numbers}
 use Rattle.fab_laws.specs.Kinds as n
 use Rattle.fab_shapes.proofs.Agreement.{Agrees, held, is_number}
-use Rattle.fab_shapes.proofs.Lists.{left_nil, right_nil}
 use Rattle.fab_shapes.proofs.Locals.{classes_in, allowed, IsDeclared, IsKnown, local_kinds, local_holds, field_holds}
 
 module _ (s : Start) (classes : AllByRecursion (IsDeclared s) s.program.classes) (methods : List NumberedMethod) (locals : List Parameter) (known : Locals) (knows : AllByRecursion (IsKnown s locals) known) where

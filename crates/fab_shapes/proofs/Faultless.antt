@@ -1,6 +1,7 @@
 -- What it says of each part that a bundle breaks no rule of names and types.
 use Rattle.std.proofs.Common.{◌≡◌, true, [], ◌++◌}
 use Rattle.std.specs.List.{AllByRecursion, flat_map}
+use Rattle.fab_base.proofs.Lists.{left_nil, right_nil, each_nil}
 use Rattle.fab_tree.specs.declared.declaration.Class.{Class}
 use Rattle.fab_tree.specs.declared.declaration.Field.{Field}
 use Rattle.fab_tree.specs.declared.program.Parameter.{Parameter}
@@ -23,7 +24,7 @@ use Rattle.fab_language.specs.Types.{if_so, says_so, mistyped}
 use Rattle.fab_language.specs.Unknown as u
 use Rattle.fab_language.specs.Unknown.{in_sort, in_label, in_parameter, in_returns, in_principal, in_heading, unknown}
 use Rattle.fab_laws.proofs.Values.{all_more}
-use Rattle.fab_shapes.proofs.Lists.{left_nil, right_nil, each_nil, from_two, from_three}
+use Rattle.fab_shapes.proofs.Lists.{from_two, from_three}
 use Rattle.fab_shapes.proofs.Locals.{allowed, IsDeclared}
 use Rattle.fab_shapes.proofs.Methods.{HasHeading}
 use Rattle.fab_shapes.proofs.Named.{stands_for_itself}

@@ -2,6 +2,7 @@
 use Rattle.std.proofs.Common.{◌≡◌, ℕ, Bool, true, false, List, [], map, length, Option, Some, None, refl, sym, ap, ◌∙◌, subst, arith}
 use Rattle.std.specs.List.{AllByRecursion}
 use Rattle.std.proofs.lemmas.Bool.{false≢true}
+use Rattle.fab_base.proofs.Lists.{left_nil, right_nil}
 use Rattle.fab_tree.specs.declared.name.Name.{Name}
 use Rattle.fab_tree.specs.declared.declaration.Sort.{Sort}
 use Rattle.fab_tree.specs.declared.declaration.Sort.TheVariants as sorts
@@ -23,7 +24,6 @@ use Rattle.fab_language.specs.Numbers.{class_of}
 use Rattle.fab_language.specs.Numbers as numbers
 use Rattle.fab_laws.specs.Kinds as n
 use Rattle.fab_shapes.proofs.Agreement.{Holds, sort_holds, class_at, kind_at_made, made_kinds}
-use Rattle.fab_shapes.proofs.Lists.{left_nil, right_nil}
 use Rattle.fab_shapes.proofs.Named.{named_same, has_name, found, of_named, at_number}
 
 -- whether a place holds what a test allows

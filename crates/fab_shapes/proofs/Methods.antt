@@ -4,6 +4,7 @@ use Rattle.std.specs.Prelude.{slice_get}
 use Rattle.std.specs.List.{AllByRecursion, flat_map}
 use Rattle.std.proofs.lemmas.Bool.{eq-eqb, eqb-true}
 use Rattle.std.proofs.lemmas.List.{length-map}
+use Rattle.fab_base.proofs.Lists.{left_nil, right_nil}
 use Rattle.fab_tree.specs.declared.name.Name.{Name}
 use Rattle.fab_tree.specs.declared.declaration.Field.{Field}
 use Rattle.fab_tree.specs.declared.expression.Expression.{Expression}
@@ -34,7 +35,6 @@ use Rattle.fab_laws.specs.Kinds as n
 use Rattle.fab_laws.specs.Shapes.{is_met}
 use Rattle.fab_shapes.proofs.Agreement.{Holds, AllHold, held, fits, own_number, sort_holds, class_at, fields_hold}
 use Rattle.fab_shapes.proofs.Expressions.{expression_agrees}
-use Rattle.fab_shapes.proofs.Lists.{left_nil, right_nil}
 use Rattle.fab_shapes.proofs.Locals.{classes_in, allowed, IsDeclared, IsKnown, local_kinds}
 use Rattle.fab_shapes.proofs.Named.{found, of_named}
 

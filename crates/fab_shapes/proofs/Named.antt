@@ -5,16 +5,14 @@ use Rattle.std.specs.List.{AllByRecursion, list_any}
 use Rattle.std.specs.Str.{bytes_eq}
 use Rattle.std.proofs.lemmas.Bool.{or_parts}
 use Rattle.std.proofs.lemmas.Slice.Eq.{bytes_eq-Decides}
+use Rattle.fab_base.proofs.Lists.{right_nil}
 use Rattle.fab_tree.specs.declared.name.Name.{Name}
 use Rattle.fab_language.specs.declared.rule.Fault.{Fault}
 use Rattle.fab_language.specs.declared.rule.NameRule.TheVariants.{Doubled}
 use Rattle.fab_language.specs.Names.{is_same_name, named, number_of}
 use Rattle.fab_language.specs.Unknown.{if_found}
 use Rattle.fab_language.specs.Doubled.{repeats_behind, repeats}
-use Rattle.fab_shapes.proofs.Lists.{right_nil}
-
-pub same_text : (x y : Name) → is_same_name x y ≡ true → x.text ≡ y.text
-same_text x y e = (bytes_eq-Decides x.text y.text).0 e
+use Rattle.fab_language.proofs.Named.{same_text}
 
 pub same_name : (x y : Name) → x.text ≡ y.text → is_same_name x y ≡ true
 same_name x y e = (bytes_eq-Decides x.text y.text).1 e

@@ -9,6 +9,7 @@ use Rattle.fab_base.specs.declared.object.Oid.{Oid}
 use Rattle.fab_base.specs.declared.object.Object.{Object}
 use Rattle.fab_base.specs.declared.object.Value.TheVariants.{Int, Null, Ref}
 use Rattle.fab_base.specs.FlatMap.{FlatMap}
+use Rattle.fab_base.proofs.Lists.{left_nil, right_nil, all_always, all_flat}
 use Rattle.fab_tree.specs.declared.name.Name.{Name}
 use Rattle.fab_tree.specs.declared.declaration.Class.{Class}
 use Rattle.fab_tree.specs.declared.declaration.Field.{Field}
@@ -40,7 +41,7 @@ use Rattle.fab_laws.specs.Shapes.{suits, AllSuit, IsShaped, AreShaped, IsFitting
 use Rattle.fab_laws.proofs.Values.{all_more}
 use Rattle.fab_shapes.proofs.Agreement.{Holds, AllHold, number_at, made_at, own_number, class_at, fields_hold}
 use Rattle.fab_shapes.proofs.Faultless.{IsRightRoot, IsRightRequest, IsFaultless, faultless}
-use Rattle.fab_shapes.proofs.Lists.{left_nil, right_nil, of_all, of_each}
+use Rattle.fab_shapes.proofs.Lists.{of_all}
 use Rattle.fab_shapes.proofs.Locals.{classes_in, allowed, IsDeclared}
 use Rattle.fab_shapes.proofs.Maps.{each_of_map, has_row}
 use Rattle.fab_shapes.proofs.Methods.{HasHeading, as_many, methods_in, parameters_at}
@@ -59,7 +60,7 @@ module _ (s : Start) (P : Request → Type 0) where
   of_node false xs h = tt
 
   all_at : (node : ℕ) (xs : List Session) → AllByRecursion (λ x. AllByRecursion (λ y. (worker k : ℕ) → P (request_of s worker k y)) x.requests) xs → AllByRecursion P (flat_map (asked_at node) (map (session_of s) xs))
-  all_at node xs h = of_each P (asked_at node) (map (session_of s) xs) (each_asked xs h)
+  all_at node xs h = all_flat P (asked_at node) (map (session_of s) xs) (each_asked xs h)
     where
       each_asked : (ys : List Session) → AllByRecursion (λ x. AllByRecursion (λ y. (worker k : ℕ) → P (request_of s worker k y)) x.requests) ys → AllByRecursion (λ x. AllByRecursion P (asked_at node x)) (map (session_of s) ys)
       each_asked [] h = tt
@@ -69,11 +70,6 @@ module _ (s : Start) (P : Request → Type 0) where
 
   pub all_requests : AllByRecursion (λ (x : Session). AllByRecursion (λ y. (worker k : ℕ) → P (request_of s worker k y)) x.requests) s.sessions → AllByRecursion P (requests_of (resolved s))
   all_requests h = of_all P (λ node. flat_map (asked_at node) (map (session_of s) s.sessions)) (nodes_of (resolved s)) (λ node. all_at node s.sessions h)
-
--- what holds of every element of a list
-every : {A : Type 0} (P : A → Type 0) → ((x : A) → P x) → (xs : List A) → AllByRecursion P xs
-every P f [] = tt
-every P f (x ∷ xs) = (f x, every P f xs)
 
 -- ---- references lead to the objects of roots, whatever the bundle is
 
@@ -123,8 +119,8 @@ module _ (s : Start) where
   pub given_there : AllByRecursion (λ r. AreThere objects r.args) (requests_of (resolved s))
   given_there =
       all_requests s (λ r. AreThere objects r.args)
-      (every (λ (x : Session). AllByRecursion (λ y. (worker k : ℕ) → AreThere objects (request_of s worker k y).args) x.requests)
-      (λ x. every (λ y. (worker k : ℕ) → AreThere objects (request_of s worker k y).args) (λ y worker k. values_there y.arguments) x.requests) s.sessions)
+      (all_always (λ (x : Session). AllByRecursion (λ y. (worker k : ℕ) → AreThere objects (request_of s worker k y).args) x.requests)
+      (λ x. all_always (λ y. (worker k : ℕ) → AreThere objects (request_of s worker k y).args) (λ y worker k. values_there y.arguments) x.requests) s.sessions)
 
 -- ---- values suit their places
 

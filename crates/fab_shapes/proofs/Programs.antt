@@ -2,6 +2,7 @@
 use Rattle.std.proofs.Common.{◌≡◌, ℕ, true, List, [], ◌∷◌, option_map, Option, Some, None, refl}
 use Rattle.std.specs.List.{AllByRecursion, flat_map}
 use Rattle.std.proofs.lemmas.Bool.{false≢true}
+use Rattle.fab_base.proofs.Lists.{left_nil, right_nil, all_split}
 use Rattle.fab_tree.specs.declared.program.Parameter.{Parameter}
 use Rattle.fab_tree.specs.declared.program.Returns.{Returns}
 use Rattle.fab_tree.specs.declared.program.Return.{Return}
@@ -22,7 +23,7 @@ use Rattle.fab_laws.specs.Shapes.{is_met, is_fitting}
 use Rattle.fab_laws.proofs.Values.{all_joined, all_more}
 use Rattle.fab_shapes.proofs.Agreement.{sort_holds}
 use Rattle.fab_shapes.proofs.Faultless.{IsRightMethod, IsFaultless, faultless}
-use Rattle.fab_shapes.proofs.Lists.{left_nil, right_nil, in_both, from_two, all_pass}
+use Rattle.fab_shapes.proofs.Lists.{from_two, all_pass}
 use Rattle.fab_shapes.proofs.Locals.{classes_in, IsDeclared, IsKnown, local_kinds}
 use Rattle.fab_shapes.proofs.Methods.{Met, HasHeading, methods_in, given_fits}
 use Rattle.fab_shapes.proofs.Statements.{IsRight, IsFirst, block_fits}
@@ -48,10 +49,10 @@ module _ (s : Start) (classes : AllByRecursion (IsDeclared s) s.program.classes)
   method_fits : (m : Method) (k : ℕ) → IsRightMethod s m → AllByRecursion Met (n.method_claims (classes_in s) (methods_in s) (method_of s m k).0)
   method_fits m k right =
       let locals = locals_of m in
-      let ps = in_both (IsFirst locals) m.parameters (flat_map declared_in m.body) right.once in
+      let ps = all_split (IsFirst locals) m.parameters (flat_map declared_in m.body) right.once in
       let known : AllByRecursion (IsKnown s locals) m.parameters = from_two (IsFirst locals) (λ (p : Parameter). in_sort s p.sort ≡ []) (IsKnown s locals) m.parameters (λ p i d. record { itself = i; declared = d }) ps.0 right.heading.parameters in
       let body = heads_in m.body m.parameters in
-      let hs = in_both (IsRight s m.returns) body.heads (result_heads m.result body.behind) right.heads in
+      let hs = all_split (IsRight s m.returns) body.heads (result_heads m.result body.behind) right.heads in
       let b = block_fits s classes headings locals m.returns m.body m.parameters k known ps.1 hs.0 in
       (result_fits locals body.behind m.returns m.result (block_of s locals m.body k).1 b.0 right.heading.returns right.says hs.1, b.1)
 

@@ -1,6 +1,7 @@
 -- What statements claim is met.
 use Rattle.std.proofs.Common.{◌≡◌, ℕ, suc, List, [], ◌∷◌, ◌++◌, map, Option, Some, None, refl, sym, ap, ◌∙◌, subst}
 use Rattle.std.specs.List.{AllByRecursion, flat_map}
+use Rattle.fab_base.proofs.Lists.{left_nil, right_nil, all_split}
 use Rattle.fab_tree.specs.declared.name.Name.{Name}
 use Rattle.fab_tree.specs.declared.declaration.Sort.{Sort}
 use Rattle.fab_tree.specs.declared.expression.Expression.{Expression}
@@ -29,7 +30,6 @@ use Rattle.fab_language.proofs.NumberedForms.{statement_numbers}
 use Rattle.fab_laws.specs.Kinds as n
 use Rattle.fab_laws.proofs.Values.{all_joined}
 use Rattle.fab_shapes.proofs.Agreement.{Holds, sort_holds}
-use Rattle.fab_shapes.proofs.Lists.{left_nil, right_nil, in_both}
 use Rattle.fab_shapes.proofs.Locals.{classes_in, IsDeclared, IsKnown, local_kinds, kind_of_first, local_holds, field_holds}
 use Rattle.fab_shapes.proofs.Methods.{Met, HasHeading, methods_in, given_fits, right_fits, call_fits}
 
@@ -96,8 +96,8 @@ module _ (s : Start) (classes : AllByRecursion (IsDeclared s) s.program.classes)
     block_layer : (ks : List S) → BlockFits (walked ks) (declares ks) (made ks)
     block_layer [] known k h f r = (h, tt)
     block_layer (x ∷ xs) known k h f r =
-        let ps = in_both (IsFirst locals) (declared_in (statement x)) (declares xs) f in
-        let hs = in_both (IsRight s returns) (walk (statement x) known).heads (walked xs (walk (statement x) known).behind).heads r in
+        let ps = all_split (IsFirst locals) (declared_in (statement x)) (declares xs) f in
+        let hs = all_split (IsRight s returns) (walk (statement x) known).heads (walked xs (walk (statement x) known).behind).heads r in
         let here = of_statement x known k h ps.0 hs.0 in
         let rest = block_layer xs (walk (statement x) known).behind (statement_of s locals (statement x) k).1 here.0 ps.1 hs.1 in
         (rest.0, all_joined Met (claims_of (statement_of s locals (statement x) k).0) (block_claims (made xs (statement_of s locals (statement x) k).1).0) here.1 rest.1)
@@ -106,8 +106,8 @@ module _ (s : Start) (classes : AllByRecursion (IsDeclared s) s.program.classes)
     two_met : (known : Locals) (xs ys : List S) (k : ℕ) → AreKnown known → AllByRecursion (IsFirst locals) (declares xs ++ declares ys) → AreRight ((walked xs known).heads ++ (walked ys known).heads)
         → AllByRecursion Met (block_claims (made xs k).0 ++ block_claims (made ys (made xs k).1).0)
     two_met known xs ys k h f r =
-        let ps = in_both (IsFirst locals) (declares xs) (declares ys) f in
-        let hs = in_both (IsRight s returns) (walked xs known).heads (walked ys known).heads r in
+        let ps = all_split (IsFirst locals) (declares xs) (declares ys) f in
+        let hs = all_split (IsRight s returns) (walked xs known).heads (walked ys known).heads r in
         all_joined Met (block_claims (made xs k).0) (block_claims (made ys (made xs k).1).0)
         (block_layer xs known k h ps.0 hs.0).1 (block_layer ys known (made xs k).1 h ps.1 hs.1).1
 
@@ -180,7 +180,7 @@ module _ (s : Start) (classes : AllByRecursion (IsDeclared s) s.program.classes)
     if_layer e xs known k h f r =
         let c = expression_of s locals e k in
         let b = made xs c.1 in
-        let hs = in_both (IsRight s returns) (walked xs known).heads [] r.1 in (
+        let hs = all_split (IsRight s returns) (walked xs known).heads [] r.1 in (
           h,
           met_by (ns.If c.0 b.0 []) (nso.If c.0 b.0 []) (sym (ns.rolls-If c.0 b.0 []))
               (all_joined Met (block_claims b.0) [] (block_layer xs known c.1 h f hs.0).1 tt),
@@ -233,8 +233,8 @@ module _ (s : Start) (classes : AllByRecursion (IsDeclared s) s.program.classes)
   pub block_fits : (xs : List Statement) → BlockFits (heads_in xs) (flat_map declared_in xs) (block_of s locals xs)
   block_fits [] known k h f r = (h, tt)
   block_fits (x ∷ xs) known k h f r =
-      let ps = in_both (IsFirst locals) (declared_in x) (flat_map declared_in xs) f in
-      let hs = in_both (IsRight s returns) (walk x known).heads (heads_in xs (walk x known).behind).heads r in
+      let ps = all_split (IsFirst locals) (declared_in x) (flat_map declared_in xs) f in
+      let hs = all_split (IsRight s returns) (walk x known).heads (heads_in xs (walk x known).behind).heads r in
       let here = statement_fits x known k h ps.0 hs.0 in
       let rest = block_fits xs (walk x known).behind (statement_of s locals x k).1 here.0 ps.1 hs.1 in
       (rest.0, all_joined Met (claims_of (statement_of s locals x k).0) (block_claims (block_of s locals xs (statement_of s locals x k).1).0) here.1 rest.1)

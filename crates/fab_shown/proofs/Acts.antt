@@ -16,6 +16,7 @@ use Rattle.fab_base.specs.declared.object.Value.{Value}
 use Rattle.fab_base.specs.FieldSpelling.{IsTid, KeepsItems}
 use Rattle.fab_base.specs.FlatMap.{map_of}
 use Rattle.fab_base.specs.MessageSpelling.{KeepsCounts}
+use Rattle.fab_base.proofs.Lists.{all_map}
 use Rattle.fab_language.specs.declared.ending.Ending.{Ending}
 use Rattle.fab_language.specs.declared.ending.Ending.TheVariants as endings
 use Rattle.fab_net.specs.declared.event.Inner.{Inner}
@@ -29,7 +30,6 @@ use Rattle.fab_protocol.specs.Shelves.{CanKeep, IsShelf}
 use Rattle.fab_protocol.specs.Stores.{Shelf, asks, says}
 use Rattle.fab_protocol.specs.Versions.{Row, objects_of}
 use Rattle.fab_protocol.proofs.Kept.{says_can_keep}
-use Rattle.fab_protocol.proofs.Lists.{all_map}
 use Rattle.fab_protocol.proofs.Records.{worker_below}
 use Rattle.fab_world.specs.Attempts.{value_of}
 use Rattle.fab_world.specs.Machine.{Setting, World, act, front_of, hears, is_evaluating, is_running, kept, lacks, may, meant, node_of, of_store, parts, shelf}

@@ -18,12 +18,12 @@ use Rattle.fab_base.specs.declared.object.Tid.{Tid}
 use Rattle.fab_base.specs.declared.object.Value.{Value}
 use Rattle.fab_base.specs.declared.object.Value.TheVariants.{Int, Null, Ref}
 use Rattle.fab_base.specs.FieldSpelling.{KeepsItems, create_bytes, four_bytes, items_bytes, object_bytes, oid_bytes, read_bytes, tid_bytes, two_bytes, value_bytes, write_bytes}
-use Rattle.fab_base.specs.JournalSpelling.{result_bytes, version_behind}
+use Rattle.fab_base.specs.JournalSpelling.{version_behind}
 use Rattle.fab_base.specs.MessageSpelling.{KeepsCounts, answer_bytes, spelled, why_bytes}
-use Rattle.fab_wire.proofs.Lengths.{items_le, value_le}
+use Rattle.fab_base.proofs.Lists.{all_append}
+use Rattle.fab_wire.proofs.Lengths.{items_le}
 use Rattle.fab_journal.specs.Lengths.{record_length}
-use Rattle.fab_journal.proofs.Lengths.{length-record}
-use Rattle.fab_protocol.proofs.Lists.{all_append}
+use Rattle.fab_journal.proofs.Lengths.{length-record, result_le}
 use Rattle.fab_world.specs.Machine.{record_behind}
 use Rattle.fab_reports.specs.Lines.{AreBytes}
 
@@ -144,10 +144,6 @@ IsShort (e.BootSeen w b) = Unit {0}
 abbrev pub IsShortIf : Option Entry → Type 0
 IsShortIf None = Unit {0}
 IsShortIf (Some entry) = IsShort entry
-
-result_le : (value : Option Value) → length (result_bytes value) ≤ 19
-result_le None = omega arith
-result_le (Some v) = value_le v
 
 short_length : (entry : Entry) → IsShort entry → record_length entry < 2 ^ 32
 short_length (e.Decided t request value stores) h = omega (arith, result_le value, h)

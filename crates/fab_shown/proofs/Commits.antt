@@ -4,6 +4,7 @@ use Rattle.std.proofs.Common.{Option, Some, None, refl, sym, ap, ◌∙◌, subs
 use Rattle.std.specs.List.{AllByRecursion, flat_map}
 use Rattle.fab_base.specs.declared.entry.Entry.{Entry}
 use Rattle.fab_base.specs.declared.entry.Entry.TheVariants as e
+use Rattle.fab_base.proofs.Lists.{all_append}
 use Rattle.fab_tree.specs.declared.resolved.Resolved.{Resolved}
 use Rattle.fab_tree.specs.declared.start.Start.{Start}
 use Rattle.fab_language.specs.Numbers.{resolved}
@@ -15,7 +16,6 @@ use Rattle.fab_net.specs.declared.outcome.ReqOutcome.TheVariants.{Committed}
 use Rattle.fab_rights.specs.declared.rights.Rights.{Rights}
 use Rattle.fab_protocol.specs.Shelves.{CanKeep}
 use Rattle.fab_protocol.specs.Stores.{Shelf}
-use Rattle.fab_protocol.proofs.Lists.{all_append}
 use Rattle.fab_world.specs.Machine.{Setting, World, Move, Form, Does, Cuts, Fails, Posts, Crashes, Never, act, are_enabled, at_start, enabled, form_of, is_whole, kept}
 use Rattle.fab_world.specs.Machine.{logs, may, node_of, notes_at, notes_if, shelf, step}
 use Rattle.fab_world.specs.Serial.{IsEvaluation, IsRun, IsSetting, commit_in, commits_in as run_commits, world_of}

@@ -10,7 +10,8 @@ use Rattle.fab_base.specs.declared.object.Object.{Object}
 use Rattle.fab_base.specs.declared.object.Oid.{Oid}
 use Rattle.fab_base.specs.declared.object.Value.{Value}
 use Rattle.fab_base.specs.declared.object.Value.TheVariants.{Int, Null, Ref}
-use Rattle.fab_base.specs.FieldSpelling.{AreItems, IsCreate, IsObject, IsOid, IsValue, IsWrite}
+use Rattle.fab_base.specs.FieldSpelling.{AreItems, IsCreate, IsObject, IsOid, IsValue, IsWrite, sent_version}
+use Rattle.fab_base.proofs.Lists.{all_along}
 use Rattle.fab_tree.specs.declared.resolved.Resolved.{Resolved}
 use Rattle.fab_tree.specs.declared.start.Start.{Start}
 use Rattle.fab_language.specs.Numbers.{resolved}
@@ -19,7 +20,6 @@ use Rattle.fab_rights.specs.Computed.{is_node, is_store, is_worker, suits}
 use Rattle.fab_protocol.specs.Shelves.{IsShelf, IsSuited}
 use Rattle.fab_protocol.specs.Stores.{Create, Item, Prepared, Shelf, Write, all_in, is_unsuited}
 use Rattle.fab_protocol.specs.Versions.{Row, begun, is_made_in, left_by, name_of, raised, risen}
-use Rattle.fab_protocol.proofs.Lists.{all_along}
 use Rattle.fab_protocol.proofs.TableLaws.{all_placed_all}
 use Rattle.fab_world.specs.Machine.{Move, Setting, World, held_at, is_decided, shelf}
 use Rattle.fab_world.specs.Serial.{IsEvaluation, IsRun, IsSetting, commits_in, world_of}
@@ -39,7 +39,7 @@ use Rattle.fab_shown.proofs.Nodes.{rights_node, suited_class}
 pub record IsFine (rights : Rights) (row : Row) : Type 0 where
   pub suited : suits rights row.0 row.2 ≡ true
   pub name : IsOid row.0
-  pub object : IsObject 1 row.2
+  pub object : IsObject sent_version row.2
   pub high : row.1 < 2 ^ 32
 
 good_fine : (rights : Rights) (P : Oid → Type 0) (row : Row) → IsGood rights P row → IsFine rights row
@@ -60,8 +60,8 @@ module _ (rights : Rights) (p : Prepared) (spelled : IsSpelled p) (suited : IsSu
 
   fine_write : (x : Row) → In x p.1.writes → Fine (raised x)
   fine_write x h =
-      let are : AreItems 1 p.1 = spelled.1 in
-      let write : IsWrite 1 x = each_of (IsWrite 1) p.1.writes x are.writes h in
+      let are : AreItems sent_version p.1 = spelled.1 in
+      let write : IsWrite sent_version x = each_of (IsWrite sent_version) p.1.writes x are.writes h in
       record {
         suited = not-false (suits rights x.0 x.2) (suited_item (Write x.0 x.1 x.2) (in_writes p.1 x h));
         name = write.oid;
@@ -71,8 +71,8 @@ module _ (rights : Rights) (p : Prepared) (spelled : IsSpelled p) (suited : IsSu
 
   fine_create : (c : Oid × Object) → In c p.1.creates → Fine (begun c)
   fine_create c h =
-      let are : AreItems 1 p.1 = spelled.1 in
-      let create : IsCreate 1 c = each_of (IsCreate 1) p.1.creates c are.creates h in
+      let are : AreItems sent_version p.1 = spelled.1 in
+      let create : IsCreate sent_version c = each_of (IsCreate sent_version) p.1.creates c are.creates h in
       let both = and_parts (suits rights c.0 c.1) (is_made_in p.0 c.0) (not-false _ (suited_item (Create c.0 c.1) (in_creates p.1 c h))) in
       record { suited = both.0; name = create.oid; object = create.object; high = omega arith }
 
@@ -106,7 +106,7 @@ module _ (S : Setting) (given : IsSetting S) (law : IsEvaluation S) (moves : Lis
 
 -- ---- rows of a report
 
-pub value_in : (v : Value) → IsValue 1 v → IsValueIn v
+pub value_in : (v : Value) → IsValue sent_version v → IsValueIn v
 value_in (Int n) h = h
 value_in Null h = tt
 value_in (Ref o) h = h
@@ -120,13 +120,13 @@ module _ (s : Start) (rights : Rights) (a : IsAcceptedWith s rights) (moves : Li
 
   row_in : (n : ℕ) → IsTrue (is_store rights n) → (row : Row) → IsFine rights row → IsRowIn r n row
   row_in n store row fine =
-      let object : IsObject 1 row.2 = fine.object in
+      let object : IsObject sent_version row.2 = fine.object in
       record {
         store = rights_node r rights a.rights_are n (or_right (is_worker rights n) (is_store rights n) store);
         name = fine.name;
         class = suited_class r rights a.rights_are row.0 row.2 fine.suited;
         version = fine.high;
-        fields = all_along (IsValue 1) IsValueIn value_in row.2.fields object.fields;
+        fields = all_along (IsValue sent_version) IsValueIn value_in row.2.fields object.fields;
       }
 
   rows_in : (n : ℕ) → AllByRecursion (IsRowIn r n) (held_here r rights (world_of S moves) n)

@@ -1,9 +1,10 @@
 -- The numbers of the rights are numbers of nodes, and that of an object that suits its name is a class's.
-use Rattle.std.proofs.Common.{◌≡◌, inl, inr, ℕ, suc, ◌+◌, ◌<◌, ◌≤◌, ◌==◌, Bool, true, false, cond, IsTrue, List, [], ◌∷◌, map, length, Option, Some, None, refl, sym, ap, ◌∙◌, true≢false, arith}
+use Rattle.std.proofs.Common.{◌≡◌, inl, inr, ℕ, ◌==◌, Bool, true, false, cond, IsTrue, List, [], ◌∷◌, map, length, Option, Some, None, refl, sym, ap, ◌∙◌, true≢false, arith}
 use Rattle.std.specs.Prelude.{slice_get, find, option_map, IsSome, IsSomeAnd}
 use Rattle.std.proofs.lemmas.Bool.{and_parts, or_cases, eqb-true}
 use Rattle.std.proofs.lemmas.List.{length-map}
 use Rattle.std.proofs.lemmas.Option.{slice_get_within}
+use Rattle.fab_settings.proofs.Posts.{place_further}
 use Rattle.fab_base.specs.declared.object.Object.{Object}
 use Rattle.fab_base.specs.declared.object.Oid.{Oid}
 use Rattle.fab_tree.specs.declared.declaration.Role.{Role}
@@ -12,9 +13,9 @@ use Rattle.fab_tree.specs.declared.resolved.Principal.{Principal}
 use Rattle.fab_tree.specs.declared.resolved.Resolved.{Resolved}
 use Rattle.fab_language.specs.Names as names
 use Rattle.fab_language.specs.Words.{has_number}
-use Rattle.fab_labelling.specs.Placement.{role_of}
-use Rattle.fab_labelling.specs.Readers.{is_numbered, place_from, principal_of}
+use Rattle.fab_labelling.specs.Readers.{is_numbered, place_from}
 use Rattle.fab_places.specs.Places.{AreRights, kind_of}
+use Rattle.fab_places.proofs.NodeLemmas.{role_is_node}
 use Rattle.fab_rights.specs.declared.rights.ClassRights.{ClassRights}
 use Rattle.fab_rights.specs.declared.rights.Rights.{Rights}
 use Rattle.fab_rights.specs.Computed.{fits_class, is_node, is_store, is_well_formed, is_worker, suits}
@@ -26,14 +27,6 @@ use Rattle.fab_reports.specs.Showable.{IsClass, IsNode}
 same_test : (n : ℕ) (o : Option ℕ) → is_numbered n o ≡ has_number n o
 same_test n None = refl
 same_test n (Some m) = refl
-
-place_further : (p n : ℕ) (xs : List Principal) → place_from (suc p) n xs ≡ suc (place_from p n xs)
-place_further p n [] = refl
-place_further p n (x ∷ xs) =
-    elim (is_numbered n x.node) as (λ b. cond b (suc p) (place_from (suc (suc p)) n xs) ≡ suc (cond b p (place_from (suc p) n xs))) [
-      | true ↦ refl
-      | false ↦ place_further (suc p) n xs
-    ]
 
 -- a principal at the place of a number has the number
 placed_has : (n : ℕ) (xs : List Principal) (x : Principal) → slice_get xs (place_from 0 n xs) ≡ Some x → IsSome (find (λ y. has_number n y.node) xs)
@@ -52,14 +45,11 @@ some_role : (P : Role → Type 0) (o : Option Principal) → IsSomeAnd (option_m
 some_role P None h = absurd h
 some_role P (Some x) h = (x, refl)
 
-role_node : (r : Resolved) (n : ℕ) (P : Role → Type 0) → IsSomeAnd (role_of r n) P → IsNode r n
-role_node r n P h = let x = some_role P (slice_get r.nodes (principal_of r n)) h in placed_has n r.nodes x.0 x.1
-
 -- a node of the rights is one of the bundle
 pub rights_node : (r : Resolved) (rights : Rights) → AreRights r rights → (n : ℕ) → IsTrue (is_node rights n) → IsNode r n
 rights_node r rights are n h = elim (or_cases (is_worker rights n) (is_store rights n) h) [
-  | inl worker ↦ role_node r n (λ x. IsTrue (names.is_worker x)) ((are.workers n).0 ((has_bit_exact rights.workers n).0 worker))
-  | inr store ↦ role_node r n (λ x. IsTrue (names.is_store x)) ((are.stores n).0 ((has_bit_exact rights.stores n).0 store))
+  | inl worker ↦ role_is_node r n (λ x. IsTrue (names.is_worker x)) ((are.workers n).0 ((has_bit_exact rights.workers n).0 worker))
+  | inr store ↦ role_is_node r n (λ x. IsTrue (names.is_store x)) ((are.stores n).0 ((has_bit_exact rights.stores n).0 store))
 ]
 
 -- ---- classes

@@ -7,6 +7,7 @@ use Rattle.std.proofs.lemmas.Bool.{and_parts, both_ways, cases_Bool, cond_both, 
 use Rattle.std.proofs.lemmas.List.FromFn.{length-map-range_with_len}
 use Rattle.fab_base.specs.declared.entry.Entry.{Entry}
 use Rattle.fab_base.specs.declared.entry.Entry.TheVariants as e
+use Rattle.fab_base.proofs.Lists.{all_always, all_map}
 use Rattle.fab_tree.specs.declared.resolved.Resolved.{Resolved}
 use Rattle.fab_tree.specs.declared.start.Start.{Start}
 use Rattle.fab_language.specs.Numbers.{resolved}
@@ -20,7 +21,6 @@ use Rattle.fab_rights.specs.declared.rights.Rights.{Rights}
 use Rattle.fab_rights.specs.Computed.{is_node, is_store, is_worker}
 use Rattle.fab_protocol.specs.Shelves.{CanKeep}
 use Rattle.fab_protocol.specs.Stores.{Shelf}
-use Rattle.fab_protocol.proofs.Lists.{all_always, all_map}
 use Rattle.fab_attempts.specs.Sessions.{requests_of}
 use Rattle.fab_world.specs.Machine.{Setting, World, Move, Form, act, at_start, enabled, form_of, kept, may, node_of, option_list, outcome, outcome_of, shelf, steps}
 use Rattle.fab_world.specs.Serial.{IsEvaluation, IsRun, IsSetting, commits_in, world_of}

@@ -7,6 +7,7 @@ use Rattle.std.proofs.lemmas.Bool.{cases_eq, eq-eqb, eqb-true, ne_eqb}
 use Rattle.std.proofs.lemmas.List.Sums.{sum_by-cons}
 use Rattle.fab_base.specs.declared.message.Message.{Message}
 use Rattle.fab_base.specs.MessageSpelling.{KeepsCounts}
+use Rattle.fab_base.proofs.Lists.{all_filter, all_map}
 use Rattle.fab_tree.specs.declared.resolved.Post.{Post}
 use Rattle.fab_tree.specs.declared.resolved.Resolved.{Resolved}
 use Rattle.fab_net.specs.declared.event.Event.{Event}
@@ -15,7 +16,6 @@ use Rattle.fab_net.specs.declared.event.Inner.{Inner}
 use Rattle.fab_net.specs.declared.event.Inner.TheVariants as i
 use Rattle.fab_net.specs.declared.note.Logged.{Logged}
 use Rattle.fab_rights.specs.Computed.{is_node}
-use Rattle.fab_protocol.proofs.Lists.{all_filter, all_map}
 use Rattle.fab_world.specs.Machine.{Setting, World, Move, Form, Does, Cuts, Fails, Posts, Crashes, Never, act, at_node, bytes_to, cut, down, enabled, form_by, form_of}
 use Rattle.fab_world.specs.Machine.{is_empty, logged, may, node_of, posted, ready, rest_of, steps, waiting_for, with_at}
 use Rattle.fab_integrity.proofs.Invariant.{In}

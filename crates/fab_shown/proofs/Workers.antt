@@ -8,6 +8,7 @@ use Rattle.fab_base.specs.declared.message.Message.TheVariants as m
 use Rattle.fab_base.specs.declared.object.Tid.{Tid}
 use Rattle.fab_base.specs.FieldSpelling.{KeepsItems}
 use Rattle.fab_base.specs.MessageSpelling.{KeepsCounts}
+use Rattle.fab_base.proofs.Lists.{all_append}
 use Rattle.fab_language.specs.Meaning.{Meant}
 use Rattle.fab_net.specs.declared.outcome.ReqOutcome.{ReqOutcome}
 use Rattle.fab_net.specs.declared.outcome.ReqOutcome.TheVariants as o
@@ -16,7 +17,6 @@ use Rattle.fab_rights.specs.Computed.{stores_in}
 use Rattle.fab_protocol.specs.declared.parts.Decision.{Decision}
 use Rattle.fab_protocol.specs.declared.parts.Parts.{Parts}
 use Rattle.fab_protocol.specs.Parts.{items_at, stores_of}
-use Rattle.fab_protocol.proofs.Lists.{all_append}
 use Rattle.fab_world.specs.Attempts.{parts_of}
 use Rattle.fab_world.specs.Workers.{Act, Attempt, Kept, aborts, begins, closed, gives, gives_up, request_of, resumes, sending, stays, takes, tid_of, to_all, wakes}
 use Rattle.fab_world.proofs.WorkerActs.{again, closed_each, resumed, silenced, taken}

@@ -5,11 +5,11 @@ use Rattle.fab_base.specs.declared.object.Tid.{Tid}
 use Rattle.fab_base.specs.declared.message.Items.{Items}
 use Rattle.fab_base.specs.declared.entry.Entry.{Entry}
 use Rattle.fab_base.specs.declared.entry.Entry.TheVariants as e
+use Rattle.fab_base.proofs.Lists.{all_split}
 use Rattle.fab_rights.specs.declared.rights.Rights.{Rights}
 use Rattle.fab_protocol.specs.Stores.{Prepared, Shelf, keeps}
 use Rattle.fab_protocol.specs.Shelves.{AreApart, CanKeep, IsApart, IsShelf}
 use Rattle.fab_protocol.specs.Versions.{is_tid}
-use Rattle.fab_protocol.proofs.Lists.{all_split}
 use Rattle.fab_protocol.proofs.ShelfKept.{shelf_keeps}
 use Rattle.fab_store.specs.Stock.{HasRoomFor, IsNew, IsStore, Stock}
 

@@ -6,9 +6,9 @@ use Rattle.std.proofs.lemmas.List.Elements.{filter-append}
 use Rattle.std.proofs.Math.Seq.{split_at}
 use Rattle.fab_base.specs.FlatMap.{FlatMap, is_before}
 use Rattle.fab_base.specs.FlatMap as flat
+use Rattle.fab_base.proofs.Lists.{all_filter, all_map}
 use Rattle.fab_protocol.specs.Tables.{ascends, placed}
 use Rattle.fab_protocol.specs.Versions.{Row, begun, name_of}
-use Rattle.fab_protocol.proofs.Lists.{all_filter, all_map}
 use Rattle.fab_protocol.proofs.ShelfKept.{Root, root_name, as_table}
 use Rattle.fab_protocol.proofs.TableLaws.{ascends_parts, placed_behind}
 

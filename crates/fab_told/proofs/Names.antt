@@ -4,6 +4,7 @@ use Rattle.std.specs.List.{AllByRecursion, flat_map, list_any, filter}
 use Rattle.std.specs.Str.{bytes_eq}
 use Rattle.std.proofs.lemmas.Bool.{eqb-true, false≢true, or_parts}
 use Rattle.std.proofs.lemmas.Slice.Eq.{bytes_eq-Decides}
+use Rattle.fab_base.proofs.Lists.{left_nil, right_nil}
 use Rattle.fab_tree.specs.declared.declaration.Node.{Node}
 use Rattle.fab_tree.specs.declared.resolved.Principal.{Principal}
 use Rattle.fab_tree.specs.declared.start.Start.{Start}
@@ -20,7 +21,6 @@ use Rattle.fab_language.specs.Types.{mistyped}
 use Rattle.fab_language.specs.Unknown.{unknown}
 use Rattle.fab_language.specs.Words.{has_number, node_text, text_or}
 use Rattle.fab_reports.specs.Showable.{IsNode}
-use Rattle.fab_named.proofs.Lists.{left_nil, right_nil}
 use Rattle.fab_named.proofs.Numbered.{IsAmong}
 
 -- ---- names that are declared once

@@ -1,3 +1,4 @@
 mod LimitExamples
 mod SiteExamples
 mod StatementExamples
+pub mod Within

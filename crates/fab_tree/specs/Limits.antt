@@ -2,7 +2,7 @@
 --
 -- What has a limit stands in one table, in the order in which a refusal names it. The limits on bytes and on open
 -- brackets come before these: they belong to reading a text (`Depth` and the program).
-use Rattle.std.specs.Prelude.{ℕ, Bool, true, false, nat_lt, max, List, [], ◌∷◌, ◌++◌, map, length, count_by, find, sum_by, Option, Some, None}
+use Rattle.std.specs.Prelude.{ℕ, ◌≤◌, Bool, true, false, nat_lt, max, List, [], ◌∷◌, ◌++◌, map, length, count_by, find, sum_by, Option, Some, None}
 use Rattle.std.specs.List.{flat_map}
 use Rattle.fab_base.specs.declared.limit.What.{What}
 use Rattle.fab_base.specs.declared.limit.What.TheVariants as w
@@ -90,6 +90,24 @@ count_of w.Posts x = length x.posts
 count_of w.Crashes x = length x.crashes
 count_of w.Events x = length x.schedule
 count_of w.Cache x = x.cache
+
+-- no count of a bundle passes its limit
+pub record IsWithin (x : Start) : Type 0 where
+  pub principals : length x.program.nodes ≤ limit_of w.Principals
+  pub nodes : count_by (λ n. is_node n.role) x.program.nodes ≤ limit_of w.Nodes
+  pub labels : length x.program.labels ≤ limit_of w.Labels
+  pub classes : length x.program.classes ≤ limit_of w.Classes
+  pub fields : greatest (map (λ c. length c.fields) x.program.classes) ≤ limit_of w.Fields
+  pub methods : length x.program.methods ≤ limit_of w.Methods
+  pub parameters : greatest (map (λ m. length m.parameters) x.program.methods) ≤ limit_of w.Parameters
+  pub locals : greatest (map (λ m. length (locals_of m)) x.program.methods) ≤ limit_of w.Locals
+  pub sites : length (site_places x.program) ≤ limit_of w.Sites
+  pub roots : length x.roots ≤ limit_of w.Roots
+  pub requests : sum_by (λ y. length y.requests) x.sessions ≤ limit_of w.Requests
+  pub posts : length x.posts ≤ limit_of w.Posts
+  pub crashes : length x.crashes ≤ limit_of w.Crashes
+  pub events : length x.schedule ≤ limit_of w.Events
+  pub cache : x.cache ≤ limit_of w.Cache
 
 -- the limits on a tree, in the order in which a refusal names them
 abbrev pub order : List What

@@ -1,6 +1,7 @@
 -- The first guard that isn't kept so far is the first of all.
-use Rattle.std.proofs.Common.{◌≡◌, ◌⊎◌, inl, inr, ℕ, zero, suc, ◌+◌, ◌<◌, ◌≤◌, Bool, true, false, nat_lt, if◌then◌else◌, List, [], ◌∷◌, ◌++◌, length, drop, get_or, slice_get, Option, Some, None, refl, sym, ap, ◌∙◌, subst, append_assoc, append-nil, drop-cons, add-one, true≢false, arith}
+use Rattle.std.proofs.Common.{◌≡◌, ◌⊎◌, inl, inr, ℕ, zero, suc, ◌+◌, ◌<◌, ◌≤◌, Bool, true, false, nat_lt, if◌then◌else◌, List, [], ◌∷◌, ◌++◌, length, drop, get_or, slice_get, Option, Some, None, refl, sym, ap, ◌∙◌, subst, append_assoc, append-nil, true≢false, arith}
 use Rattle.std.specs.List.{AllByRecursion, flat_map}
+use Rattle.fab_base.proofs.Lists.{front_at}
 use Rattle.fab_tree.specs.declared.resolved.Method.{Method}
 use Rattle.fab_tree.specs.declared.resolved.Resolved.{Resolved}
 use Rattle.fab_labelling.specs.Sites.{pcs_of}
@@ -29,10 +30,6 @@ inside : (ys : List Guard) (j : ℕ) (y : Guard) → slice_get ys j ≡ Some y �
 inside [] j y h = absurd (cc)
 inside (w ∷ ys) zero y h = omega arith
 inside (w ∷ ys) (suc j) y h = let l = inside ys j y h in omega (arith, l)
-
--- the first of what is left of a list, and the rest
-front_at : {A : Type 0} (xs : List A) (i : ℕ) (d : A) → i < length xs → drop i xs ≡ get_or xs i d ∷ drop (i + 1) xs
-front_at {A} xs i d within = drop-cons xs i d within ∙ ap (λ (j : ℕ). get_or xs i d ∷ drop j xs) (sym (add-one i))
 
 before : (m n : ℕ) → nat_lt m n ≡ true → m < n
 before m n h = grind arith

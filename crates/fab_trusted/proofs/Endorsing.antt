@@ -20,9 +20,9 @@ use Rattle.fab_labelling.specs.Readers.{label_at}
 use Rattle.fab_labelling.specs.declared.rule.LabelRule.TheVariants.{Write, Atomic}
 use Rattle.fab_erasure.specs.Agreement.{Downgrading, all_of, downgrade_step, downgrades_in, downgrades_in_right, downgrades_of, goes_into_view, in_view}
 use Rattle.fab_erasure.proofs.Views.{split_left, split_right}
-use Rattle.fab_shapes.proofs.Lists.{in_both}
 use Rattle.fab_views.proofs.Labels.{AreBelow, HasLabels, IsLabelledMethod, labels_in, labels_in_block, labels_step, named_by_right}
 use Rattle.std.specs.Prelude.{slice_get}
+use Rattle.fab_base.proofs.Lists.{all_split}
 use Rattle.fab_trusted.specs.Trusts.{IsTrustedBy}
 use Rattle.fab_downgrades.specs.declared.rows.Downgraded.{Downgraded}
 use Rattle.fab_downgrades.specs.Downgraded.{all_in, downgraded_by, downgraded_by_right, downgraded_in, downgraded_step, endorses as is_endorsed}
@@ -85,7 +85,7 @@ module _ (r : Resolved) (q : Downgrading → Bool) (never : (site a b : ℕ) (ps
         → Alike (all_of (map downgrades_in (bare ks))) (all_in (map downgraded_in (bare ks)))
     rows [] g pc failure h = refl
     rows (k ∷ ks) g pc failure h =
-        let t = in_both (λ l. l < length r.labels) (labels_in k.0) (labels_in_block (bare ks)) g in
+        let t = all_split (λ l. l < length r.labels) (labels_in k.0) (labels_in_block (bare ks)) g in
         both_alike (downgrades_in k.0) (downgraded_in k.0) (all_of (map downgrades_in (bare ks))) (all_in (map downgraded_in (bare ks)))
         (k.1.by t.0 pc failure (split_left _ (owes_of k.0 pc failure) (in_row (bare ks) pc failure) h))
         (rows ks t.1 pc failure (split_right _ (owes_of k.0 pc failure) (in_row (bare ks) pc failure) h))
@@ -104,7 +104,7 @@ module _ (r : Resolved) (q : Downgrading → Bool) (never : (site a b : ℕ) (ps
     layer (s.Call x es) = record { by = λ g pc failure h. refl }
     layer (s.If e a b) = record {
       by = λ g pc failure h.
-          let t = in_both (λ l. l < length r.labels) (labels_in_block (bare a)) (labels_in_block (bare b)) g in
+          let t = all_split (λ l. l < length r.labels) (labels_in_block (bare a)) (labels_in_block (bare b)) g in
           let p = ob.part classes m.locals e in
           let inside = under pc p.labels in
           let front = split_left _ (p.owes pc failure ++ in_row (bare a) inside failure) (in_row (bare b) inside failure) h in
@@ -120,7 +120,7 @@ module _ (r : Resolved) (q : Downgrading → Bool) (never : (site a b : ℕ) (ps
     }
     layer (s.Atomic x a b at) = record {
       by = λ g pc failure h.
-          let t = in_both (λ l. l < length r.labels) (labels_in_block (bare a)) (labels_in_block (bare b)) g.1 in
+          let t = all_split (λ l. l < length r.labels) (labels_in_block (bare a)) (labels_in_block (bare b)) g.1 in
           let inside = under pc (x.number ∷ []) in
           let begins = all_flow Atomic at pc x.number in
           let front = split_left _ (begins ++ in_row (bare a) inside (Some x.number)) (in_row (bare b) inside failure) h in
@@ -143,7 +143,7 @@ module _ (r : Resolved) (q : Downgrading → Bool) (never : (site a b : ℕ) (ps
         → Alike (flat_map downgrades_in xs) (flat_map downgraded_in xs)
     blocks [] g pc failure h = refl
     blocks (x ∷ xs) g pc failure h =
-        let t = in_both (λ l. l < length r.labels) (labels_in x) (labels_in_block xs) g in
+        let t = all_split (λ l. l < length r.labels) (labels_in x) (labels_in_block xs) g in
         let rest = ob.block_owes classes methods m.locals authority xs pc failure in
         both_alike (downgrades_in x) (downgraded_in x) (flat_map downgrades_in xs) (flat_map downgraded_in xs)
         ((statements x).by t.0 pc failure (split_left _ (owes_of x pc failure) rest h)) (blocks xs t.1 pc failure (split_right _ (owes_of x pc failure) rest h))

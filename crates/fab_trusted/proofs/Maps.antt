@@ -7,7 +7,7 @@ use Rattle.std.proofs.lemmas.List.Elements.{filter-append}
 use Rattle.fab_base.specs.declared.object.Oid.{Oid}
 use Rattle.fab_base.specs.declared.object.Object.{Object}
 use Rattle.fab_base.specs.FlatMap.{FlatMap, ascends, get, is_among, is_same, put_all}
-use Rattle.fab_map.proofs.Order.{one_name}
+use Rattle.fab_base.proofs.NameOrder.{one_name}
 use Rattle.fab_erasure.proofs.Views.{among_seen}
 use Rattle.fab_integrity.proofs.Maps.{ascends_filter, get_within, put_all_other, same_maps}
 use Rattle.fab_world.specs.Serial.{outside, within}

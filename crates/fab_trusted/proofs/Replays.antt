@@ -42,7 +42,7 @@ use Rattle.fab_trusted.proofs.Guarded.{below, kept_site, narrower}
 
 -- ---- what is trusted excludes the nodes
 
-written_bit : (o : Option ClassRights) (n : ℕ) → IsTrue (writes o n) → IsSomeAnd o (λ c. IsBitSet c.writers n)
+pub written_bit : (o : Option ClassRights) (n : ℕ) → IsTrue (writes o n) → IsSomeAnd o (λ c. IsBitSet c.writers n)
 written_bit None n h = absurd (true≢false (sym h))
 written_bit (Some c) n h = (has_bit_exact c.writers n).0 h
 

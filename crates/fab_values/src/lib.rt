@@ -3,4 +3,4 @@
 
 mod values;
 
-pub use values::{compares, holds, int_of, operate, truth};
+pub use values::{compares, default, holds, negated, operate, truth};

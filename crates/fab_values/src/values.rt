@@ -1,13 +1,14 @@
 //! What is computed from values alone.
 ghost use Rattle.std.specs.Prelude.{◌≡◌};
-ghost use Rattle.fab_language.specs.Meaning.{State, compares, equals, holds, int_of, operate, truth};
+ghost use Rattle.fab_language.specs.Meaning.{State, compares, default, equals, holds, int_of, negated, operate, truth};
 ghost use Rattle.fab_values.specs.Computed.{computed};
 
 use fab_base::{Value, java_add, java_div, java_mul, java_sub};
+use fab_tree::resolved::Sort;
 use fab_tree::{Comparison, Operator};
 
 /// The number that a value is; no other value is asked for one.
-pub fn int_of(value: Value) -> i32
+fn int_of(value: Value) -> i32
     ensures { result ≡ int_of value }
 {
     match value {
@@ -56,6 +57,23 @@ pub fn compares(comparison: Comparison, left: Value, right: Value) -> bool
         Comparison::LessEqual => int_of(left) <= int_of(right),
         Comparison::Greater => int_of(left) > int_of(right),
         Comparison::GreaterEqual => int_of(left) >= int_of(right),
+    }
+}
+
+/// The number with its sign changed.
+pub fn negated(value: Value) -> Value
+    ensures { result ≡ negated value }
+{
+    Value::Int(java_sub(0, int_of(value)))
+}
+
+/// What a local holds before it is assigned.
+pub fn default(sort: Sort) -> Value
+    ensures { result ≡ default sort }
+{
+    match sort {
+        Sort::Int => Value::Int(0),
+        Sort::Class(_) => Value::Null,
     }
 }
 

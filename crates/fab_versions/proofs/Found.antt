@@ -8,10 +8,10 @@ use Rattle.std.proofs.lemmas.List.Sorted.{searchable_from_sorted}
 use Rattle.fab_base.specs.declared.object.Oid.{Oid}
 use Rattle.fab_base.specs.FlatMap.{is_before, is_same}
 use Rattle.fab_base.proofs.Names.{same_self, same_flips}
+use Rattle.fab_base.proofs.NameOrder.{name_cmp, name_cmp_total, derived_cmp, derived_is, before_is, same_is, before_from_less, before_from_greater, differ, not_back, one_name}
 use Rattle.fab_protocol.specs.Tables.{row_of, placed, ascends}
-use Rattle.fab_protocol.proofs.TableLaws.{one_name, before_apart, before_not_back, row_here, row_past, parted, leads_all, placed_before, placed_behind, placed_over}
+use Rattle.fab_protocol.proofs.TableLaws.{row_here, row_past, parted, leads_all, placed_before, placed_behind, placed_over}
 use Rattle.fab_versions.specs.Places.{IsAt, IsGap}
-use Rattle.fab_versions.proofs.Order.{name_cmp, name_cmp_total, derived_cmp, derived_is, before_is, same_is, before_from_less, before_from_greater}
 
 module _ {R : Type 0} (name : R → Oid) where
   -- each row is before the next
@@ -25,7 +25,7 @@ module _ {R : Type 0} (name : R → Oid) where
   pub sorted_from_ascends : (rows : List R) → ascends name rows ≡ true → IsSortedBy (λ a b. is_lt (name_cmp (name a) (name b))) rows
   sorted_from_ascends rows h k d low lt =
       let next : is_before (name (get_or rows k d)) (name (get_or rows (k + 1) d)) ≡ true = rw add-one (adjacent rows h k d (omega arith)) in
-      sym (before_is (name (get_or rows (k + 1) d)) (name (get_or rows k d))) ∙ before_not_back (name (get_or rows k d)) (name (get_or rows (k + 1) d)) next
+      sym (before_is (name (get_or rows (k + 1) d)) (name (get_or rows k d))) ∙ not_back (name (get_or rows k d)) (name (get_or rows (k + 1) d)) next
 
   -- what a binary search by name answers
   pub searched : (rows : List R) → ascends name rows ≡ true → (o : Oid) (r : Result ℕ ℕ) → IsSearchInRange r (length rows) → IsBinarySearchResult (λ row. name_cmp (name row) o) rows r → record { found : IfOk r (IsAt name rows o); absent : IfErr r (IsGap name rows o) }
@@ -63,7 +63,7 @@ module _ {R : Type 0} (name : R → Oid) where
   row_at [] h o i at d = absurd (omega (arith, at.in_range))
   row_at (row ∷ rows) h o zero at d = row_here name row rows o (ap (λ n. is_same n o) (at.name_here row) ∙ same_self o)
   row_at (row ∷ rows) h o (suc i) at d =
-      row_past name row rows o (before_apart (name row) o (first_before row rows o i h at))
+      row_past name row rows o (differ (name row) o (first_before row rows o i h at))
       ∙ row_at rows (parted name row rows h).1 o i (at_tail row rows o i at) d
 
   pub placed_at : (rows : List R) → ascends name rows ≡ true → (o : Oid) (i : ℕ) → IsAt name rows o i → (r : R) → name r ≡ o → placed name r rows ≡ set rows i r
@@ -91,10 +91,10 @@ module _ {R : Type 0} (name : R → Oid) where
   pub row_in_gap : (rows : List R) (o : Oid) (i : ℕ) → IsGap name rows o i → row_of name rows o ≡ None
   row_in_gap [] o i gap = refl
   row_in_gap (row ∷ rows) o zero gap =
-      row_past name row rows o (same_flips (name row) o ∙ before_apart o (name row) (gap.behind 0 row (omega arith) (omega arith)))
+      row_past name row rows o (same_flips (name row) o ∙ differ o (name row) (gap.behind 0 row (omega arith) (omega arith)))
       ∙ row_in_gap rows o 0 (gap_front row rows o gap)
   row_in_gap (row ∷ rows) o (suc i) gap =
-      row_past name row rows o (before_apart (name row) o (gap.before 0 row (omega arith) (omega arith))) ∙ row_in_gap rows o i (gap_tail row rows o i gap)
+      row_past name row rows o (differ (name row) o (gap.before 0 row (omega arith) (omega arith))) ∙ row_in_gap rows o i (gap_tail row rows o i gap)
 
   pub placed_in_gap : (rows : List R) (o : Oid) (i : ℕ) → IsGap name rows o i → (r : R) → name r ≡ o → placed name r rows ≡ insert rows i r
   placed_in_gap [] o zero gap r e = refl

@@ -1,8 +1,9 @@
 -- In a bundle whose names are all declared each label that the program uses is.
-use Rattle.std.proofs.Common.{◌≡◌, ℕ, zero, suc, ◌<◌, true, false, cond, List, [], ◌∷◌, ◌++◌, map, length, option_map, Option, Some, None, refl, sym, ap, ◌∙◌, subst, arith}
+use Rattle.std.proofs.Common.{◌≡◌, ℕ, suc, ◌<◌, List, [], ◌∷◌, ◌++◌, map, length, option_map, Option, Some, None, refl, sym, ap, ◌∙◌, subst, arith}
 use Rattle.std.specs.Prelude.{slice_get}
 use Rattle.std.specs.List.{AllByRecursion, flat_map}
 use Rattle.std.proofs.lemmas.List.{length-map}
+use Rattle.fab_base.proofs.Lists.{left_nil, right_nil, each_nil, all_split, all_map, at_index}
 use Rattle.fab_tree.specs.declared.name.Name.{Name}
 use Rattle.fab_tree.specs.declared.declaration.Class.{Class}
 use Rattle.fab_tree.specs.declared.declaration.Field.{Field}
@@ -26,28 +27,16 @@ use Rattle.fab_language.specs.Arity.{miscounted}
 use Rattle.fab_language.specs.Types.{mistyped}
 use Rattle.fab_language.specs.Faults.{faults}
 use Rattle.fab_language.specs.Heads.{Locals, Head, Walk, in_row, walk_step, walk, heads_in, heads_of, result_heads}
-use Rattle.fab_language.specs.Names.{named, number_of, is_same_name, label_name}
-use Rattle.fab_language.specs.Unknown.{if_found, in_sort, in_label, in_local, in_expression, in_right, in_head, in_parameter, in_returns, in_principal, in_heading, in_class, in_method, in_delegation, in_label_text, in_root, in_session, in_post, in_crash, in_event, unknown}
+use Rattle.fab_language.specs.Names.{label_name}
+use Rattle.fab_language.specs.Unknown.{in_sort, in_label, in_local, in_expression, in_right, in_head, in_parameter, in_returns, in_principal, in_heading, in_class, in_method, in_delegation, in_label_text, in_root, in_session, in_post, in_crash, in_event, unknown}
 use Rattle.fab_language.specs.Uses.{label_use, local_use, local_number, field_number, method_use}
 use Rattle.fab_language.specs.MethodNumbers.{Numbered, in_turn, expression_of, expressions_of, right_of, statement_step, statement_of, block_of, numbered_local, returns_of, method_of, methods_of}
 use Rattle.fab_language.specs.Numbers.{label_of, class_of, resolved}
 use Rattle.fab_language.proofs.NumberedForms.{statement_numbers}
+use Rattle.fab_language.proofs.Named.{number_below}
 use Rattle.fab_labelling.specs.Obligations.{label_of_returns}
 use Rattle.fab_laws.proofs.Values.{all_joined, all_more}
-use Rattle.fab_shapes.proofs.Lists.{left_nil, right_nil, each_nil, in_both, at_index}
 use Rattle.fab_views.proofs.Labels.{named_by_right, labels_step, labels_in, labels_in_block, AreBelow, IsLabelledLocal, IsLabelledClass, IsLabelledMethod, HasLabels}
-
--- a name that is found has a number among them
-number_below : {A : Type 0} (name : A → Name) (items : List A) (x : Name) → if_found (named name items x) x ≡ [] → number_of name items x < length items
-number_below name [] x e = absurd (omega (arith, ap length e))
-number_below name (y ∷ ys) x e =
-    (elim (is_same_name (name y) x) as (λ v. if_found (cond v (Some y) (named name ys x)) x ≡ [] → cond v zero (suc (number_of name ys x)) < suc (length ys))
-    [ true ↦ λ f. omega arith | false ↦ λ f. let below = number_below name ys x f in omega arith ]) e
-
--- what is made of each has what each has
-all_made : {A B : Type 0} (P : B → Type 0) (g : A → B) (xs : List A) → AllByRecursion (λ x. P (g x)) xs → AllByRecursion P (map g xs)
-all_made P g [] h = tt
-all_made P g (x ∷ xs) h = (h.0, all_made P g xs h.1)
 
 module _ (s : Start) where
   abbrev many : ℕ
@@ -103,7 +92,7 @@ module _ (s : Start) where
       block_layer : (ks : List S) → BlockNames (walked ks) (declares ks) (made ks)
       block_layer [] known k r = (tt, tt)
       block_layer (x ∷ xs) known k r =
-          let hs = in_both (λ h. in_head s h.0 h.1 ≡ []) (walk (statement x) known).heads (walked xs (walk (statement x) known).behind).heads r in
+          let hs = all_split (λ h. in_head s h.0 h.1 ≡ []) (walk (statement x) known).heads (walked xs (walk (statement x) known).behind).heads r in
           let next = (statement_of s locals (statement x) k).1 in
           let here = of_statement x known k hs.0 in
           let rest = block_layer xs (walk (statement x) known).behind next hs.1 in (
@@ -115,7 +104,7 @@ module _ (s : Start) where
       two_layer : (known : Locals) (xs ys : List S) (k : ℕ) → AreNamed ((walked xs known).heads ++ (walked ys known).heads)
           → AreLabelled (declares xs ++ declares ys) × AreBelow many (labels_in_block (made xs k).0 ++ labels_in_block (made ys (made xs k).1).0)
       two_layer known xs ys k r =
-          let hs = in_both (λ h. in_head s h.0 h.1 ≡ []) (walked xs known).heads (walked ys known).heads r in
+          let hs = all_split (λ h. in_head s h.0 h.1 ≡ []) (walked xs known).heads (walked ys known).heads r in
           let a = block_layer xs known k hs.0 in
           let b = block_layer ys known (made xs k).1 hs.1 in (
             all_joined (λ p. in_label s p.label ≡ []) (declares xs) (declares ys) a.0 b.0,
@@ -149,7 +138,7 @@ module _ (s : Start) where
       statement_layer (o.If e xs None) known k r =
           let c = expression_of s locals e k in
           let b = made xs c.1 in
-          let hs = in_both (λ h. in_head s h.0 h.1 ≡ []) (walked xs known).heads [] r.1 in
+          let hs = all_split (λ h. in_head s h.0 h.1 ≡ []) (walked xs known).heads [] r.1 in
           let t = block_layer xs known c.1 hs.0 in
           (t.0, below_by (ns.If c.0 b.0 []) (nso.If c.0 b.0 []) (sym (ns.rolls-If c.0 b.0 [])) (all_joined (λ l. l < many) (labels_in_block b.0) [] t.1 tt))
       statement_layer (o.If e xs (Some ys)) known k r =
@@ -184,7 +173,7 @@ module _ (s : Start) where
     block_names : (xs : List Statement) → BlockNames (heads_in xs) (flat_map declared_in xs) (block_of s locals xs)
     block_names [] known k r = (tt, tt)
     block_names (x ∷ xs) known k r =
-        let hs = in_both (λ h. in_head s h.0 h.1 ≡ []) (walk x known).heads (heads_in xs (walk x known).behind).heads r in
+        let hs = all_split (λ h. in_head s h.0 h.1 ≡ []) (walk x known).heads (heads_in xs (walk x known).behind).heads r in
         let next = (statement_of s locals x k).1 in
         let here = statement_names x known k hs.0 in
         let rest = block_names xs (walk x known).behind next hs.1 in (
@@ -207,11 +196,11 @@ module _ (s : Start) where
       let three = left_nil (ps ++ rs ++ in_label s m.begin) (flat_map (in_principal s) m.authority) heading in
       let two = left_nil (ps ++ rs) (in_label s m.begin) three in
       let body = heads_in m.body m.parameters in
-      let heads = in_both (λ h. in_head s h.0 h.1 ≡ []) body.heads (result_heads m.result body.behind) (each_nil (λ (h : Locals × Head). in_head s h.0 h.1) (heads_of m) (right_nil (in_heading s m) in_heads e)) in
+      let heads = all_split (λ h. in_head s h.0 h.1 ≡ []) body.heads (result_heads m.result body.behind) (each_nil (λ (h : Locals × Head). in_head s h.0 h.1) (heads_of m) (right_nil (in_heading s m) in_heads e)) in
       let names = block_names (locals_of m) m.body m.parameters k heads.0 in
       let parameters = all_more (λ p. in_parameter s p ≡ []) (λ p. in_label s p.label ≡ []) m.parameters (λ p h. right_nil (in_sort s p.sort) (in_label s p.label) h) (each_nil (in_parameter s) m.parameters (left_nil ps rs two)) in
       record {
-        locals = all_made (IsLabelledLocal many) (numbered_local s) (locals_of m)
+        locals = all_map (IsLabelledLocal many) (numbered_local s) (locals_of m)
             (all_more (λ p. in_label s p.label ≡ []) (λ p. (label_use s p.label).number < many) (locals_of m) (λ p h. label_below p.label h)
             (all_joined (λ p. in_label s p.label ≡ []) m.parameters (flat_map declared_in m.body) parameters names.0));
         returns = returns_below m.returns (right_nil ps rs two);
@@ -262,7 +251,7 @@ pub labels_declared : (s : Start) → faults s ≡ [] → HasLabels (resolved s)
 labels_declared s e =
     let names = unknowns s (no_unknowns s e) in
     record {
-      classes = all_made (IsLabelledClass (many s)) (class_of s) s.program.classes
+      classes = all_map (IsLabelledClass (many s)) (class_of s) s.program.classes
           (all_more (λ c. in_class s c ≡ []) (λ c. IsLabelledClass (many s) (class_of s c)) s.program.classes (class_labelled s) (each_nil (in_class s) s.program.classes names.classes));
       methods = methods_labelled s s.program.methods 0 (each_nil (in_method s) s.program.methods names.methods);
     }

@@ -2,6 +2,7 @@
 use Rattle.std.proofs.Common.{◌≡◌, ℕ, ◌<◌, ◌==◌, Bool, true, false, if◌then◌else◌, List, [], ◌∷◌, ◌++◌, map, length, Option, Some, None, refl, subst}
 use Rattle.std.specs.Prelude.{slice_get}
 use Rattle.std.specs.List.{AllByRecursion, flat_map, list_any, range_with_len}
+use Rattle.fab_base.proofs.Lists.{all_split, at_index}
 use Rattle.fab_tree.specs.declared.expression.Operator.{Operator}
 use Rattle.fab_tree.specs.declared.expression.Operator.TheVariants as o
 use Rattle.fab_tree.specs.declared.statement.Downgrade.{Downgrade}
@@ -31,7 +32,7 @@ use Rattle.fab_labelling.specs.Obligations.{Claim, flows, conf, nowhere, declass
 use Rattle.fab_labelling.specs.Obligations.{form_step, part, given, all_given, parameter_labels, failing, for_each, calling, call_owes, making, downgrading, right_owes, returned, right_labels, writing, Owes, in_order, statement_step, statement_owes, block_owes, return_owes, failure_of, authority_of, method_owes, root_owes, request_owes, session_owes, owed}
 use Rattle.fab_labelling.proofs.Forms.{form_part, operand_part}
 use Rattle.fab_laws.proofs.Values.{all_joined, all_map}
-use Rattle.fab_shapes.proofs.Lists.{in_both, of_all, at_index}
+use Rattle.fab_shapes.proofs.Lists.{of_all}
 use Rattle.fab_views.proofs.Labels.{AreBelow, named_by_right, labels_step, labels_in, labels_in_block, IsLabelledLocal, IsLabelledClass, IsLabelledMethod, HasLabels}
 
 -- what flows, if it says that something does, is one of so many labels
@@ -287,7 +288,7 @@ module _ (n : ℕ) where
       orders : (ks : List Known) → Owing (labels_in_block (block_of ks)) (in_row (block_of ks))
       orders [] g pc failure h = tt
       orders (k ∷ ks) g pc failure h =
-          let t = in_both (λ l. l < n) (labels_in k.0) (labels_in_block (block_of ks)) g in
+          let t = all_split (λ l. l < n) (labels_in k.0) (labels_in_block (block_of ks)) g in
           both (owes_of k.0 pc failure) (in_row (block_of ks) pc failure) (k.1 t.0 pc failure h) (orders ks t.1 pc failure h)
 
       abbrev pieces : s.Statement-F Known → s.Statement-F Statement
@@ -309,7 +310,7 @@ module _ (n : ℕ) where
       layer (s.Call x es) g pc failure h = call_from pc failure x es h
       layer (s.If e a b) g pc failure h =
           let p = part classes locals e in
-          let t = in_both (λ l. l < n) (labels_in_block (block_of a)) (labels_in_block (block_of b)) g in
+          let t = all_split (λ l. l < n) (labels_in_block (block_of a)) (labels_in_block (block_of b)) g in
           let inside = under pc p.labels in
           let k = under_below pc p.labels h (expressions e).labels in
           both (p.owes pc failure ++ in_row (block_of a) inside failure) (in_row (block_of b) inside failure)
@@ -320,7 +321,7 @@ module _ (n : ℕ) where
           let inside = under pc p.labels in
           both (p.owes pc failure) (in_row (block_of a) inside failure) ((expressions e).owes pc failure h) (orders a g inside failure (under_below pc p.labels h (expressions e).labels))
       layer (s.Atomic x a b at) g pc failure h =
-          let t = in_both (λ l. l < n) (labels_in_block (block_of a)) (labels_in_block (block_of b)) g.1 in
+          let t = all_split (λ l. l < n) (labels_in_block (block_of a)) (labels_in_block (block_of b)) g.1 in
           let inside = under pc (x.number ∷ []) in
           let k = under_below pc (x.number ∷ []) h (g.0, tt) in
           let begins = all_flow Atomic at pc x.number in
@@ -340,7 +341,7 @@ module _ (n : ℕ) where
       blocks : (xs : List Statement) → Owing (labels_in_block xs) (block_owes classes methods locals authority xs)
       blocks [] g pc failure h = tt
       blocks (x ∷ xs) g pc failure h =
-          let t = in_both (λ l. l < n) (labels_in x) (labels_in_block xs) g in
+          let t = all_split (λ l. l < n) (labels_in x) (labels_in_block xs) g in
           both (owes_of x pc failure) (block_owes classes methods locals authority xs pc failure) (statements x t.0 pc failure h) (blocks xs t.1 pc failure h)
 
       return_from : (returns : Option Returns) (x : Option Return) (pc : List ℕ) (failure : Option ℕ) → Below pc → AreFrom (return_owes classes methods locals authority returns x pc failure)

@@ -12,7 +12,7 @@ use Rattle.fab_base.specs.declared.message.Answer.{Answer}
 use Rattle.fab_base.specs.declared.message.Answer.TheVariants as answers
 use Rattle.fab_base.specs.declared.message.Message.{Message}
 use Rattle.fab_base.specs.declared.message.Message.TheVariants as messages
-use Rattle.fab_base.specs.FieldSpelling.{four_bytes, tid_bytes, IsTid, oid_bytes, IsOid, object_bytes, IsObject, items_bytes, AreItems, IsWrite, IsCreate}
+use Rattle.fab_base.specs.FieldSpelling.{four_bytes, tid_bytes, IsTid, oid_bytes, IsOid, object_bytes, IsObject, items_bytes, AreItems, IsWrite, IsCreate, sent_version}
 use Rattle.fab_base.specs.MessageSpelling.{why_bytes, answer_bytes, IsAnswer, kind_and_body, message_bytes, IsBody, IsMessage, KeepsCounts}
 use Rattle.fab_wire.specs.Reading.{byte_at, why_at, answer_by, answer_at, body_by, message_at, chosen}
 use Rattle.fab_wire.proofs.ReaderLaws.{Reads, made_reads, chosen_reads, both_reads, respelled, nothing_reads}
@@ -349,13 +349,13 @@ kind_reads version =
     respelled kind_and_body (IsBody version) (chosen_reads body_by kind_of body_bytes (IsBody version) (byte_reads 1 9 (omega arith) (omega arith)) (body_by_reads version))
     (λ m fm. body_parts m) (λ m h. h.1) (λ m h. (kind_within m, h))
 
--- the version is 1
-pub message_reads : Reads message_at (message_bytes 1) (IsMessage 1)
+-- the version is the one that is sent
+pub message_reads : Reads message_at (message_bytes sent_version) (IsMessage sent_version)
 unfolding message_at
 message_reads =
-    respelled (message_bytes 1) (IsMessage 1)
-    (chosen_reads (λ version. chosen (byte_at 1 9) body_by) (λ m. 1) kind_and_body (IsBody 1) (byte_reads 1 1 (omega arith) (omega arith))
-    (λ a fa. respelled kind_and_body (λ m. IsBody 1 m × (1 ≡ a)) (kind_reads 1) (λ m fm. refl) (λ m h. (h, omega (arith, fa.0, fa.1))) (λ m h. h.0)))
+    respelled (message_bytes sent_version) (IsMessage sent_version)
+    (chosen_reads (λ version. chosen (byte_at 1 9) body_by) (λ m. sent_version) kind_and_body (IsBody sent_version) (byte_reads sent_version sent_version (omega arith) (omega arith))
+    (λ a fa. respelled kind_and_body (λ m. IsBody sent_version m × (sent_version ≡ a)) (kind_reads 1) (λ m fm. refl) (λ m h. (h, omega (arith, fa.0, fa.1))) (λ m h. h.0)))
     (λ m fm. refl) (λ m h. record { known = refl; body = h.1 }) (λ m h. ((omega arith, omega arith), h.body))
 
 -- what has a spelling keeps the counts

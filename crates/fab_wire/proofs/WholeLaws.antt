@@ -6,25 +6,26 @@ use Rattle.std.proofs.Math.Seq.{take-append-add, take-append_seam}
 use Rattle.fab_base.specs.declared.message.Message.{Message}
 use Rattle.std.specs.Result.{result_ok}
 use Rattle.fab_base.specs.MessageSpelling.{message_bytes, spelled, IsMessage, Spells, BeginsSpelling, IsLongestFront, byte_limit, IsReadAs, IsBadPlace}
+use Rattle.fab_base.specs.FieldSpelling.{sent_version}
 use Rattle.fab_wire.specs.Reading.{message_at, all_of, are_bytes, read_message}
 use Rattle.fab_wire.proofs.ReaderLaws.{IsBytes, IsBytes-nil, IsBytes-cons, Stops, bind_ok, bind_err, one_reading}
 use Rattle.fab_wire.proofs.MessageLaws.{message_reads}
 
 -- there is one version
-pub at_one : (bytes : List ℕ) (m : Message) → Spells bytes m → IsMessage 1 m × (bytes ≡ message_bytes 1 m)
+pub at_one : (bytes : List ℕ) (m : Message) → Spells bytes m → IsMessage sent_version m × (bytes ≡ message_bytes sent_version m)
 at_one bytes m s = subst (λ (v : ℕ). IsMessage v m × (bytes ≡ message_bytes v m)) s.1.known (s.1, s.2)
 
 pub one_message : (bytes : List ℕ) (m n : Message) → Spells bytes m → Spells bytes n → m ≡ n
 one_message bytes m n s t =
     let a = at_one bytes m s in
     let b = at_one bytes n t in
-    (one_reading message_reads m n [] [] a.0 b.0 (append-nil (message_bytes 1 m) ∙ sym a.1 ∙ b.1 ∙ sym (append-nil (message_bytes 1 n)))).0
+    (one_reading message_reads m n [] [] a.0 b.0 (append-nil (message_bytes sent_version m) ∙ sym a.1 ∙ b.1 ∙ sym (append-nil (message_bytes sent_version n)))).0
 
 pub nothing_follows : (bytes more : List ℕ) (m n : Message) → Spells bytes m → Spells (bytes ++ more) n → more ≡ []
 nothing_follows bytes more m n s t =
     let a = at_one bytes m s in
     let b = at_one (bytes ++ more) n t in
-    (one_reading message_reads m n more [] a.0 b.0 (ap (λ (x : List ℕ). x ++ more) (sym a.1) ∙ b.1 ∙ sym (append-nil (message_bytes 1 n)))).1
+    (one_reading message_reads m n more [] a.0 b.0 (ap (λ (x : List ℕ). x ++ more) (sym a.1) ∙ b.1 ∙ sym (append-nil (message_bytes sent_version n)))).1
 
 -- ---- reading all
 
@@ -43,14 +44,14 @@ whole_found bytes m isb e =
     let g = ended_ok (eqb (length p.0.1) 0) (length p.0.1) p.0.0 m p.2 in
     let f = message_reads.found bytes p.0.0 p.0.1 isb p.1 in
     let nothing : p.0.1 ≡ [] = nil_from_length p.0.1 (eqb-true _ _ g.0) in
-    let whole : bytes ≡ message_bytes 1 p.0.0 = f.0 ∙ ap (λ (r : List ℕ). message_bytes 1 p.0.0 ++ r) nothing ∙ append-nil (message_bytes 1 p.0.0) in
-    subst (λ (x : Message). Spells bytes x) g.1 (1, f.1, whole)
+    let whole : bytes ≡ message_bytes sent_version p.0.0 = f.0 ∙ ap (λ (r : List ℕ). message_bytes sent_version p.0.0 ++ r) nothing ∙ append-nil (message_bytes sent_version p.0.0) in
+    subst (λ (x : Message). Spells bytes x) g.1 (sent_version, f.1, whole)
 
 pub whole_again : (bytes : List ℕ) (m : Message) → Spells bytes m → all_of bytes ≡ Ok m
 unfolding all_of
 whole_again bytes m s =
     let a = at_one bytes m s in
-    let one : message_at bytes ≡ Ok (m, []) = ap message_at (a.1 ∙ sym (append-nil (message_bytes 1 m))) ∙ message_reads.again m [] a.0 in
+    let one : message_at bytes ≡ Ok (m, []) = ap message_at (a.1 ∙ sym (append-nil (message_bytes sent_version m))) ∙ message_reads.again m [] a.0 in
     rw one refl
 
 -- ---- the place
@@ -76,26 +77,26 @@ longest_front bytes front back cut begins bad = record {
       ];
 }
 
-stopped : (bytes : List ℕ) (left : ℕ) → Stops (message_bytes 1) (IsMessage 1) bytes left → (left ≤ length bytes) × IsLongestFront bytes (length bytes - left)
+stopped : (bytes : List ℕ) (left : ℕ) → Stops (message_bytes sent_version) (IsMessage sent_version) bytes left → (left ≤ length bytes) × IsLongestFront bytes (length bytes - left)
 stopped bytes left s =
     let len = length-append s.front s.back in
     let all : length bytes ≡ length s.front + left = ap length s.cut ∙ len ∙ ap (λ (n : ℕ). length s.front + n) s.left_is in
     let at : length s.front ≡ length bytes - left = omega arith in
     let longest : IsLongestFront bytes (length s.front) =
-    longest_front bytes s.front s.back s.cut (s.more, s.next, (1, s.next_fits, sym s.begins))
+    longest_front bytes s.front s.back s.cut (s.more, s.next, (sent_version, s.next_fits, sym s.begins))
     (λ b rest tail eb h.
     let a = at_one ((s.front ++ (b ∷ tail)) ++ h.0) h.1 h.2 in
-    s.bad b rest (tail ++ h.0) eb h.1 [] a.0 (append-nil (message_bytes 1 h.1) ∙ sym a.1 ∙ append_assoc s.front (b ∷ tail) h.0)) in
+    s.bad b rest (tail ++ h.0) eb h.1 [] a.0 (append-nil (message_bytes sent_version h.1) ∙ sym a.1 ∙ append_assoc s.front (b ∷ tail) h.0)) in
     (omega arith, subst (λ (n : ℕ). IsLongestFront bytes n) at longest)
 
-followed : (bytes : List ℕ) (m : Message) (rest : List ℕ) → bytes ≡ message_bytes 1 m ++ rest → IsMessage 1 m → (length rest ≤ length bytes) × IsLongestFront bytes (length bytes - length rest)
+followed : (bytes : List ℕ) (m : Message) (rest : List ℕ) → bytes ≡ message_bytes sent_version m ++ rest → IsMessage sent_version m → (length rest ≤ length bytes) × IsLongestFront bytes (length bytes - length rest)
 followed bytes m rest cut fits =
-    let all : length bytes ≡ length (message_bytes 1 m) + length rest = ap length cut ∙ length-append (message_bytes 1 m) rest in
-    let at : length (message_bytes 1 m) ≡ length bytes - length rest = omega arith in
-    let longest : IsLongestFront bytes (length (message_bytes 1 m)) =
-    longest_front bytes (message_bytes 1 m) rest cut ([], m, (1, fits, append-nil (message_bytes 1 m)))
+    let all : length bytes ≡ length (message_bytes sent_version m) + length rest = ap length cut ∙ length-append (message_bytes sent_version m) rest in
+    let at : length (message_bytes sent_version m) ≡ length bytes - length rest = omega arith in
+    let longest : IsLongestFront bytes (length (message_bytes sent_version m)) =
+    longest_front bytes (message_bytes sent_version m) rest cut ([], m, (sent_version, fits, append-nil (message_bytes sent_version m)))
     (λ b others tail eb h.
-    let e = nothing_follows (message_bytes 1 m) ((b ∷ tail) ++ h.0) m h.1 (1, fits, refl) (h.2.0, h.2.1, sym (append_assoc (message_bytes 1 m) (b ∷ tail) h.0) ∙ h.2.2) in
+    let e = nothing_follows (message_bytes sent_version m) ((b ∷ tail) ++ h.0) m h.1 (sent_version, fits, refl) (h.2.0, h.2.1, sym (append_assoc (message_bytes sent_version m) (b ∷ tail) h.0) ∙ h.2.2) in
     absurd cc) in
     (omega arith, subst (λ (n : ℕ). IsLongestFront bytes n) at longest)
 
@@ -144,19 +145,19 @@ guarded true true (Err k) m e = absurd cc
 guarded true false r m e = absurd cc
 guarded false b r m e = absurd cc
 
-pub read_found : (bytes : List ℕ) (m : Message) → read_message bytes ≡ Some m → (length bytes ≤ byte_limit) × IsMessage 1 m × (bytes ≡ spelled m)
+pub read_found : (bytes : List ℕ) (m : Message) → read_message bytes ≡ Some m → (length bytes ≤ byte_limit) × IsMessage sent_version m × (bytes ≡ spelled m)
 unfolding read_message
 read_found bytes m e =
     let g = guarded (leb (length bytes) byte_limit) (are_bytes bytes) (all_of bytes) m e in
     let s = at_one bytes m (whole_found bytes m (are_all bytes g.1) g.2) in
     (leb-true (length bytes) byte_limit g.0, s.0, s.1)
 
-pub read_again : (bytes : List ℕ) (m : Message) → (length bytes ≤ byte_limit) × IsMessage 1 m × (bytes ≡ spelled m) → read_message bytes ≡ Some m
+pub read_again : (bytes : List ℕ) (m : Message) → (length bytes ≤ byte_limit) × IsMessage sent_version m × (bytes ≡ spelled m) → read_message bytes ≡ Some m
 unfolding read_message
 read_again bytes m h =
     let short : leb (length bytes) byte_limit ≡ true = le-leb (length bytes) byte_limit h.0 in
     let every : are_bytes bytes ≡ true = all_are bytes (subst IsBytes (sym h.2) (message_reads.bytes m h.1)) in
-    let whole : all_of bytes ≡ Ok m = whole_again bytes m (1, h.1, h.2) in
+    let whole : all_of bytes ≡ Ok m = whole_again bytes m (sent_version, h.1, h.2) in
     rw (short, every, whole) refl
 
 -- what is read, and what isn't
@@ -173,4 +174,4 @@ pub is_unread : (bytes : List ℕ) → ((m : Message) → IsReadAs bytes m → �
 is_unread bytes h =
     none_of (read_message bytes) (λ m e.
     let g = read_found bytes m e in
-    h m (record { short = g.0; spelled = (1, g.1, g.2) }))
+    h m (record { short = g.0; spelled = (sent_version, g.1, g.2) }))

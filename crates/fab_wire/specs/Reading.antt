@@ -16,6 +16,7 @@ use Rattle.fab_base.specs.declared.message.Answer.{Answer}
 use Rattle.fab_base.specs.declared.message.Answer.TheVariants as answers
 use Rattle.fab_base.specs.declared.message.Message.{Message}
 use Rattle.fab_base.specs.declared.message.Message.TheVariants as messages
+use Rattle.fab_base.specs.FieldSpelling.{sent_version}
 use Rattle.fab_base.specs.MessageSpelling.{byte_limit}
 use Rattle.fab_wire.specs.declared.stop.Stop.{Stop}
 use Rattle.fab_wire.specs.declared.stop.Stop.TheVariants as stops
@@ -141,7 +142,7 @@ body_by kind =
     else made (λ t. messages.Inquire t) tid_at
 
 unfoldable pub message_at : Reader Message
-message_at = chosen (byte_at 1 1) (λ version. chosen (byte_at 1 9) body_by)
+message_at = chosen (byte_at sent_version sent_version) (λ version. chosen (byte_at 1 9) body_by)
 
 -- all of the bytes
 unfoldable pub all_of : List ℕ → Result Message ℕ

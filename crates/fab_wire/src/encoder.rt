@@ -1,11 +1,12 @@
 //! Messages, written.
 
 ghost use Rattle.std.specs.Prelude.{◌≡◌, ◌++◌, ◌∷◌, OnOk, IfOk};
-ghost use Rattle.fab_base.specs.FieldSpelling.{IsOid, IsTid, oid_bytes, tid_bytes};
+ghost use Rattle.fab_base.specs.FieldSpelling.{IsOid, IsTid, oid_bytes, tid_bytes, sent_version};
 ghost use Rattle.fab_base.specs.MessageSpelling.{IsAnswer, IsBody, IsMessage, KeepsCounts};
 ghost use Rattle.fab_base.specs.MessageSpelling.{answer_bytes, kind_and_body, message_bytes, why_bytes};
 
 use crate::list_writing::{put_items, put_object};
+use crate::messages::SENT_VERSION;
 use crate::writing::{put_oid, put_tid, put_u8, put_u32};
 use fab_base::{Answer, Message, NoMemory, Oid, Seq, Tid, Why};
 use std::alloc::Global;
@@ -68,7 +69,7 @@ fn put_answer(out: &mut Seq<u8>, answer: Answer) -> Result<(), NoMemory>
 fn put_body(out: &mut Seq<u8>, message: &Message) -> Result<(), NoMemory>
     requires { KeepsCounts message.now }
     ensures bytes { OnOk result (out.new ≡ out.old ++ kind_and_body message.now) }
-    ensures fits { OnOk result (IsBody 1 message.now) }
+    ensures fits { OnOk result (IsBody sent_version message.now) }
 {
     match message {
         Message::Fetch { tid, oid } => put_names(out, 1, *tid, *oid)?,
@@ -108,13 +109,13 @@ fn put_body(out: &mut Seq<u8>, message: &Message) -> Result<(), NoMemory>
 /// The spelling of a message whose counts are in range.
 pub fn encode(alloc: Global, message: &Message) -> Result<Seq<u8>, NoMemory>
     requires { KeepsCounts message.now }
-    // The bytes are the spelling in version 1.
-    ensures bytes { IfOk result (λ bytes. bytes ≡ message_bytes 1 message.now) }
+    // The bytes are the spelling that is sent.
+    ensures bytes { IfOk result (λ bytes. bytes ≡ message_bytes sent_version message.now) }
     // The message has one.
-    ensures fits { OnOk result (IsMessage 1 message.now) }
+    ensures fits { OnOk result (IsMessage sent_version message.now) }
 {
     let mut out = Seq::new(alloc);
-    put_u8(&mut out, 1)?;
+    put_u8(&mut out, SENT_VERSION)?;
     put_body(&mut out, message)?;
     Ok(out)
 }

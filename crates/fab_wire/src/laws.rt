@@ -5,7 +5,7 @@ ghost use Rattle.fab_base.specs.declared.object.Tid.{Tid};
 ghost use Rattle.fab_base.specs.declared.message.Items.{Items};
 ghost use Rattle.fab_base.specs.declared.message.Message.{Message};
 ghost use Rattle.fab_base.specs.declared.message.Message.TheVariants.{Prepare};
-ghost use Rattle.fab_base.specs.FieldSpelling.{AreHonest};
+ghost use Rattle.fab_base.specs.FieldSpelling.{AreHonest, sent_version};
 ghost use Rattle.fab_base.specs.MessageSpelling.{IsMessage, IsReadAs, KeepsCounts, Spells, byte_limit, message_bytes, spelled};
 ghost use Rattle.fab_wire.specs.Reading.{read_message};
 
@@ -37,7 +37,7 @@ pub fn spelled_messages_can_be_encoded()
 /// numbers and counts are in range.
 pub fn what_is_read_is_spelled()
     ensures { (bytes : List ℕ) (m : Message)
-        → (read_message bytes ≡ Some m) ↔ ((length bytes ≤ byte_limit) × IsMessage 1 m × (bytes ≡ spelled m)) }
+        → (read_message bytes ≡ Some m) ↔ ((length bytes ≤ byte_limit) × IsMessage sent_version m × (bytes ≡ spelled m)) }
 {}
 
 /// What an honest worker asks a store to prepare is far within the limit on bytes.

@@ -2,7 +2,7 @@
 
 ghost use Rattle.std.specs.Prelude.{◌≡◌, ◌≤◌, ◌++◌, OnOk, length};
 ghost use Rattle.std.specs.List.{All, flat_map};
-ghost use Rattle.fab_base.specs.FieldSpelling.{AreItems, IsCreate, IsObject, IsRead, IsValue, IsWrite, KeepsItems};
+ghost use Rattle.fab_base.specs.FieldSpelling.{AreItems, IsCreate, IsObject, IsRead, IsValue, IsWrite, KeepsItems, sent_version};
 ghost use Rattle.fab_base.specs.FieldSpelling.{create_bytes, items_bytes, object_bytes, read_bytes, value_bytes, write_bytes};
 
 use crate::writing::{put_oid, put_u8, put_u16, put_u32, put_value};
@@ -10,7 +10,7 @@ use fab_base::{Items, NoMemory, Object, Oid, Seq, Value};
 
 fn put_values(out: &mut Seq<u8>, values: &[Value]) -> Result<(), NoMemory>
     ensures bytes { OnOk result (out.new ≡ out.old ++ flat_map value_bytes values.now) }
-    ensures fits { OnOk result (All (IsValue 1) values.now) }
+    ensures fits { OnOk result (All (IsValue sent_version) values.now) }
 {
     for value in values {
         put_value(out, *value)?;
@@ -22,7 +22,7 @@ fn put_values(out: &mut Seq<u8>, values: &[Value]) -> Result<(), NoMemory>
 pub fn put_object(out: &mut Seq<u8>, object: &Object) -> Result<(), NoMemory>
     requires { length object.now.fields ≤ 16 }
     ensures bytes { OnOk result (out.new ≡ out.old ++ object_bytes object.now) }
-    ensures fits { OnOk result (IsObject 1 object.now) }
+    ensures fits { OnOk result (IsObject sent_version object.now) }
 {
     put_u16(out, object.class)?;
     put_u8(out, object.fields.len() as u8)?;
@@ -42,7 +42,7 @@ fn put_read(out: &mut Seq<u8>, read: &(Oid, u32)) -> Result<(), NoMemory>
 fn put_write(out: &mut Seq<u8>, write: &(Oid, u32, Object)) -> Result<(), NoMemory>
     requires { length write.now.2.fields ≤ 16 }
     ensures bytes { OnOk result (out.new ≡ out.old ++ write_bytes write.now) }
-    ensures fits { OnOk result (IsWrite 1 write.now) }
+    ensures fits { OnOk result (IsWrite sent_version write.now) }
 {
     put_oid(out, write.0)?;
     put_u32(out, write.1)?;
@@ -53,7 +53,7 @@ fn put_write(out: &mut Seq<u8>, write: &(Oid, u32, Object)) -> Result<(), NoMemo
 fn put_create(out: &mut Seq<u8>, create: &(Oid, Object)) -> Result<(), NoMemory>
     requires { length create.now.1.fields ≤ 16 }
     ensures bytes { OnOk result (out.new ≡ out.old ++ create_bytes create.now) }
-    ensures fits { OnOk result (IsCreate 1 create.now) }
+    ensures fits { OnOk result (IsCreate sent_version create.now) }
 {
     put_oid(out, create.0)?;
     put_object(out, &create.1)?;
@@ -73,7 +73,7 @@ fn put_reads(out: &mut Seq<u8>, reads: &[(Oid, u32)]) -> Result<(), NoMemory>
 fn put_writes(out: &mut Seq<u8>, writes: &[(Oid, u32, Object)]) -> Result<(), NoMemory>
     requires { All (λ w. length w.2.fields ≤ 16) writes.now }
     ensures bytes { OnOk result (out.new ≡ out.old ++ flat_map write_bytes writes.now) }
-    ensures fits { OnOk result (All (IsWrite 1) writes.now) }
+    ensures fits { OnOk result (All (IsWrite sent_version) writes.now) }
 {
     for write in writes {
         put_write(out, write)?;
@@ -84,7 +84,7 @@ fn put_writes(out: &mut Seq<u8>, writes: &[(Oid, u32, Object)]) -> Result<(), No
 fn put_creates(out: &mut Seq<u8>, creates: &[(Oid, Object)]) -> Result<(), NoMemory>
     requires { All (λ c. length c.1.fields ≤ 16) creates.now }
     ensures bytes { OnOk result (out.new ≡ out.old ++ flat_map create_bytes creates.now) }
-    ensures fits { OnOk result (All (IsCreate 1) creates.now) }
+    ensures fits { OnOk result (All (IsCreate sent_version) creates.now) }
 {
     for create in creates {
         put_create(out, create)?;
@@ -96,7 +96,7 @@ fn put_creates(out: &mut Seq<u8>, creates: &[(Oid, Object)]) -> Result<(), NoMem
 pub fn put_items(out: &mut Seq<u8>, items: &Items) -> Result<(), NoMemory>
     requires { KeepsItems items.now }
     ensures bytes { OnOk result (out.new ≡ out.old ++ items_bytes items.now) }
-    ensures fits { OnOk result (AreItems 1 items.now) }
+    ensures fits { OnOk result (AreItems sent_version items.now) }
 {
     put_u16(out, items.reads.len() as u16)?;
     put_reads(out, items.reads.as_slice())?;

@@ -10,6 +10,9 @@ use crate::stop::Stop;
 use fab_base::{Answer, Message, Why};
 use std::alloc::Global;
 
+/// The version of each message that is sent, and that is read.
+pub(crate) const SENT_VERSION: u8 = 1;
+
 #[tactic(auto, unfolding(crate::specs::Reading::why_at))]
 fn why_of(bytes: &[u8]) -> Result<(Why, &[u8]), Stop>
     ensures { Gives (λ x. (x.0, x.1.now)) result (why_at bytes.now) }
@@ -115,7 +118,7 @@ fn body_of(alloc: Global, kind: u8, bytes: &[u8]) -> Result<(Message, &[u8]), St
 fn message_of(alloc: Global, bytes: &[u8]) -> Result<(Message, &[u8]), Stop>
     ensures { Gives (λ x. (x.0, x.1.now)) result (message_at bytes.now) }
 {
-    let (_version, rest) = byte_of(bytes, 1, 1)?;
+    let (_version, rest) = byte_of(bytes, SENT_VERSION, SENT_VERSION)?;
     let (kind, rest) = byte_of(rest, 1, 9)?;
     body_of(alloc, kind, rest)
 }

@@ -1,7 +1,7 @@
 //! The fields, written at the end of some bytes.
 
 ghost use Rattle.std.specs.Prelude.{◌≡◌, ◌++◌, ◌∷◌, [], OnOk};
-ghost use Rattle.fab_base.specs.FieldSpelling.{IsOid, IsTid, IsValue, four_bytes, oid_bytes, tid_bytes, two_bytes, value_bytes};
+ghost use Rattle.fab_base.specs.FieldSpelling.{IsOid, IsTid, IsValue, four_bytes, oid_bytes, tid_bytes, two_bytes, value_bytes, sent_version};
 
 use byteorder::{BigEndian, ByteOrder};
 use fab_base::{NoMemory, Oid, Seq, Tid, Value};
@@ -59,7 +59,7 @@ pub fn put_oid(out: &mut Seq<u8>, oid: Oid) -> Result<(), NoMemory>
 /// A value at the end: its tag, and a number, nothing or an object's name.
 pub fn put_value(out: &mut Seq<u8>, value: Value) -> Result<(), NoMemory>
     ensures bytes { OnOk result (out.new ≡ out.old ++ value_bytes value) }
-    ensures fits { IsValue 1 value }
+    ensures fits { IsValue sent_version value }
 {
     match value {
         Value::Int(n) => {

@@ -1,9 +1,9 @@
 -- What words ask for, by what `clap` finds in them.
-use Rattle.std.proofs.Common.{◌≡◌, ◌∙◌, ◌||◌, ◌&&◌, ◌⊎◌, inl, inr, Bool, true, false, refl, sym, ap, subst, map, List, [], ◌∷◌, ℕ, Option, Some, None, eqb-true, String, string_bytes, codes, length, nat_le, ◌==◌}
+use Rattle.std.proofs.Common.{◌≡◌, ◌∙◌, ◌||◌, ◌&&◌, inl, inr, Bool, true, false, refl, sym, ap, subst, map, List, [], ◌∷◌, ℕ, Option, Some, None, eqb-true, String, string_bytes, codes, length, nat_le, ◌==◌}
 use Rattle.std.specs.List.{list_all, list_any}
 use Rattle.std.specs.Str.{bytes_eq}
 use Rattle.std.specs.declared.alloc.Global.{Global}
-use Rattle.std.proofs.lemmas.Bool.{cases_Bool}
+use Rattle.std.proofs.lemmas.Bool.{cases_Bool, and_right, or_cases}
 use Rattle.clap.specs.Words.{Text, matches_of, takes}
 use Rattle.clap.proofs.WalkLemmas.{list_any-map}
 use Rattle.fab_asked.specs.Names.{is_name_word}
@@ -33,31 +33,23 @@ not_names word from to e = elim (cases_Bool (bytes_eq word (codes "flows"))) [ i
 no_first : (a b : Bool) → a ≡ false → (a && b) ≡ false
 no_first a b e = rw e refl
 
-no_second : (a b : Bool) → b ≡ false → (a && b) ≡ false
-no_second true b e = e
-no_second false b e = refl
-
-either : (a b : Bool) → (a || b) ≡ true → (a ≡ true) ⊎ (b ≡ true)
-either true b e = inl refl
-either false b e = inr e
-
 abbrev have_dash : List (String Global) → Bool
 have_dash words = list_any (λ word. begins_with_dash (string_bytes word)) words
 
 two_or_one : (word from to : Text) → (begins_with_dash word || (begins_with_dash from || (begins_with_dash to || false))) ≡ true → command_with word from to ≡ None
-two_or_one word from to e = elim (either (begins_with_dash word) (begins_with_dash from || (begins_with_dash to || false)) e) [
+two_or_one word from to e = elim (or_cases (begins_with_dash word) (begins_with_dash from || (begins_with_dash to || false)) e) [
   | inl w ↦ no_command_with word from to w
-  | inr rest ↦ elim (either (begins_with_dash from) (begins_with_dash to || false) rest) [
+  | inr rest ↦ elim (or_cases (begins_with_dash from) (begins_with_dash to || false) rest) [
     | inl f ↦ not_names word from to (no_first (is_name_word from) (is_name_word to) (no_name from f))
-    | inr last ↦ elim (either (begins_with_dash to) false last) [
-      | inl t ↦ not_names word from to (no_second (is_name_word from) (is_name_word to) (no_name to t))
+    | inr last ↦ elim (or_cases (begins_with_dash to) false last) [
+      | inl t ↦ not_names word from to (and_right (is_name_word from) (is_name_word to) (no_name to t))
       | inr never ↦ absurd (cc)
     ]
   ]
 ]
 
 one_dash : (word : Text) → (begins_with_dash word || false) ≡ true → command_of word ≡ None
-one_dash word e = elim (either (begins_with_dash word) false e) [ inl w ↦ no_command word w | inr never ↦ absurd (cc) ]
+one_dash word e = elim (or_cases (begins_with_dash word) false e) [ inl w ↦ no_command word w | inr never ↦ absurd (cc) ]
 
 not_among : (word : Text) (operands : List Text) → list_any begins_with_dash (word ∷ operands) ≡ true → command_among word operands ≡ None
 not_among w [] e = one_dash w e
@@ -68,16 +60,16 @@ not_among w (f ∷ t ∷ v ∷ vs) e = refl
 -- one of the words is no name
 not_all_names : (words : List Text) → list_any begins_with_dash words ≡ true → list_all is_name_word words ≡ false
 not_all_names [] e = cc
-not_all_names (w ∷ ws) e = elim (either (begins_with_dash w) (list_any begins_with_dash ws) e) [
+not_all_names (w ∷ ws) e = elim (or_cases (begins_with_dash w) (list_any begins_with_dash ws) e) [
   | inl here ↦ no_first (is_name_word w) (list_all is_name_word ws) (no_name w here)
-  | inr later ↦ no_second (is_name_word w) (list_all is_name_word ws) (not_all_names ws later)
+  | inr later ↦ and_right (is_name_word w) (list_all is_name_word ws) (not_all_names ws later)
 ]
 
 no_view : (words : List Text) → list_any begins_with_dash words ≡ true → view_of words ≡ None
-no_view words e = rw (no_second (nat_le (length words) 32) (list_all is_name_word words) (not_all_names words e)) refl
+no_view words e = rw (and_right (nat_le (length words) 32) (list_all is_name_word words) (not_all_names words e)) refl
 
 no_trust : (words : List Text) → list_any begins_with_dash words ≡ true → trust_of words ≡ None
-no_trust words e = rw (no_second (nat_le (length words) 32) (list_all is_name_word words) (not_all_names words e)) refl
+no_trust words e = rw (and_right (nat_le (length words) 32) (list_all is_name_word words) (not_all_names words e)) refl
 
 -- where the command's word is `view` or `trust`, the dash is behind it
 behind_view : (word : Text) (operands : List Text) → bytes_eq word (codes "view") ≡ true → list_any begins_with_dash (word ∷ operands) ≡ true → list_any begins_with_dash operands ≡ true
@@ -111,9 +103,9 @@ no_pair (Some n) = refl
 no_numbers : (words : List Text) → list_any begins_with_dash words ≡ true → numbers_of words ≡ None
 no_numbers [] e = cc
 no_numbers (n ∷ []) e = refl
-no_numbers (n ∷ s ∷ []) e = elim (either (begins_with_dash n) (begins_with_dash s || false) e) [
+no_numbers (n ∷ s ∷ []) e = elim (or_cases (begins_with_dash n) (begins_with_dash s || false) e) [
   | inl first ↦ rw (dashed_number n first) refl
-  | inr rest ↦ elim (either (begins_with_dash s) false rest) [
+  | inr rest ↦ elim (or_cases (begins_with_dash s) false rest) [
     | inl second ↦ rw (dashed_number s second) (no_pair (number_of n))
     | inr never ↦ absurd (cc)
   ]
@@ -122,7 +114,7 @@ no_numbers (n ∷ s ∷ w ∷ ws) e = refl
 
 -- a word that is another one doesn't begin with a dash
 behind_word : (word : Text) (operands : List Text) → (begins_with_dash word ≡ true → ⊥) → list_any begins_with_dash (word ∷ operands) ≡ true → list_any begins_with_dash operands ≡ true
-behind_word word operands none e = elim (either (begins_with_dash word) (list_any begins_with_dash operands) e) [
+behind_word word operands none e = elim (or_cases (begins_with_dash word) (list_any begins_with_dash operands) e) [
   | inl dash ↦ absurd (none dash)
   | inr later ↦ later
 ]

@@ -6,12 +6,12 @@ use Rattle.fab_base.specs.declared.object.Oid.{Oid}
 use Rattle.fab_base.specs.declared.object.Object.{Object}
 use Rattle.fab_base.specs.declared.object.Tid.{Tid}
 use Rattle.fab_base.specs.Tids.{is_above}
+use Rattle.fab_base.proofs.Lists.{all_along}
 use Rattle.fab_eval.specs.Attempts.{is_made_in}
 use Rattle.fab_tree.specs.declared.resolved.Resolved.{Resolved}
 use Rattle.fab_rights.specs.declared.rights.Rights.{Rights}
 use Rattle.fab_protocol.specs.declared.parts.Decision.{Decision}
 use Rattle.fab_protocol.specs.Versions.{Row, Rows, maker_of}
-use Rattle.fab_protocol.proofs.Lists.{all_along}
 use Rattle.fab_session.specs.Sittings.{Sitting, tid_of}
 use Rattle.fab_cache.specs.Caching.{Caching}
 use Rattle.fab_attempts.specs.Known.{AreKnown, IsKnown}

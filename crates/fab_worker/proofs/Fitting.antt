@@ -8,13 +8,13 @@ use Rattle.fab_base.specs.declared.entry.Entry.{Entry}
 use Rattle.fab_base.specs.declared.entry.Entry.TheVariants as e
 use Rattle.fab_base.specs.FlatMap.{is_among, is_same}
 use Rattle.fab_base.proofs.Names.{same_flips, same_is_equivalence}
+use Rattle.fab_base.proofs.Lists.{all_append, all_always, all_map}
 use Rattle.fab_tree.specs.declared.resolved.Resolved.{Resolved}
 use Rattle.fab_net.specs.declared.outcome.ReqOutcome.{ReqOutcome}
 use Rattle.fab_net.specs.declared.note.Step.{Step}
 use Rattle.fab_rights.specs.declared.rights.Rights.{Rights}
 use Rattle.fab_protocol.specs.declared.parts.Decision.{Decision}
 use Rattle.fab_protocol.specs.Versions.{Row, Rows, names_of}
-use Rattle.fab_protocol.proofs.Lists.{all_append, all_always, all_map}
 use Rattle.fab_session.specs.Sittings.{Sitting}
 use Rattle.fab_cache.specs.Caching.{AreLast, Caching, laid}
 use Rattle.fab_cache.proofs.Laying.{empty_last}

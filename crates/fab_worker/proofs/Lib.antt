@@ -4,12 +4,11 @@ pub mod Begun
 pub mod Sending
 pub mod Waking
 pub mod Woken
-pub mod Touching
 pub mod Ending
 pub mod Needed
 pub mod Asked
 pub mod Planning
-pub mod Putting
 pub mod Gaining
 pub mod Answered
 pub mod Rows
+pub mod AttemptNumbers

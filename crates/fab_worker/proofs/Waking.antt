@@ -4,11 +4,11 @@ use Rattle.std.specs.List.{AllByRecursion, IsDistinct}
 use Rattle.std.proofs.lemmas.List.{length-map}
 use Rattle.fab_base.specs.declared.entry.Entry.{Entry}
 use Rattle.fab_base.specs.declared.object.Tid.{Tid}
+use Rattle.fab_base.proofs.Lists.{all_always, all_map}
 use Rattle.fab_tree.specs.declared.resolved.Resolved.{Resolved}
 use Rattle.fab_rights.specs.declared.rights.Rights.{Rights}
 use Rattle.fab_protocol.specs.declared.parts.Decision.{Decision}
 use Rattle.fab_protocol.specs.Versions.{Rows}
-use Rattle.fab_protocol.proofs.Lists.{all_always, all_map}
 use Rattle.fab_session.specs.Sittings.{Sitting}
 use Rattle.fab_cache.specs.Caching.{AreLast, Caching}
 use Rattle.fab_cache.proofs.Laying.{empty_last}

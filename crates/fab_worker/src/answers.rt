@@ -5,38 +5,10 @@ ghost use Rattle.std.specs.List.{find};
 ghost use Rattle.fab_attempts.specs.Sessions.{requests_of};
 
 use crate::worker::Worker;
-use fab_base::{NoMemory, Object, Oid, Seq};
+use fab_base::NoMemory;
 use fab_eval::copy_of_request;
 use fab_tree::resolved::{Request, Resolved, Session};
 use std::alloc::Global;
-
-/// The same rows again.
-pub(crate) fn copies(
-    alloc: Global,
-    rows: &[(Oid, u32, Object)],
-) -> Result<Seq<(Oid, u32, Object)>, NoMemory>
-    ensures { IfOk result (λ copies. copies ≡ rows.now) }
-{
-    let mut copies = Seq::new(alloc);
-    for row in rows {
-        copies.push((row.0, row.1, row.2.copy(alloc)?))?;
-    }
-    Ok(copies)
-}
-
-/// The same made objects again.
-pub(crate) fn made_copies(
-    alloc: Global,
-    rows: &[(Oid, Object)],
-) -> Result<Seq<(Oid, Object)>, NoMemory>
-    ensures { IfOk result (λ copies. copies ≡ rows.now) }
-{
-    let mut copies = Seq::new(alloc);
-    for row in rows {
-        copies.push((row.0, row.1.copy(alloc)?))?;
-    }
-    Ok(copies)
-}
 
 /// The session of a worker, if it has one.
 fn session_of(program: &Resolved, node: u16) -> Option<&Session>

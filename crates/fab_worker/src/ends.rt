@@ -11,12 +11,11 @@ ghost use Rattle.fab_worker.specs.Plans.{Fits, IsAtWork, IsPlanOf};
 ghost use Rattle.fab_worker.specs.Outcomes.{HasRecord};
 ghost use Rattle.fab_worker.specs.declared.change.Change.TheVariants.{Closes};
 
-use crate::answers::copies;
 use crate::change::Change;
 use crate::plan::{WorkerPlan, recorded, unrecorded};
 use crate::worker::Worker;
 use fab_base::{Entry, NoMemory, Seq, Stop};
-use fab_commit::Sends;
+use fab_commit::{Sends, copies};
 use fab_net::{Denial, Note, ReqOutcome};
 
 /// The number of the node that a record names which names none.

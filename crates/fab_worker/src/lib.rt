@@ -18,7 +18,7 @@ mod stage;
 mod told;
 mod worker;
 
-pub use laws::kept_in_a_row;
+pub use laws::{attempts_keep_their_number, kept_in_a_row};
 pub use plan::WorkerPlan;
 pub use stage::WorkerState;
 pub use worker::Worker;

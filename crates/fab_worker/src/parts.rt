@@ -9,52 +9,12 @@ ghost use Rattle.fab_world.specs.Attempts.{parts_of};
 ghost use Rattle.fab_attempts.specs.Known.{ArePartsOver};
 ghost use Rattle.fab_worker.specs.Models.{IsJobOf, tid_at};
 
-use crate::answers::{copies, made_copies};
-use crate::told::version_in;
 use crate::worker::Worker;
-use fab_base::{NoMemory, Object, Oid, Seq, Value};
+use fab_base::{NoMemory, Object, Oid, Value};
+use fab_commit::{copies, made_copies, touched_versions};
 use fab_eval::Done;
 use fab_protocol::Parts;
-use indexmap::IndexSet;
 use std::alloc::Global;
-
-/// The objects that were touched, each once, in the order of first touches.
-fn touched_once(alloc: Global, touches: &[(u16, Oid)]) -> Result<IndexSet<Oid>, NoMemory>
-    ensures { IfOk result (λ names. names.keys ≡ touched touches.now) }
-{
-    let mut names = IndexSet::new(alloc);
-    for touch in touches {
-        names.insert(touch.1)?;
-    }
-    Ok(names)
-}
-
-/// These names with the versions of these answers.
-fn versions_of(
-    alloc: Global,
-    names: &[Oid],
-    answers: &[(Oid, u32, Object)],
-) -> Result<Seq<(Oid, u32)>, NoMemory>
-    ensures { IfOk result (λ versions. versions ≡ map (λ o. (o, version_of answers.now o)) names.now) }
-{
-    let mut versions = Seq::new(alloc);
-    for name in names {
-        versions.push((*name, version_in(answers, *name)))?;
-    }
-    Ok(versions)
-}
-
-/// What was touched, with the versions of these answers.
-fn touched_versions(
-    alloc: Global,
-    touches: &[(u16, Oid)],
-    answers: &[(Oid, u32, Object)],
-) -> Result<Seq<(Oid, u32)>, NoMemory>
-    ensures { IfOk result (λ names. names ≡ map (λ o. (o, version_of answers.now o)) (touched touches.now)) }
-{
-    let names = touched_once(alloc, touches)?;
-    versions_of(alloc, names.as_slice(), answers)
-}
 
 /// The parts that these come to.
 fn parts_from(

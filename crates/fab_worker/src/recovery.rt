@@ -29,7 +29,7 @@ use std::alloc::Global;
 use std::sync::Arc;
 
 /// The stores below this number that the rights know, in the order of their numbers.
-#[tactic(auto, using(crate::proofs::Sending::one_kept, crate::proofs::Sending::none_kept))]
+#[tactic(auto, using(fab_base::proofs::Lists::one_kept, fab_base::proofs::Lists::none_kept))]
 fn stores_below(alloc: Global, rights: &Rights, end: u16) -> Result<Seq<u16>, NoMemory>
     ensures { IfOk result (λ stores. stores ≡ filter (is_store rights.now) (range_with_len 0 end)) }
 {

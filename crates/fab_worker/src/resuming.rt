@@ -12,13 +12,12 @@ ghost use Rattle.fab_attempts.specs.Known.{ArePartsOver};
 ghost use Rattle.fab_worker.specs.Models.{IsJobOf, OnlyGainsRoom, parts_at_work, request_at, tid_at};
 ghost use Rattle.fab_worker.specs.Plans.{Fits, HasAllRoom, IsBehind, IsPlanOf, fails, step_of, stops};
 
-use crate::answers::{copies, made_copies};
 use crate::change::{Change, Told};
 use crate::plan::{WorkerPlan, unrecorded};
 use crate::told::Telling;
 use crate::worker::Worker;
 use fab_base::{Message, NoMemory, Object, Oid, Seq, Stop, Tid, Value};
-use fab_commit::{begin_prepare, to_each};
+use fab_commit::{begin_prepare, copies, made_copies, to_each};
 use fab_eval::{Done, Outcome};
 use fab_net::{Note, ReqOutcome, Step};
 use fab_protocol::Parts;

@@ -7,9 +7,9 @@ ghost use Rattle.fab_world.specs.Workers.{new_downs, new_touches};
 ghost use Rattle.fab_worker.specs.Models.{IsJobOf};
 
 use crate::change::Told;
-use crate::deciding::row_in;
 use crate::worker::Worker;
 use fab_base::{NoMemory, Object, Oid, Seq, Value};
+use fab_commit::version_in;
 use fab_eval::Done;
 use std::alloc::Global;
 
@@ -26,17 +26,6 @@ fn behind<T>(items: &[T], at: usize) -> &[T]
     ensures { result.now ≡ drop at items.now }
 {
     if at < items.len() { &items[at..] } else { &[] }
-}
-
-/// The version with which an object was answered, 0 for none.
-#[tactic(auto, using(fab_protocol::proofs::VersionLaws::version_by_row))]
-pub(crate) fn version_in(answers: &[(Oid, u32, Object)], oid: Oid) -> u32
-    ensures { result ≡ version_of answers.now oid }
-{
-    match row_in(answers, oid) {
-        Some(answer) => answer.1,
-        None => 0,
-    }
 }
 
 /// Touches with the versions of these answers.

@@ -9,7 +9,7 @@ use Rattle.fab_base.specs.declared.object.Object.{Object}
 use Rattle.fab_base.specs.declared.object.Oid.{Oid}
 use Rattle.fab_base.specs.declared.object.Value.{Value}
 use Rattle.fab_base.specs.declared.object.Value.TheVariants.{Int, Null, Ref}
-use Rattle.fab_base.specs.FieldSpelling.{IsObject, IsValue}
+use Rattle.fab_base.specs.FieldSpelling.{IsObject, IsValue, sent_version}
 use Rattle.fab_base.specs.FlatMap.{FlatMap, get, ascends, is_among, is_same}
 use Rattle.fab_language.specs.declared.ending.Ending.{Ending}
 use Rattle.fab_language.specs.declared.ending.Ending.TheVariants.{Ended, Missing}
@@ -88,31 +88,31 @@ abbrev value_in : Ending → Value
 value_in (Ended (Some v)) = v
 value_in _ = Int (pos 0)
 
-zero_fits : IsValue 1 (Int (pos 0))
+zero_fits : IsValue sent_version (Int (pos 0))
 unfolding int_wrap
 zero_fits = SFits-int_wrap w32 (pos 0)
 
 -- what is read of a fitting object can be spelled
-amount_fits : (fields : List Value) → AllByRecursion (IsValue 1) fields → IsValue 1 (Int (amount_in fields))
+amount_fits : (fields : List Value) → AllByRecursion (IsValue sent_version) fields → IsValue sent_version (Int (amount_in fields))
 amount_fits [] h = zero_fits
 amount_fits (Int n ∷ vs) h = h.0
 amount_fits (Null ∷ vs) h = zero_fits
 amount_fits (Ref o ∷ vs) h = zero_fits
 
-there_fits : (N : FlatMap) (o : Oid) (x : Object) → AreFit honest N → get N o ≡ Some x → IsObject 1 x
+there_fits : (N : FlatMap) (o : Oid) (x : Object) → AreFit honest N → get N o ≡ Some x → IsObject sent_version x
 there_fits [] o x h e = let no : None ≡ Some x = e in cc
 there_fits (row ∷ rows) o x h e =
-    elim (is_same row.0 o) as (λ b. (if b then Some row.1 else get rows o) ≡ Some x → IsObject 1 x) [
-      | true ↦ λ g. subst (λ y. IsObject 1 y) (ap (λ y. unwrap_or y x) g) h.0.spelled
+    elim (is_same row.0 o) as (λ b. (if b then Some row.1 else get rows o) ≡ Some x → IsObject sent_version x) [
+      | true ↦ λ g. subst (λ y. IsObject sent_version y) (ap (λ y. unwrap_or y x) g) h.0.spelled
       | false ↦ λ g. there_fits rows o x h.1 g
     ] e
 
 value_fits : (N : FlatMap) (v : Value) (x : Option Object) → get N (account 0) ≡ x → AreFit honest N
-    → (peeked ((0, account 0) ∷ []) x N).ending ≡ Ended (Some v) → IsValue 1 v
+    → (peeked ((0, account 0) ∷ []) x N).ending ≡ Ended (Some v) → IsValue sent_version v
 value_fits N v None there h e = let no : Missing 0 (account 0) ≡ Ended (Some v) = e in cc
 value_fits N v (Some x) there h e =
     let same : Int (amount x) ≡ v = ap value_in e in
-    subst (λ u. IsValue 1 u) same (amount_fits x.fields (there_fits N (account 0) x h there).fields)
+    subst (λ u. IsValue sent_version u) same (amount_fits x.fields (there_fits N (account 0) x h there).fields)
 
 honest_is_evaluation : IsEvaluation honest
 honest_is_evaluation = record {

@@ -21,6 +21,7 @@ use Rattle.fab_base.specs.declared.message.Why.TheVariants as why
 use Rattle.fab_base.specs.declared.entry.Entry.{Entry}
 use Rattle.fab_base.specs.declared.entry.Entry.TheVariants as e
 use Rattle.fab_base.specs.FlatMap.{is_same}
+use Rattle.fab_base.proofs.NameOrder.{one_name}
 use Rattle.fab_language.specs.declared.ending.Ending.{Ending}
 use Rattle.fab_language.specs.declared.ending.Ending.TheVariants as endings
 use Rattle.fab_language.specs.Meaning.{Meant}
@@ -37,7 +38,6 @@ use Rattle.fab_protocol.specs.Caches.{cached_row}
 use Rattle.fab_protocol.specs.Parts.{stores_of}
 use Rattle.fab_protocol.specs.Stores.{asks, says}
 use Rattle.fab_protocol.specs.Versions.{Row, is_tid}
-use Rattle.fab_protocol.proofs.TableLaws.{one_name}
 use Rattle.fab_world.specs.Attempts.{parts_of}
 use Rattle.fab_world.specs.Machine.{Setting, World, act, hears, kept, of_store, parts, shelf}
 use Rattle.fab_world.specs.Workers as workers

@@ -15,6 +15,7 @@ use Rattle.fab_net.specs.declared.event.Event.{Event}
 use Rattle.fab_net.specs.declared.event.Event.TheVariants.{Begin, Resume, Deliver, Post, Idle, Crash, CrashIn, Recover}
 use Rattle.fab_net.specs.declared.event.Inner.{Inner}
 use Rattle.fab_net.specs.declared.event.Inner.TheVariants as i
+pub use Rattle.fab_net.specs.Events.{node_of}
 use Rattle.fab_net.specs.declared.note.Note.{Note}
 use Rattle.fab_net.specs.declared.note.Logged.{Logged}
 use Rattle.fab_net.specs.declared.outcome.ReqOutcome.{ReqOutcome}
@@ -131,14 +132,6 @@ form_by true _ = Never
 
 abbrev pub form_of : Move → Form
 form_of move = form_by move.marked move.event
-
--- the node that an event is of
-abbrev pub node_of : Inner → ℕ
-node_of (i.Begin n) = n
-node_of (i.Resume n) = n
-node_of (i.Deliver a b) = b
-node_of (i.Idle n s) = n
-node_of (i.Recover n) = n
 
 module _ (S : Setting) where
   abbrev pub at_start : World

@@ -8,7 +8,7 @@ use Rattle.fab_base.specs.declared.object.Tid.{Tid}
 use Rattle.fab_base.specs.declared.object.Value.{Value}
 use Rattle.fab_base.specs.declared.message.Message.{Message}
 use Rattle.fab_base.specs.MessageSpelling.{IsReadAs}
-use Rattle.fab_base.specs.FieldSpelling.{IsTid, IsOid, IsObject, IsValue}
+use Rattle.fab_base.specs.FieldSpelling.{IsTid, IsOid, IsObject, IsValue, sent_version}
 use Rattle.fab_base.specs.FlatMap.{FlatMap, get, put_all, map_of, is_among}
 use Rattle.fab_base.specs.FlatMap as flat
 use Rattle.fab_language.specs.declared.ending.Ending.TheVariants.{Ended, Missing}
@@ -79,7 +79,7 @@ pub record IsFitName (S : Setting) (o : Oid) : Type 0 where
 pub record IsFit (S : Setting) (row : Oid × Object) : Type 0 where
   pub name : IsFitName S row.0
   pub suited : IsTrue (suits S.rights row.0 row.1)
-  pub spelled : IsObject 1 row.1
+  pub spelled : IsObject sent_version row.1
 
 abbrev pub AreFit : Setting → FlatMap → Type 0
 AreFit S rows = AllByRecursion (IsFit S) rows
@@ -137,7 +137,7 @@ pub record IsEvaluation (S : Setting) : Type 0 where
   pub absent : (w r : ℕ) (t : Tid) (N : FlatMap) (site : ℕ) (o : Oid) → (S.means w r t N).ending ≡ Missing site o → get N o ≡ None
   pub there : (w r : ℕ) (t : Tid) (N : FlatMap) → AllByRecursion (λ o. IsSome (get N o)) (touched (S.means w r t N).touches)
   -- no more than a message can spell, and no other value
-  pub value : (w r : ℕ) (t : Tid) (N : FlatMap) (v : Value) → IsTid t → AreFit S N → (S.means w r t N).ending ≡ Ended (Some v) → IsValue 1 v
+  pub value : (w r : ℕ) (t : Tid) (N : FlatMap) (v : Value) → IsTid t → AreFit S N → (S.means w r t N).ending ≡ Ended (Some v) → IsValue sent_version v
   pub few_touched : (w r : ℕ) (t : Tid) (N : FlatMap) → length (touched (S.means w r t N).touches) ≤ 1024
   pub few_changed : (w r : ℕ) (t : Tid) (N : FlatMap) → length (S.means w r t N).written + length (S.means w r t N).made ≤ 256
 

@@ -1,7 +1,8 @@
 use Rattle.std.proofs.Common.{◌≡◌, ◌<◌, ◌≤◌, ◌++◌, ◌∷◌, [], length, sym, ap, ◌∙◌, subst, arith}
 use Rattle.std.specs.Prelude.{slice_index_or, slice_set}
 use Rattle.std.proofs.lemmas.List.{get_or_read}
-use Rattle.fab_core.specs.Moved.{move_by, node_at}
+use Rattle.fab_net.specs.Events.{node_at}
+use Rattle.fab_core.specs.Moved.{move_by}
 use Rattle.fab_exchange.specs.Exchanges.{AreCounts, none_yet}
 use Rattle.fab_exchange.specs.Tallies.{counted_in, crashed_in}
 use Rattle.fab_exchange.specs.declared.counting.Count.{Count}

@@ -1,6 +1,6 @@
-use Rattle.fab_map.proofs.Order.{apart_names}
 use Rattle.fab_map.proofs.Rows.{get-put_same, get-put_other}
 use Rattle.fab_map.proofs.laws.found_after_put.Goals as goal
+use Rattle.fab_base.proofs.NameOrder.{apart_names}
 
 pub returns : goal.returns
 returns c = record {

@@ -1,5 +1,5 @@
 use Rattle.std.proofs.Common.{ap, sym, ◌∙◌}
-use Rattle.fab_map.proofs.Order.{derived_is, derived_cmp, less_from_before, before_from_less, derived_equal, derived_itself}
+use Rattle.fab_base.proofs.NameOrder.{derived_is, derived_cmp, less_from_before, before_from_less, derived_equal, derived_itself}
 use Rattle.fab_map.proofs.laws.names_compared.Goals as goal
 
 pub returns : goal.returns

@@ -1,7 +1,8 @@
 use Rattle.std.proofs.Common.{ap, sym, ◌∙◌}
 use Rattle.fab_base.specs.FlatMap.{is_same}
+use Rattle.fab_base.proofs.NameOrder.{one_name, not_itself, before_trans, cases_name}
+use Rattle.fab_base.proofs.Names.{same_self}
 use Rattle.fab_map.proofs.Bytes.{before_by_bytes}
-use Rattle.fab_map.proofs.Order.{one_name, same_self, not_itself, before_trans, cases_name}
 use Rattle.fab_map.proofs.laws.names_in_order.Goals as goal
 
 pub returns : goal.returns

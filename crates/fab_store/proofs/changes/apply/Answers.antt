@@ -1,9 +1,9 @@
 use Rattle.std.proofs.Common.{subst}
 use Rattle.std.specs.List.{AllByRecursion}
 use Rattle.fab_base.specs.FieldSpelling.{KeepsItems}
+use Rattle.fab_base.proofs.Lists.{all_filter}
 use Rattle.fab_protocol.specs.Stores.{Prepared}
 use Rattle.fab_protocol.specs.Versions.{is_tid}
-use Rattle.fab_protocol.proofs.Lists.{all_filter}
 use Rattle.fab_store.proofs.changes.apply.Goals as goal
 
 -- what is freed was held

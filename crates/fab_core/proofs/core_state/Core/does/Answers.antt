@@ -13,7 +13,8 @@ use Rattle.std.specs.declared.alloc.AllocError.{AllocError}
 use Rattle.fab_core.specs.declared.applied.Applied.{Applied}
 use Rattle.fab_core.specs.declared.applied.Applied.TheVariants.{Cut, Whole}
 use Rattle.fab_core.specs.Cores.{IsCore, marked, move_of, setting, unmarked, world_by}
-use Rattle.fab_core.specs.Moved.{IsMoved, IsCaused, event_of}
+use Rattle.fab_net.specs.Events.{uncut}
+use Rattle.fab_core.specs.Moved.{IsMoved, IsCaused}
 use Rattle.fab_core.specs.Places.{IsDoneAt, IsFailedAt, journals_of}
 use Rattle.fab_nodes.specs.Transit.{AreSentOut, bytes_to, is_up_at}
 use Rattle.fab_core.proofs.Fallen.{IsDropped}
@@ -32,8 +33,8 @@ bytes_of-requires g c =
 pub returns-in_err-bytes : goal.returns-in_err-bytes
 returns-in_err-bytes g c =
     let e = err_from_is_err_and c.from_residual-in_err-bytes.result c.from_residual-in_err-bytes.ensures.1 in
-    subst (λ (r : Result Applied AllocError). IsMoved (event_of c.args.inner) r c.args.self.now (seen c.self.inside.given c.reserve.new.self.items c.self.inside.nodes.items)) (sym e.1)
-    (refused c.args.self.now c.self.inside.given c.self.inside.log.items c.self.inside.nodes.items c.self.view_is (event_of c.args.inner) e.0 c.reserve.new.self.items
+    subst (λ (r : Result Applied AllocError). IsMoved (uncut c.args.inner) r c.args.self.now (seen c.self.inside.given c.reserve.new.self.items c.self.inside.nodes.items)) (sym e.1)
+    (refused c.args.self.now c.self.inside.given c.self.inside.log.items c.self.inside.nodes.items c.self.view_is (uncut c.args.inner) e.0 c.reserve.new.self.items
     c.self.inside.nodes.items c.reserve.ensures.items (none_caused _ ⊥ (journals_of c.self.inside.nodes.items) (λ h. h)))
 
 pub act_at-requires-clause-may : goal.act_at-requires-clause-may
@@ -101,11 +102,11 @@ invariant_of-self-in-Ok g c = (
 
 pub returns-in-Ok : goal.returns-in-Ok
 returns-in-Ok g c =
-    moved_on c.args.self.now c.self.inside.given c.self.inside.log.items c.self.inside.nodes.items c.self.view_is (event_of c.args.inner) Whole c.note.new.log.items c.act_at.new.nodes.items
+    moved_on c.args.self.now c.self.inside.given c.self.inside.log.items c.self.inside.nodes.items c.self.view_is (uncut c.args.inner) Whole c.note.new.log.items c.act_at.new.nodes.items
     (ap (map move_of) (c.note.ensures ∙
     (λ j. c.reserve.ensures.items j ++ c.whole_in.ensures j ∷ []))
-    ∙ moves_more (setting c.self.inside.given) (world_by c.self.inside.given (map move_of c.self.inside.log.items)) c.self.inside.log.items (unmarked (event_of c.args.inner))
-    (record { event = event_of c.args.inner; bytes = c.in_ok-bytes.bytes; notes = c.in-Ok.step.notes; whole = true; marked = false })
+    ∙ moves_more (setting c.self.inside.given) (world_by c.self.inside.given (map move_of c.self.inside.log.items)) c.self.inside.log.items (unmarked (uncut c.args.inner))
+    (record { event = uncut c.args.inner; bytes = c.in_ok-bytes.bytes; notes = c.in-Ok.step.notes; whole = true; marked = false })
     (entry_whole c.self.inside.given c.self.inside.nodes.items c.self.inside.queues c.self.inside.places.items c.self.inside.log.items c.self.invariant.0 c.args.inner
     (may_in c.args.self.now c.self.inside.given c.self.inside.log.items c.self.inside.nodes.items c.self.view_is c.args.inner c.requires.enabled)
     (few_in c.args.self.now c.self.inside.given c.self.inside.log.items c.self.inside.nodes.items c.self.view_is c.requires.few) c.in_ok-bytes.bytes c.in_ok-bytes.ensures
@@ -127,7 +128,7 @@ invariant_of-self-in-Memory-1 g c = (
 
 pub returns-in-Err-Memory : goal.returns-in-Err-Memory
 returns-in-Err-Memory g c =
-    refused c.args.self.now c.self.inside.given c.self.inside.log.items c.self.inside.nodes.items c.self.view_is (event_of c.args.inner) _ c.reserve.new.self.items
+    refused c.args.self.now c.self.inside.given c.self.inside.log.items c.self.inside.nodes.items c.self.view_is (uncut c.args.inner) _ c.reserve.new.self.items
     c.act_at.new.nodes.items c.reserve.ensures.items
     (subst (λ (k : ℕ). IsCaused k ⊥ (journals_of c.self.inside.nodes.items) (journals_of c.act_at.new.nodes.items)) (sym (node_is c.args.inner))
     (cause_as (node_of c.args.inner) _ ⊥ (journals_of c.self.inside.nodes.items) (journals_of c.act_at.new.nodes.items) (λ h. absurd h)
@@ -158,10 +159,10 @@ invariant_of-self-in-Err-Failed g c = (
 
 pub returns-in-Err-Failed : goal.returns-in-Err-Failed
 returns-in-Err-Failed g c =
-    moved_on c.args.self.now c.self.inside.given c.self.inside.log.items c.self.inside.nodes.items c.self.view_is (event_of c.args.inner) Cut c.note-in-Err-Failed.new.log.items
+    moved_on c.args.self.now c.self.inside.given c.self.inside.log.items c.self.inside.nodes.items c.self.view_is (uncut c.args.inner) Cut c.note-in-Err-Failed.new.log.items
     c.act_at.new.nodes.items
     (ap (map move_of) (c.note-in-Err-Failed.ensures ∙ (λ j. c.reserve.ensures.items j ++ c.failed_in.ensures j ∷ [])) ∙ moves_more (setting c.self.inside.given)
-    (world_by c.self.inside.given (map move_of c.self.inside.log.items)) c.self.inside.log.items (marked (event_of c.args.inner))
+    (world_by c.self.inside.given (map move_of c.self.inside.log.items)) c.self.inside.log.items (marked (uncut c.args.inner))
     (record { event = events.CrashIn 0 c.args.inner; bytes = c.in_ok-bytes.bytes; notes = []; whole = false; marked = true })
     (entry_lost c.self.inside.given c.self.inside.nodes.items c.self.inside.queues c.self.inside.places.items c.self.inside.log.items c.self.invariant.0 c.args.inner
     (may_in c.args.self.now c.self.inside.given c.self.inside.log.items c.self.inside.nodes.items c.self.view_is c.args.inner c.requires.enabled)

@@ -6,7 +6,8 @@ use Rattle.fab_world.specs.Serial.{IsRun}
 use Rattle.fab_settings.specs.Settings.{lines_of}
 use Rattle.fab_node.specs.Standing.{GivenModel}
 use Rattle.fab_core.specs.Cores.{CoreModel, EventHasDone, setting, slot, unmarked, world}
-use Rattle.fab_core.specs.Moved.{node_at, sure_in}
+use Rattle.fab_net.specs.Events.{node_at}
+use Rattle.fab_core.specs.Moved.{sure_in}
 use Rattle.fab_exchange.specs.Exchanges.{AreCounts}
 use Rattle.fab_exchange.specs.Turns.{HasCome, NoneCame, node_with}
 use Rattle.fab_exchange.proofs.Few.{few_attempts}

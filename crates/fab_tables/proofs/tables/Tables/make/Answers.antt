@@ -1,7 +1,7 @@
 use Rattle.std.proofs.Common.{ap, ◌∙◌}
 use Rattle.fab_language.specs.Names.{node_name, label_name, class_name, method_name, root_name}
 use Rattle.fab_tables.specs.Places.{texts_of}
-use Rattle.fab_tables.proofs.LimitLemmas.{is_within}
+use Rattle.fab_tree.proofs.Within.{is_within}
 use Rattle.fab_tables.proofs.tables.Tables.make.Goals as goal
 
 pub invariant_of-result : goal.invariant_of-result
