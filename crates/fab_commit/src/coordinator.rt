@@ -7,8 +7,8 @@ ghost use Rattle.fab_base.specs.declared.message.Message.TheVariants.{Prepare};
 ghost use Rattle.fab_protocol.specs.Parts.{KeepsParts, items_at, stores_of};
 ghost use Rattle.fab_commit.specs.Coordinators.{begun, is_among, verdict, voted};
 
-use crate::stores::participants;
 use crate::sends::{Sends, prepares};
+use crate::stores::participants;
 use crate::verdict::Verdict;
 use fab_base::{NoMemory, Seq, Tid};
 use fab_protocol::Parts;

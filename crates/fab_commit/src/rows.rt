@@ -43,10 +43,7 @@ pub fn copies(
 }
 
 /// The same made objects again.
-pub fn made_copies(
-    alloc: Global,
-    rows: &[(Oid, Object)],
-) -> Result<Seq<(Oid, Object)>, NoMemory>
+pub fn made_copies(alloc: Global, rows: &[(Oid, Object)]) -> Result<Seq<(Oid, Object)>, NoMemory>
     ensures { IfOk result (λ copies. copies ≡ rows.now) }
 {
     let mut copies = Seq::new(alloc);

@@ -26,4 +26,3 @@ pub parts_are : (known : Rows) (value : Option Value) (touches : List (ℕ × Oi
     → made_of known value touches written made objects ≡ parts_of known what
 parts_are known value touches written made objects x what e f g h is ended = λ i.
     made_of known (sym (ap value_of ended) i) ((e ∙ is.touches) i) ((f ∙ is.written) i) ((g ∙ is.made) i) ((h ∙ is.map) i)
-

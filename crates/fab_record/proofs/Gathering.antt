@@ -20,4 +20,3 @@ past_end {A} xs i past = empty (drop i xs) (simp length-drop (omega arith))
     empty : (ys : List A) → length ys ≡ 0 → ys ≡ []
     empty [] e = refl
     empty (y ∷ ys) e = absurd (omega (arith, e))
-
