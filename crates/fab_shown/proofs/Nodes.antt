@@ -13,9 +13,9 @@ use Rattle.fab_tree.specs.declared.resolved.Principal.{Principal}
 use Rattle.fab_tree.specs.declared.resolved.Resolved.{Resolved}
 use Rattle.fab_language.specs.Names as names
 use Rattle.fab_language.specs.Words.{has_number}
-use Rattle.fab_labelling.specs.Readers.{is_numbered, place_from}
+use Rattle.fab_labelling.specs.Placement.{role_of}
+use Rattle.fab_labelling.specs.Readers.{is_numbered, place_from, principal_of}
 use Rattle.fab_places.specs.Places.{AreRights, kind_of}
-use Rattle.fab_places.proofs.NodeLemmas.{role_is_node}
 use Rattle.fab_rights.specs.declared.rights.ClassRights.{ClassRights}
 use Rattle.fab_rights.specs.declared.rights.Rights.{Rights}
 use Rattle.fab_rights.specs.Computed.{fits_class, is_node, is_store, is_well_formed, is_worker, suits}
@@ -45,11 +45,14 @@ some_role : (P : Role → Type 0) (o : Option Principal) → IsSomeAnd (option_m
 some_role P None h = absurd h
 some_role P (Some x) h = (x, refl)
 
+role_node : (r : Resolved) (n : ℕ) (P : Role → Type 0) → IsSomeAnd (role_of r n) P → IsNode r n
+role_node r n P h = let x = some_role P (slice_get r.nodes (principal_of r n)) h in placed_has n r.nodes x.0 x.1
+
 -- a node of the rights is one of the bundle
 pub rights_node : (r : Resolved) (rights : Rights) → AreRights r rights → (n : ℕ) → IsTrue (is_node rights n) → IsNode r n
 rights_node r rights are n h = elim (or_cases (is_worker rights n) (is_store rights n) h) [
-  | inl worker ↦ role_is_node r n (λ x. IsTrue (names.is_worker x)) ((are.workers n).0 ((has_bit_exact rights.workers n).0 worker))
-  | inr store ↦ role_is_node r n (λ x. IsTrue (names.is_store x)) ((are.stores n).0 ((has_bit_exact rights.stores n).0 store))
+  | inl worker ↦ role_node r n (λ x. IsTrue (names.is_worker x)) ((are.workers n).0 ((has_bit_exact rights.workers n).0 worker))
+  | inr store ↦ role_node r n (λ x. IsTrue (names.is_store x)) ((are.stores n).0 ((has_bit_exact rights.stores n).0 store))
 ]
 
 -- ---- classes
