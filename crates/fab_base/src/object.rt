@@ -38,10 +38,16 @@ pub enum Value {
 }
 
 /// An object: the number of its class, and its fields in the class's order.
-#[derive(Debug, Drop)]
+#[derive(Debug)]
 pub struct Object {
     pub class: u16,
     pub fields: Seq<Value>,
+}
+
+impl Drop for Object {
+    fn drop(self) {
+        let Object { class, fields } = self;
+    }
 }
 
 impl Object {
@@ -53,6 +59,14 @@ impl Object {
             class: self.class,
             fields: Seq::from_slice(alloc, self.fields.as_slice())?,
         })
+    }
+
+    /// The fields, without taking memory.
+    pub fn into_fields(self) -> Seq<Value>
+        ensures { result ≡ self.fields }
+    {
+        let Object { class: _, fields } = self;
+        fields
     }
 }
 

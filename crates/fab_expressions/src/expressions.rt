@@ -17,8 +17,9 @@ use std::alloc::Global;
 fn placed(expression: Expression, at: u32) -> Expression
     ensures { result ≡ placed_tree at expression }
 {
-    let Expression { form, .. } = expression;
-    Expression { form, at }
+    let mut expression = expression;
+    expression.at = at;
+    expression
 }
 
 /// A local, or a field of an object.

@@ -11,7 +11,7 @@ use std::alloc::Global;
 
 /// Who may do what with the objects of a class. Bit n of a mask stands for node n. A field holds a
 /// number, or where it has the number of a class, a reference to an object of that class.
-#[derive(Debug, Drop)]
+#[derive(Debug)]
 pub struct ClassRights {
     pub fetchers: u64,
     pub writers: u64,
@@ -19,13 +19,34 @@ pub struct ClassRights {
     pub fields: Seq<Option<u16>>,
 }
 
+impl Drop for ClassRights {
+    fn drop(self) {
+        let ClassRights {
+            fetchers,
+            writers,
+            holders,
+            fields,
+        } = self;
+    }
+}
+
 /// Which nodes are workers and which stores, as masks, and the rights over each class, in the order
 /// of their numbers.
-#[derive(Debug, Drop)]
+#[derive(Debug)]
 pub struct Rights {
     pub workers: u64,
     pub stores: u64,
     pub classes: Seq<ClassRights>,
+}
+
+impl Drop for Rights {
+    fn drop(self) {
+        let Rights {
+            workers,
+            stores,
+            classes,
+        } = self;
+    }
 }
 
 impl ClassRights {

@@ -29,7 +29,7 @@ use std::marker::Model;
 const MOST_CHANGED: u32 = 512;
 
 /// A store: its objects, the transactions that it has prepared, and what it remembers of each sender.
-#[derive(Debug, Drop)]
+#[derive(Debug)]
 pub struct Store {
     pub(crate) alloc: Global,
     pub(crate) node: u16,
@@ -37,6 +37,19 @@ pub struct Store {
     pub(crate) table: Table,
     pub(crate) locks: Locks,
     pub(crate) senders: Vec<Sender>,
+}
+
+impl Drop for Store {
+    fn drop(self) {
+        let Store {
+            alloc,
+            node,
+            rights,
+            table,
+            locks,
+            senders,
+        } = self;
+    }
 }
 
 impl Model for Store {
@@ -150,7 +163,7 @@ impl Store {
         ensures rights { self.new.rights ≡ self.old.rights }
         ensures shelf { self.new.shelf ≡ keeps_said plan.entry self.old.shelf }
     {
-        let StorePlan { entry, step } = plan;
+        let (entry, step) = plan.into_parts();
         if let Some(entry) = entry {
             self.keep(entry);
         }

@@ -37,16 +37,23 @@ pub enum Comparison {
 /// An expression. `at` is the place of its first byte, brackets round it included; brackets leave
 /// nothing else.
 #[cycle(expression)]
-#[derive(Debug, Drop)]
+#[derive(Debug)]
 pub struct Expression {
     pub form: Form,
     pub at: u32,
 }
 
+impl Drop for Expression {
+    #[cycle(drops)]
+    fn drop(self) {
+        let Expression { form, at } = self;
+    }
+}
+
 /// What an expression is. A chain has at least one operand behind the first, and its operators are
 /// all of one level.
 #[cycle(expression)]
-#[derive(Debug, Drop)]
+#[derive(Debug)]
 pub enum Form {
     Number(i32),
     Null,
@@ -68,11 +75,42 @@ pub enum Form {
     },
 }
 
+impl Drop for Form {
+    #[cycle(drops)]
+    fn drop(self) {
+        match self {
+            Form::Number(one) => {}
+            Form::Null => {}
+            Form::Local(one) => {}
+            Form::Read { object, field } => {}
+            Form::Negative(one) => {}
+            Form::Not(one) => {}
+            Form::Chain { first, others } => {}
+            Form::Compared {
+                left,
+                comparison,
+                right,
+            } => {}
+        }
+    }
+}
+
 /// An operand of a chain behind the first, with the operator before it and the operator's place.
 #[cycle(expression)]
-#[derive(Debug, Drop)]
+#[derive(Debug)]
 pub struct Operand {
     pub operator: Operator,
     pub at: u32,
     pub operand: Expression,
+}
+
+impl Drop for Operand {
+    #[cycle(drops)]
+    fn drop(self) {
+        let Operand {
+            operator,
+            at,
+            operand,
+        } = self;
+    }
 }

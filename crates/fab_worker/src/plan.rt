@@ -12,11 +12,20 @@ use std::alloc::Global;
 use std::marker::Model;
 
 /// What a worker will keep and say: the record, what becomes of the attempt, and the step in bytes.
-#[derive(Drop)]
 pub struct WorkerPlan {
     pub(crate) entry: Option<Entry>,
     pub(crate) change: Change,
     pub(crate) step: Step,
+}
+
+impl Drop for WorkerPlan {
+    fn drop(self) {
+        let WorkerPlan {
+            entry,
+            change,
+            step,
+        } = self;
+    }
 }
 
 impl Model for WorkerPlan {
@@ -38,6 +47,18 @@ impl WorkerPlan {
         ensures fits { IfSome self.now.entry (IsEntry 1) }
     {
         &self.step
+    }
+
+    /// The record, what becomes of the attempt, and what is to be written and sent.
+    pub(crate) fn into_parts(self) -> (Option<Entry>, Change, Step)
+        ensures { result ≡ (self.entry, self.change, self.step) }
+    {
+        let WorkerPlan {
+            entry,
+            change,
+            step,
+        } = self;
+        (entry, change, step)
     }
 }
 
