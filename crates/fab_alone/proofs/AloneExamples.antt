@@ -7,6 +7,7 @@ use Rattle.fab_base.specs.declared.object.Tid.{Tid}
 use Rattle.fab_base.specs.declared.message.Message.TheVariants.{Deny, Fetch}
 use Rattle.fab_base.specs.declared.message.Why.TheVariants as why
 use Rattle.fab_base.specs.FlatMap.{FlatMap, get}
+use Rattle.fab_base.specs.declared.object.Width.TheVariants as widths
 use Rattle.fab_language.specs.declared.ending.Ending.TheVariants as endings
 use Rattle.fab_laws.specs.Locality.{IsPart}
 use Rattle.fab_net.specs.declared.event.Event.TheVariants.{Begin, Deliver, Resume}
@@ -14,6 +15,7 @@ use Rattle.fab_net.specs.declared.outcome.Denial.TheVariants.{Rights as NoRights
 use Rattle.fab_net.specs.declared.outcome.ReqOutcome.TheVariants.{Committed, Denied, Failed, Stopped}
 use Rattle.fab_rights.specs.declared.rights.Rights.{Rights}
 use Rattle.fab_rights.specs.Computed.{may_fetch}
+use Rattle.fab_rights.specs.declared.rights.Shape.TheVariants as shapes
 use Rattle.fab_protocol.specs.Stores.{shelf_of}
 use Rattle.fab_protocol.proofs.Toy.{account, accounts, attempt}
 use Rattle.fab_world.specs.Machine.{Setting, Move, outcome}
@@ -27,7 +29,7 @@ first = attempt 0 1 1
 
 -- worker 0 and store 1, which alone there are; who may fetch and write accounts is given
 abbrev rights_of : ℕ → ℕ → Rights
-rights_of fetchers writers = record { workers = 1; stores = 2; classes = record { fetchers = fetchers; writers = writers; holders = 2; fields = None ∷ [] } ∷ [] }
+rights_of fetchers writers = record { workers = 1; stores = 2; classes = record { fetchers = fetchers; writers = writers; holders = 2; fields = shapes.Number widths.Int ∷ [] } ∷ [] }
 
 -- ---- it may: its one request is a transfer
 

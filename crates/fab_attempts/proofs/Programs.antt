@@ -180,5 +180,5 @@ program_of s n rights limits right are =
       requests = of_worker s (IsFitting (resolved s)) right (requests_have_kinds s right) n;
       few = omega (arith, few, requests);
       fields = fields_within s s.program.classes fields;
-      kinds = are.kinds;
+      shapes = are.shapes;
     }

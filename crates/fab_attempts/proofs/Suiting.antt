@@ -24,32 +24,30 @@ use Rattle.fab_attempts.specs.Sessions.{IsProgramOf}
 
 module _ (rights : Rights) where
   -- what a field may hold by the rights is of the field's kind
-  one_suits : (s : Sort) (v : Value) → IsTrue (computed.fits_field rights (places.kind_of_sort s) v) → suits (kind_of_sort s) v ≡ true
-  one_suits sorts.Int (Int n) h = refl
-  one_suits sorts.Int Null h = absurd (true≢false (sym h))
-  one_suits sorts.Int (Ref o) h = absurd (true≢false (sym h))
+  one_suits : (s : Sort) (v : Value) → IsTrue (computed.fits_field rights (places.shape_of_sort s) v) → suits (kind_of_sort s) v ≡ true
+  one_suits (sorts.Number w) v h = h
   one_suits (sorts.Class x) (Int n) h = absurd (true≢false (sym h))
   one_suits (sorts.Class x) Null h = refl
   one_suits (sorts.Class x) (Ref o) h = (and_parts (o.class == x.number) (computed.may_hold rights o.store x.number) h).0
 
-  all_suit : (fields : List Field) (vs : List Value) → IsTrue (computed.fit_fields rights (map places.kind_of fields) vs) → AllSuit (map (λ x. kind_of_sort x.sort) fields) vs
+  all_suit : (fields : List Field) (vs : List Value) → IsTrue (computed.fit_fields rights (map places.shape_of fields) vs) → AllSuit (map (λ x. kind_of_sort x.sort) fields) vs
   all_suit [] [] h = tt
   all_suit [] (v ∷ vs) h = absurd (true≢false (sym h))
   all_suit (f ∷ fs) [] h = absurd (true≢false (sym h))
   all_suit (f ∷ fs) (v ∷ vs) h =
-      let g = and_parts (computed.fits_field rights (places.kind_of f) v) (computed.fit_fields rights (map places.kind_of fs) vs) h in
+      let g = and_parts (computed.fits_field rights (places.shape_of f) v) (computed.fit_fields rights (map places.shape_of fs) vs) h in
       (one_suits f.sort v g.0, all_suit fs vs g.1)
 
   -- where the rights know the fields of the classes
-  class_suits : (rs : List ClassRights) (cs : List Class) → map (λ c. c.fields) rs ≡ map (λ c. map places.kind_of c.fields) cs → (n : ℕ) (x : Object)
+  class_suits : (rs : List ClassRights) (cs : List Class) → map (λ c. c.fields) rs ≡ map (λ c. map places.shape_of c.fields) cs → (n : ℕ) (x : Object)
       → IsTrue (computed.fits_class rights (slice_get rs n) x) → AllSuit (class_kinds cs n) x.fields
   class_suits [] cs e n x h = absurd (true≢false (sym h))
   class_suits (r ∷ rs) [] e n x h = cc
   class_suits (r ∷ rs) (c ∷ cs) e zero x h =
-      let same : r.fields ≡ map places.kind_of c.fields = cc in
+      let same : r.fields ≡ map places.shape_of c.fields = cc in
       all_suit c.fields x.fields (subst (λ fs. IsTrue (computed.fit_fields rights fs x.fields)) same h)
   class_suits (r ∷ rs) (c ∷ cs) e (suc n) x h =
-      let rest : map (λ c. c.fields) rs ≡ map (λ c. map places.kind_of c.fields) cs = cc in
+      let rest : map (λ c. c.fields) rs ≡ map (λ c. map places.shape_of c.fields) cs = cc in
       class_suits rs cs rest n x h
 
 pub answer_shaped : (program : Resolved) (n : ℕ) (rights : Rights) (o : Oid) (x : Object) → IsProgramOf program n rights
@@ -59,7 +57,7 @@ answer_shaped program n rights o x fits h =
     let same : x.class ≡ o.class = grind (arith, nat_tests, g.1) in
     record {
       class = same;
-      fields = subst (λ class. AllSuit (class_kinds program.classes class) x.fields) same (class_suits rights rights.classes program.classes fits.kinds x.class x g.0);
+      fields = subst (λ class. AllSuit (class_kinds program.classes class) x.fields) same (class_suits rights rights.classes program.classes fits.shapes x.class x g.0);
     }
 
 -- ---- how many fields there are

@@ -5,7 +5,7 @@ use Rattle.fab_tree.specs.declared.resolved.Request.{Request}
 use Rattle.fab_tree.specs.declared.resolved.Resolved.{Resolved}
 use Rattle.fab_tree.specs.declared.resolved.Session.{Session}
 use Rattle.fab_laws.specs.Shapes.{is_fitting, IsFitting}
-use Rattle.fab_places.specs.Places.{kind_of}
+use Rattle.fab_places.specs.Places.{shape_of}
 use Rattle.fab_rights.specs.declared.rights.Rights.{Rights}
 
 -- the requests of a worker's session, in order; none where it has no session
@@ -23,4 +23,4 @@ pub record IsProgramOf (program : Resolved) (n : ℕ) (rights : Rights) : Type 0
   pub requests : AllByRecursion (IsFitting program) (requests_of program n)
   pub few : length (requests_of program n) < 2 ^ 32
   pub fields : AllByRecursion (λ class. length class.fields ≤ 16) program.classes
-  pub kinds : map (λ class. class.fields) rights.classes ≡ map (λ class. map kind_of class.fields) program.classes
+  pub shapes : map (λ class. class.fields) rights.classes ≡ map (λ class. map shape_of class.fields) program.classes

@@ -7,6 +7,10 @@ use Rattle.fab_base.specs.declared.entry.Entry.{Entry}
 use Rattle.fab_base.specs.declared.entry.Entry.TheVariants.{Decided, Closed, Boot, Prepared, Refused, Applied, Released, BootSeen}
 use Rattle.fab_base.specs.FieldSpelling.{two_bytes, four_bytes, tid_bytes, IsTid, value_bytes, IsValue, items_bytes, AreItems, KeepsItems}
 
+-- the version in which a journal begins; no other is known so far
+abbrev pub journal_version : ℕ
+journal_version = 1
+
 -- the header: the letters FABJ, the version, the node
 abbrev pub header_bytes : ℕ → ℕ → List ℕ
 header_bytes version node = 70 ∷ 65 ∷ 66 ∷ 74 ∷ (two_bytes version ++ two_bytes node)
@@ -44,7 +48,7 @@ pub record IsOutcome (outcome named : ℕ) : Type 0 where
   pub unnamed : (NamesNode outcome → ⊥) → named ≡ 65535
 
 -- the body in a version of the format: the kind, and what the entry says. Prepared has the items as a Prepare
--- has them. A version that isn't known spells what version 1 spells.
+-- has them. A version that isn't known spells what the first one spells.
 abbrev pub body_bytes : ℕ → Entry → List ℕ
 body_bytes version (Decided tid request result stores) = 1 ∷ (tid_bytes tid ++ four_bytes request ++ result_bytes result ++ stores_bytes stores)
 body_bytes version (Closed request outcome node) = 2 ∷ (four_bytes request ++ outcome ∷ two_bytes node)
@@ -55,7 +59,7 @@ body_bytes version (Applied tid) = 6 ∷ tid_bytes tid
 body_bytes version (Released tid) = 7 ∷ tid_bytes tid
 body_bytes version (BootSeen worker boot) = 8 ∷ (two_bytes worker ++ four_bytes boot)
 
--- what an entry's numbers, orders and counts keep in a version of the format; 1 is the only version
+-- what an entry's numbers, orders and counts keep in a version of the format
 abbrev pub IsEntryBody : ℕ → Entry → Type 0
 IsEntryBody version (Decided tid request result stores) = IsTid tid × (request < 2 ^ 32) × IsResult version result × AreStores stores
 IsEntryBody version (Closed request outcome node) = (request < 2 ^ 32) × IsOutcome outcome node
@@ -67,7 +71,7 @@ IsEntryBody version (Released tid) = IsTid tid
 IsEntryBody version (BootSeen worker boot) = (worker < 2 ^ 16) × (boot < 2 ^ 32)
 
 pub record IsEntry (version : ℕ) (entry : Entry) : Type 0 where
-  pub known : version ≡ 1
+  pub known : version ≡ journal_version
   pub body : IsEntryBody version entry
 
 -- the orders and counts alone: what of this the types of the code don't keep
@@ -84,7 +88,7 @@ framed body = four_bytes (length body) ++ body
 abbrev pub record_bytes : ℕ → Entry → List ℕ
 record_bytes version entry = framed (body_bytes version entry)
 
--- the version of the records behind an entry's; in version 1 every entry keeps it
+-- the version of the records behind an entry's; so far every entry keeps it
 abbrev pub next_version : ℕ → Entry → ℕ
 next_version version entry = version
 
@@ -111,7 +115,7 @@ pub record IsTornHeader (bytes : List ℕ) : Type 0 where
   pub node : ℕ
   pub in_range : node < 2 ^ 16
   pub shorter : length bytes < 8
-  pub begins : bytes ≡ take (length bytes) (header_bytes 1 node)
+  pub begins : bytes ≡ take (length bytes) (header_bytes journal_version node)
 
 -- bytes at whose front no whole record stands, whatever its body is
 abbrev pub IsTorn : List ℕ → Type 0
@@ -121,9 +125,9 @@ IsTorn bytes = (body more : List ℕ) → length body < 2 ^ 32 → bytes ≢ fra
 pub record IsSpelledTo (bytes : List ℕ) (entries : List Entry) (len : ℕ) : Type 0 where
   pub node : ℕ
   pub in_range : node < 2 ^ 16
-  pub entries_fit : AreEntries 1 entries
+  pub entries_fit : AreEntries journal_version entries
   pub within : len ≤ length bytes
-  pub spelled : take len bytes ≡ journal_bytes 1 node entries
+  pub spelled : take len bytes ≡ journal_bytes journal_version node entries
 
 -- The whole part of the bytes is a journal of these entries, and so long: no whole record follows.
 pub record IsWholePart (bytes : List ℕ) (entries : List Entry) (len : ℕ) : Type 0 where
@@ -167,12 +171,12 @@ pub record IsBadRecord (bytes : List ℕ) (at : ℕ) : Type 0 where
   pub length_fits : length body < 2 ^ 32
   pub follows : drop start bytes ≡ framed body ++ more
   pub place : ℕ
-  pub bad : IsBadBody (version_behind 1 before) body place
+  pub bad : IsBadBody (version_behind journal_version before) body place
   pub at_place : at ≡ start + place
 
 -- where bytes go wrong: in the header, whose node may be any, or in a whole record
 abbrev pub opening : List ℕ
-opening = 70 ∷ 65 ∷ 66 ∷ 74 ∷ 0 ∷ 1 ∷ []
+opening = 70 ∷ 65 ∷ 66 ∷ 74 ∷ two_bytes journal_version
 
 abbrev pub GoesWrongAt : List ℕ → ℕ → Type 0
 GoesWrongAt bytes at = IsFirstWrong opening bytes at ⊎ IsBadRecord bytes at

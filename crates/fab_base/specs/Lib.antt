@@ -9,4 +9,5 @@ pub mod Principals
 pub mod Sinks
 pub mod Tids
 pub mod Tokens
+pub mod Values
 pub mod formers

@@ -5,9 +5,15 @@ use std::alloc::Global;
 use std::marker::Model;
 
 /// One value on the heap, over a `Box`. Contracts see it as that value.
-#[derive(Debug, Drop)]
+#[derive(Debug)]
 pub struct Boxed<T> {
     inner: Box<T>,
+}
+
+impl<T: Drop> Drop for Boxed<T> {
+    fn drop(self) {
+        let Boxed { inner } = self;
+    }
 }
 
 impl<T> Model for Boxed<T> {

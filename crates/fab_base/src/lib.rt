@@ -21,7 +21,7 @@ pub use entry::Entry;
 pub use label::{Label, Policy};
 pub use limit::What;
 pub use message::{Answer, Items, Message, Why};
-pub use object::{Object, Oid, Stop, Tid, Value};
+pub use object::{Object, Oid, Stop, Tid, Value, Width};
 pub use order::above_is_the_derived_order;
 pub use outside::{
     Failed, FailingCalls, MemSink, MemSource, Sink, SinkError, Source, StdSink, StdSource,

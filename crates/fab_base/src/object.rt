@@ -1,6 +1,7 @@
 //! Names of objects and of transactions, values and objects, after Fabric.
 
-ghost use Rattle.std.specs.Prelude.{◌≡◌, IfOk};
+ghost use Rattle.std.specs.Prelude.{◌≡◌, ◌↔◌, IfOk, IsTrue};
+ghost use Rattle.fab_base.specs.Values.{referred, IsNumberOf, is_number_of};
 
 use crate::seq::{NoMemory, Seq};
 use std::alloc::Global;
@@ -29,6 +30,12 @@ pub struct Tid {
     pub number: u32,
 }
 
+/// How wide a number is: 32 bits, with a sign.
+#[derive(Clone, Copy, Debug, PartialEq, Eq)]
+pub enum Width {
+    Int,
+}
+
 /// What a field, a local or a result holds.
 #[derive(Clone, Copy, Debug, PartialEq, Eq)]
 pub enum Value {
@@ -37,11 +44,40 @@ pub enum Value {
     Ref(Oid),
 }
 
+impl Value {
+    /// The object that a value leads to. Neither a number nor null leads to one.
+    pub fn referred(self) -> Option<Oid>
+        ensures { result ≡ referred self }
+    {
+        match self {
+            Value::Ref(oid) => Some(oid),
+            _ => None,
+        }
+    }
+
+    /// Whether it is a number of this width.
+    pub fn is_number_of(self, width: Width) -> bool
+        ensures exact { IsTrue result ↔ IsNumberOf width self }
+        ensures computed { result ≡ is_number_of width self }
+    {
+        match (width, self) {
+            (Width::Int, Value::Int(_)) => true,
+            (Width::Int, Value::Null | Value::Ref(_)) => false,
+        }
+    }
+}
+
 /// An object: the number of its class, and its fields in the class's order.
-#[derive(Debug, Drop)]
+#[derive(Debug)]
 pub struct Object {
     pub class: u16,
     pub fields: Seq<Value>,
+}
+
+impl Drop for Object {
+    fn drop(self) {
+        let Object { class, fields } = self;
+    }
 }
 
 impl Object {
@@ -53,6 +89,14 @@ impl Object {
             class: self.class,
             fields: Seq::from_slice(alloc, self.fields.as_slice())?,
         })
+    }
+
+    /// The fields, without taking memory.
+    pub fn into_fields(self) -> Seq<Value>
+        ensures { result ≡ self.fields }
+    {
+        let Object { class: _, fields } = self;
+        fields
     }
 }
 

@@ -7,9 +7,15 @@ use std::marker::Model;
 pub type NoMemory = AllocError;
 
 /// A list, over a `Vec`. Contracts see it as its elements in order.
-#[derive(Debug, Drop)]
+#[derive(Debug)]
 pub struct Seq<T> {
     items: Vec<T>,
+}
+
+impl<T: Drop> Drop for Seq<T> {
+    fn drop(self) {
+        let Seq { items } = self;
+    }
 }
 
 impl<T> Model for Seq<T> {

@@ -1,17 +1,19 @@
 -- Numbers and literals, part by part.
-use Rattle.std.proofs.Common.{◌≡◌, ℕ, ℤ, pos, IsTrue, List, [], ◌∷◌, ◌++◌, length, Some, refl, sym, ap, subst, ◌∙◌, append_assoc, arith}
+use Rattle.std.proofs.Common.{◌≡◌, ℕ, pos, IsTrue, List, [], ◌∷◌, ◌++◌, length, Some, refl, sym, ap, subst, ◌∙◌, append_assoc, arith}
 use Rattle.fab_base.specs.declared.token.Mark.TheVariants as m
 use Rattle.fab_base.specs.declared.token.Kind.{Kind}
 use Rattle.fab_base.specs.declared.token.Kind.TheVariants as k
 use Rattle.fab_base.specs.declared.token.Token.{Token}
 use Rattle.fab_tree.specs.declared.name.Name.{Name}
+use Rattle.fab_tree.specs.declared.expression.Number.{Number}
+use Rattle.fab_tree.specs.declared.expression.Number.TheVariants as numbers
 use Rattle.fab_tree.specs.declared.start.Literal.{Literal}
 use Rattle.fab_tree.specs.declared.start.Literal.TheVariants as literals
 use Rattle.fab_tree.specs.declared.start.Given.{Given}
 use Rattle.fab_reading.specs.declared.refusal.Refusal.{Refusal}
 use Rattle.fab_reading.specs.declared.refusal.Refusal.TheVariants as refusal
 use Rattle.fab_tree.specs.Depth.{room_by, room_after}
-use Rattle.fab_tree.specs.Lists.{Is, is, IsName, name, IsNumeral, numeral, minus}
+use Rattle.fab_tree.specs.Lists.{Is, is, IsName, name, IsNumeral, numeral, IsNumber, int, least_int, minus}
 use Rattle.fab_tree.specs.Runs.{IsNegated, negative, least, IsLiteral, number, negated, null, root, IsGiven, given}
 use Rattle.fab_reading.specs.Reading.{Lacks, Starts, Read, Refused, Deep, Stops, SameHead, Follows, any, begins_name, begins_numeral, begins_negated, begins_literal}
 use Rattle.fab_bundle.specs.Firsts.{numeral_begins, negated_begins, literal_begins}
@@ -32,37 +34,38 @@ numeral_text = (record { kind = k.Number 0; at = 0; end = 0 } ∷ [], 0, λ afte
 pub numeral_refused : {room : ℕ} (a : List Token) → (Starts begins_numeral a → ⊥) → Refused IsNumeral any room a (length a)
 numeral_refused a none = here begins_numeral numeral_begins numeral_text none
 
-negated_only : {n : ℕ} {t : Token} {more after : List Token} {v : ℤ} → t.kind ≡ k.Number n → IsNegated (t ∷ more) v after → (v ≡ minus n) × (after ≡ more)
-negated_only e (negative p) = let x = numeral_only e p in (ap minus x.0, x.1)
-negated_only e (least g) = absurd (cc)
+negated_only : {n : ℕ} {t : Token} {more after : List Token} {v : Number} → t.kind ≡ k.Number n → IsNegated (t ∷ more) v after → (v ≡ numbers.Int (minus n)) × (after ≡ more)
+negated_only e (negative p) = let x = numeral_only e p in (ap (λ y. numbers.Int (minus y)) x.0, x.1)
+negated_only e (least (least_int g)) = absurd (cc)
 
-least_only : {t : Token} {more after : List Token} {v : ℤ} → t.kind ≡ k.Least → IsNegated (t ∷ more) v after → (v ≡ minus 2147483648) × (after ≡ more)
+least_only : {t : Token} {more after : List Token} {v : Number} → t.kind ≡ k.Least → IsNegated (t ∷ more) v after → (v ≡ numbers.Int (minus 2147483648)) × (after ≡ more)
 least_only e (negative (numeral g h)) = absurd (cc)
-least_only e (least g) = (refl, refl)
+least_only e (least (least_int g)) = (refl, refl)
 
 -- a number behind a minus sign
-pub negative_read : {room n : ℕ} {a b : List Token} → IsNumeral a n b → Read IsNegated any room a (minus n) b
-negative_read {room = room} (numeral e h) = leaf refl (ap (λ x. room_by x room) e) (λ more. negative (numeral e h)) (λ more v after d. negated_only e d)
-
-pub least_read : {room : ℕ} {a b : List Token} {t : Token} → a ≡ t ∷ b → t.kind ≡ k.Least → Read IsNegated any room a (minus 2147483648) b
-least_read {room = room} cut e = leaf cut (ap (λ x. room_by x room) e) (λ more. least e) (λ more v after d. least_only e d)
+pub negated_read : {room : ℕ} {a b : List Token} {n : Number} → IsNegated a n b → Read IsNegated any room a n b
+negated_read {room = room} (negative (numeral e h)) = leaf refl (ap (λ x. room_by x room) e) (λ more. negative (numeral e h)) (λ more v after d. negated_only e d)
+negated_read {room = room} (least (least_int e)) = leaf refl (ap (λ x. room_by x room) e) (λ more. least (least_int e)) (λ more v after d. least_only e d)
 
 pub negated_text : HasText IsNegated
-negated_text = (record { kind = k.Least; at = 0; end = 0 } ∷ [], minus 2147483648, λ after. least refl)
+negated_text = (record { kind = k.Least; at = 0; end = 0 } ∷ [], numbers.Int (minus 2147483648), λ after. least (least_int refl))
+
+pub negated_refused : {room : ℕ} (a : List Token) → (Starts begins_negated a → ⊥) → Refused IsNegated any room a (length a)
+negated_refused a none = here begins_negated negated_begins negated_text none
 
 -- ---- literals
 
-number_only : {n : ℕ} {t : Token} {more after : List Token} {v : Literal} → t.kind ≡ k.Number n → IsLiteral (t ∷ more) v after → (v ≡ literals.Int (pos n)) × (after ≡ more)
-number_only e (number p) = let x = numeral_only e p in (ap (λ y. literals.Int (pos y)) x.0, x.1)
+number_only : {n : ℕ} {t : Token} {more after : List Token} {v : Literal} → t.kind ≡ k.Number n → IsLiteral (t ∷ more) v after → (v ≡ literals.Number (numbers.Int (pos n))) × (after ≡ more)
+number_only e (number (int p)) = let x = numeral_only e p in (ap (λ y. literals.Number (numbers.Int (pos y))) x.0, x.1)
 number_only e (negated (is g) p) = absurd (cc)
 number_only e (null (is g)) = absurd (cc)
 number_only e (root (name g)) = absurd (cc)
 
-pub number_read : {room n : ℕ} {a b : List Token} → IsNumeral a n b → Read IsLiteral any room a (literals.Int (pos n)) b
-number_read {room = room} (numeral e h) = leaf refl (ap (λ x. room_by x room) e) (λ more. number (numeral e h)) (λ more v after d. number_only e d)
+pub number_read : {room : ℕ} {a b : List Token} {n : Number} → IsNumber a n b → Read IsLiteral any room a (literals.Number n) b
+number_read {room = room} (int (numeral e h)) = leaf refl (ap (λ x. room_by x room) e) (λ more. number (int (numeral e h))) (λ more v after d. number_only e d)
 
 null_only : {t : Token} {more after : List Token} {v : Literal} → t.kind ≡ k.Fixed m.Null → IsLiteral (t ∷ more) v after → (v ≡ literals.Null) × (after ≡ more)
-null_only e (number (numeral g h)) = absurd (cc)
+null_only e (number (int (numeral g h))) = absurd (cc)
 null_only e (negated (is g) p) = absurd (cc)
 null_only e (null (is g)) = (refl, refl)
 null_only e (root (name g)) = absurd (cc)
@@ -71,17 +74,17 @@ pub null_read : {room : ℕ} {a b : List Token} → Is m.Null a b → Read IsLit
 null_read {room = room} (is e) = leaf refl (ap (λ x. room_by x room) e) (λ more. null (is e)) (λ more v after d. null_only e d)
 
 negated_back : {t : Token} {a : List Token} {v : Literal} {b : List Token} → t.kind ≡ k.Fixed m.Minus → IsLiteral (t ∷ a) v b
-    → (x : ℤ) × (v ≡ literals.Int x) × IsNegated a x b
-negated_back e (number (numeral g h)) = absurd (cc)
+    → (x : Number) × (v ≡ literals.Number x) × IsNegated a x b
+negated_back e (number (int (numeral g h))) = absurd (cc)
 negated_back e (negated {n = n} (is g) p) = (n, refl, p)
 negated_back e (null (is g)) = absurd (cc)
 negated_back e (root (name g)) = absurd (cc)
 
-pub negated_start : {room : ℕ} {a c : List Token} → Is m.Minus a c → Going IsLiteral any room a IsNegated literals.Int room c
-negated_start i = behind_mark (λ at. literals.Int) i refl (λ t e more v after p. negated (is e) p) (λ t e more u after d h. negated_back e d)
+pub negated_start : {room : ℕ} {a c : List Token} → Is m.Minus a c → Going IsLiteral any room a IsNegated literals.Number room c
+negated_start i = behind_mark (λ at. literals.Number) i refl (λ t e more v after p. negated (is e) p) (λ t e more u after d h. negated_back e d)
 
 named_back : {a : List Token} {v : Literal} {b : List Token} → Starts begins_name a → IsLiteral a v b → (y : Name) × (v ≡ literals.Root y) × IsName a y b
-named_back s (number (numeral g h)) = absurd (never (subst (λ x. IsTrue (begins_name x)) g s))
+named_back s (number (int (numeral g h))) = absurd (never (subst (λ x. IsTrue (begins_name x)) g s))
 named_back s (negated (is g) p) = absurd (never (subst (λ x. IsTrue (begins_name x)) g s))
 named_back s (null (is g)) = absurd (never (subst (λ x. IsTrue (begins_name x)) g s))
 named_back s (root {x = y} p) = (y, refl, p)
@@ -107,18 +110,6 @@ no_literal_starts (t ∷ ts) i g h j l = no_literal_begins t.kind i (λ e. g ts 
 pub literal_refused : {room : ℕ} (a : List Token) → (Starts begins_numeral a → ⊥) → Lacks m.Minus a → Lacks m.Null a → (Starts begins_name a → ⊥) → Refused IsLiteral any room a (length a)
 literal_refused a i g h j = here begins_literal literal_begins literal_text (no_literal_starts a i g h j)
 
-no_negated_begins : (x : Kind) → (IsTrue (begins_numeral x) → ⊥) → (x ≡ k.Least → ⊥) → IsTrue (begins_negated x) → ⊥
-no_negated_begins (k.Number n) i g l = i l
-no_negated_begins k.Least i g l = g refl
-no_negated_begins _ i g l = never l
-
-no_negated_starts : (a : List Token) → (Starts begins_numeral a → ⊥) → ((t : Token) (ts : List Token) → a ≡ t ∷ ts → t.kind ≡ k.Least → ⊥) → Starts begins_negated a → ⊥
-no_negated_starts [] i g l = l
-no_negated_starts (t ∷ ts) i g l = no_negated_begins t.kind i (g t ts refl) l
-
-pub negated_refused : {room : ℕ} (a : List Token) → (Starts begins_numeral a → ⊥) → ((t : Token) (ts : List Token) → a ≡ t ∷ ts → t.kind ≡ k.Least → ⊥) → Refused IsNegated any room a (length a)
-negated_refused a i g = here begins_negated negated_begins negated_text (no_negated_starts a i g)
-
 -- ---- literals with their places
 
 abbrev pub given_at : ℕ → Literal → Given
@@ -131,7 +122,7 @@ literal_of : {a b : List Token} {v : Given} → IsGiven a v b → IsLiteral a v.
 literal_of (given p) = p
 
 no_literal : {x : Literal} {b : List Token} → IsLiteral [] x b → ⊥
-no_literal (number p) = elim p [ ]
+no_literal (number (int p)) = elim p [ ]
 no_literal (negated i p) = elim i [ ]
 no_literal (null i) = elim i [ ]
 no_literal (root p) = elim p [ ]

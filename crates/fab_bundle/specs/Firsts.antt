@@ -1,5 +1,5 @@
 -- What each rule of a run begins with.
-use Rattle.std.proofs.Common.{ℕ, ℤ, ◌<◌, nat_lt, IsTrue, List, refl, sym, subst}
+use Rattle.std.proofs.Common.{ℕ, ◌<◌, nat_lt, IsTrue, List, refl, sym, subst}
 use Rattle.std.proofs.lemmas.Bool.{lt-ltb}
 use Rattle.fab_base.specs.declared.token.Mark.TheVariants as m
 use Rattle.fab_base.specs.declared.token.Token.{Token}
@@ -12,7 +12,8 @@ use Rattle.fab_tree.specs.declared.start.Given.{Given}
 use Rattle.fab_tree.specs.declared.start.Root.{Root}
 use Rattle.fab_tree.specs.declared.start.RequestText.{RequestText}
 use Rattle.fab_tree.specs.declared.start.Session.{Session}
-use Rattle.fab_tree.specs.Lists.{is, name, IsNumeral, numeral, Ended, ended}
+use Rattle.fab_tree.specs.declared.expression.Number.{Number}
+use Rattle.fab_tree.specs.Lists.{is, name, IsNumeral, numeral, int, least_int, Ended, ended}
 use Rattle.fab_tree.specs.Runs.{IsNegated, negative, least, IsLiteral, number, negated, null, root, IsGiven, given, IsRoot}
 use Rattle.fab_tree.specs.Runs.{IsRequest, request, IsSession, session, IsPost, IsCrash, IsStep, begin, resume, deliver, idle, recover}
 use Rattle.fab_tree.specs.Runs.{IsEvent, step, crash_in, post, crash}
@@ -25,12 +26,12 @@ small n h = lt-ltb n 2147483648 h
 pub numeral_begins : (a : List Token) (v : ℕ) (b : List Token) → IsNumeral a v b → Starts begins_numeral a
 numeral_begins a v b (numeral e h) = subst (λ x. IsTrue (begins_numeral x)) (sym e) (small v h)
 
-pub negated_begins : (a : List Token) (v : ℤ) (b : List Token) → IsNegated a v b → Starts begins_negated a
+pub negated_begins : (a : List Token) (v : Number) (b : List Token) → IsNegated a v b → Starts begins_negated a
 negated_begins a v b (negative (numeral {n = n} e h)) = subst (λ x. IsTrue (begins_negated x)) (sym e) (small n h)
-negated_begins a v b (least e) = subst (λ x. IsTrue (begins_negated x)) (sym e) refl
+negated_begins a v b (least (least_int e)) = subst (λ x. IsTrue (begins_negated x)) (sym e) refl
 
 pub literal_begins : (a : List Token) (v : Literal) (b : List Token) → IsLiteral a v b → Starts begins_literal a
-literal_begins a v b (number (numeral {n = n} e h)) = subst (λ x. IsTrue (begins_literal x)) (sym e) (small n h)
+literal_begins a v b (number (int (numeral {n = n} e h))) = subst (λ x. IsTrue (begins_literal x)) (sym e) (small n h)
 literal_begins a v b (negated (is e) p) = subst (λ x. IsTrue (begins_literal x)) (sym e) refl
 literal_begins a v b (null (is e)) = subst (λ x. IsTrue (begins_literal x)) (sym e) refl
 literal_begins a v b (root (name e)) = subst (λ x. IsTrue (begins_literal x)) (sym e) refl

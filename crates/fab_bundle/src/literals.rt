@@ -1,33 +1,19 @@
 //! Literals: what fields of roots and arguments of requests are given.
-ghost use Rattle.std.specs.Prelude.{◌≡◌, ◌<◌, ◌↔◌, IsTrue, MatchResult};
-ghost use Rattle.fab_tree.specs.Lists.{minus};
+ghost use Rattle.std.specs.Prelude.{◌↔◌, IsTrue, MatchResult};
 ghost use Rattle.fab_tree.specs.Runs.{IsNegated, IsLiteral, IsGiven};
 ghost use Rattle.fab_reading.specs.Reading.{Read, Stops, Starts, any, begins_literal};
 
 use fab_base::{Kind, Mark, Token};
-use fab_reading::{
-    Item, Refusal, behind, behind_least, name, next, numeral, positive, starts_name,
-};
-use fab_tree::{Given, Literal};
+use fab_reading::{Item, Refusal, behind, name, negative, next, number, starts_name};
+use fab_tree::{Given, Literal, Number};
 use std::alloc::Global;
 
-/// A number of 31 bits behind a minus sign.
-fn negative(number: u32) -> i32
-    requires { number < 2147483648 }
-    ensures { result ≡ minus number }
-{
-    -positive(number)
-}
-
 /// The number behind a minus sign.
-fn negated(tokens: &[Token], room: u8) -> Result<(i32, &[Token]), Refusal>
+fn negated(tokens: &[Token], room: u8) -> Result<(Number, &[Token]), Refusal>
     ensures { MatchResult result (λ x. Read IsNegated any room tokens.now x.0 x.1.now) (λ e. Stops IsNegated any room tokens.now e) }
 {
-    if let Some((number, rest)) = numeral(tokens) {
-        return Ok((negative(number), rest));
-    }
-    match behind_least(tokens) {
-        Some(rest) => Ok((i32::MIN, rest)),
+    match negative(tokens) {
+        Some((number, rest)) => Ok((number, rest)),
         None => Err(Refusal::Syntax { left: tokens.len() }),
     }
 }
@@ -36,12 +22,12 @@ fn negated(tokens: &[Token], room: u8) -> Result<(i32, &[Token]), Refusal>
 fn literal(alloc: Global, tokens: &[Token], room: u8) -> Result<(Literal, &[Token]), Refusal>
     ensures { MatchResult result (λ x. Read IsLiteral any room tokens.now x.0 x.1.now) (λ e. Stops IsLiteral any room tokens.now e) }
 {
-    if let Some((number, rest)) = numeral(tokens) {
-        return Ok((Literal::Int(positive(number)), rest));
+    if let Some((number, rest)) = number(tokens) {
+        return Ok((Literal::Number(number), rest));
     }
     if let Some(rest) = behind(tokens, Mark::Minus) {
         let (number, rest) = negated(rest, room)?;
-        return Ok((Literal::Int(number), rest));
+        return Ok((Literal::Number(number), rest));
     }
     if let Some(rest) = behind(tokens, Mark::Null) {
         return Ok((Literal::Null, rest));

@@ -121,7 +121,7 @@ fn room_after_expression(room: usize, expression: &Expression) -> Option<usize>
     match &expression.form {
         Form::Number(_) | Form::Null | Form::Local(_) => Some(room),
         Form::Read { .. } => room.checked_sub(1),
-        Form::Negative(operand) | Form::Not(operand) => room_after_expression(room, operand.get()),
+        Form::Unary { operand, .. } => room_after_expression(room, operand.get()),
         Form::Chain { first, others } => {
             let left = room_after_expression(room, first.get())?;
             room_after_operands(left, others.as_slice())

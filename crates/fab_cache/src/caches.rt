@@ -11,11 +11,17 @@ use std::marker::Model;
 
 /// Of each store the objects that were put last, with their versions, the oldest first, each name
 /// once. Contracts see the caches, and how many objects one keeps at most.
-#[derive(Debug, Drop)]
+#[derive(Debug)]
 pub struct Caches {
     alloc: Global,
     k: u32,
     caches: Vec<Seq<(Oid, u32, Object)>>,
+}
+
+impl Drop for Caches {
+    fn drop(self) {
+        let Caches { alloc, k, caches } = self;
+    }
 }
 
 impl Model for Caches {

@@ -1,6 +1,7 @@
 -- What an expression reads and owes, by its form.
-use Rattle.std.proofs.Common.{◌≡◌, ◌⊎◌, inl, inr, ℤ, ℕ, refl, sym, ap, ◌∙◌, List, [], ◌∷◌, ◌++◌, map, Option}
+use Rattle.std.proofs.Common.{◌≡◌, ◌⊎◌, inl, inr, ℕ, refl, sym, ap, ◌∙◌, List, [], ◌∷◌, ◌++◌, map, Option}
 use Rattle.std.specs.List.{flat_map}
+use Rattle.fab_tree.specs.declared.expression.Number.{Number}
 use Rattle.fab_tree.specs.declared.expression.Comparison.{Comparison}
 use Rattle.fab_tree.specs.declared.resolved.Expression.{Expression, fold-roll-Expression, roll-out-Expression, out-Expression}
 use Rattle.fab_tree.specs.declared.resolved.Form.{Form, fold-roll-Form, fold-Form}
@@ -76,7 +77,7 @@ module _ (classes : List Class) (locals : List Local) where
 
   -- a form that reads nothing behind a local owes nothing
   pub number_owes : (x : Expression) (pc : List ℕ) (failure : Option ℕ)
-      → ((n : ℤ) × ((out-Expression x).form ≡ kinds.Number n)) ⊎ (((out-Expression x).form ≡ kinds.Null) ⊎ ((u : Use) × ((out-Expression x).form ≡ kinds.Local u)))
+      → ((n : Number) × ((out-Expression x).form ≡ kinds.Number n)) ⊎ (((out-Expression x).form ≡ kinds.Null) ⊎ ((u : Use) × ((out-Expression x).form ≡ kinds.Local u)))
       → (part classes locals x).owes pc failure ≡ []
   number_owes x pc failure (inl (n, is)) = ap (λ (p : Part). p.owes pc failure) (by_form x ∙ ap in_form (is ∙ sym (kinds.rolls-Number n)) ∙ fold-roll-Form Part Part Tail (form_step classes locals) (λ e. e.form) (λ u. record { operator = u.operator; at = u.at; part = u.operand }) (parts.Number n))
   number_owes x pc failure (inr (inl is)) = ap (λ (p : Part). p.owes pc failure) (by_form x ∙ ap in_form (is ∙ sym kinds.rolls-Null) ∙ fold-roll-Form Part Part Tail (form_step classes locals) (λ e. e.form) (λ u. record { operator = u.operator; at = u.at; part = u.operand }) parts.Null)

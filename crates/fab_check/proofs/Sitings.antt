@@ -1,7 +1,8 @@
 -- The labels of sites, gathered part by part.
-use Rattle.std.proofs.Common.{◌≡◌, ◌⊎◌, inl, inr, ℤ, ℕ, refl, sym, ap, ◌∙◌, List, [], ◌∷◌, ◌++◌, map, append_assoc}
+use Rattle.std.proofs.Common.{◌≡◌, ◌⊎◌, inl, inr, ℕ, refl, sym, ap, ◌∙◌, List, [], ◌∷◌, ◌++◌, map, append_assoc}
 use Rattle.std.specs.List.{flat_map}
 use Rattle.std.proofs.lemmas.List.{append-nil, map-append}
+use Rattle.fab_tree.specs.declared.expression.Number.{Number}
 use Rattle.fab_tree.specs.declared.expression.Comparison.{Comparison}
 use Rattle.fab_tree.specs.declared.resolved.Use.{Use}
 use Rattle.fab_tree.specs.declared.resolved.Class.{Class}
@@ -76,7 +77,7 @@ compared_sites x e g c is =
 
 -- a form that holds no site
 pub no_form_sites : (x : Expression)
-    → ((n : ℤ) × ((out-Expression x).form ≡ kinds.Number n)) ⊎ (((out-Expression x).form ≡ kinds.Null) ⊎ ((u : Use) × ((out-Expression x).form ≡ kinds.Local u)))
+    → ((n : Number) × ((out-Expression x).form ≡ kinds.Number n)) ⊎ (((out-Expression x).form ≡ kinds.Null) ⊎ ((u : Use) × ((out-Expression x).form ≡ kinds.Local u)))
     → sites_in x ≡ []
 unfolding in_form
 no_form_sites x (inl (n, is)) = by_form x ∙ ap in_form (is ∙ sym (kinds.rolls-Number n)) ∙ fold-roll-Form (List ℕ) (List ℕ) (List ℕ) form_sites (λ e. e.form) (λ u. u.operand) (parts.Number n)

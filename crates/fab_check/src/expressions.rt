@@ -66,9 +66,7 @@ pub(crate) fn note_expression(
     match &expression.form {
         Form::Number(_) | Form::Null | Form::Local(_) => Ok(()),
         Form::Read { object, .. } => note_reaching(verdicts, names, under, *object),
-        Form::Negative(operand) | Form::Not(operand) => {
-            note_expression(verdicts, names, under, operand.get())
-        }
+        Form::Unary { operand, .. } => { note_expression(verdicts, names, under, operand.get()) }
         Form::Chain { first, others } => {
             note_expression(verdicts, names, under, first.get())?;
             note_operands(verdicts, names, under, others.as_slice())

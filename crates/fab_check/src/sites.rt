@@ -32,9 +32,7 @@ fn put_expression(
     match &expression.form {
         Form::Number(_) | Form::Null | Form::Local(_) => Ok(()),
         Form::Read { .. } => put_site(alloc, out, pc),
-        Form::Negative(operand) | Form::Not(operand) => {
-            put_expression(alloc, out, pc, operand.get())
-        }
+        Form::Unary { operand, .. } => { put_expression(alloc, out, pc, operand.get()) }
         Form::Chain { first, others } => {
             put_expression(alloc, out, pc, first.get())?;
             put_operands(alloc, out, pc, others.as_slice())

@@ -3,7 +3,7 @@ use Rattle.std.specs.Prelude.{◌≡◌, ℕ, suc, ◌+◌, ◌<◌, ◌≤◌, 
 use Rattle.std.specs.List.{AllByRecursion}
 use Rattle.std.proofs.Common.{refl, sym, ap, ◌∙◌, subst, arith, append-nil}
 use Rattle.std.proofs.lemmas.List.{length-append, length-map, map-append, reverse-append}
-use Rattle.fab_base.specs.JournalSpelling.{header_bytes}
+use Rattle.fab_base.specs.JournalSpelling.{header_bytes, journal_version}
 use Rattle.fab_base.proofs.Lists.{all_append}
 use Rattle.fab_world.specs.Machine.{at_start}
 use Rattle.fab_node.specs.Standing.{GivenModel, JournalModel, NodeModel}
@@ -39,11 +39,11 @@ headed_on g n old new slot more stands h =
     one : (s : Option NodeModel) → SlotStands g (at_start (setting g)) n s → AreFor IsHeaded (cond (is_honest g n) (n ∷ []) []) (journals_in (s ∷ []))
     one None barred = subst (λ b. AreFor IsHeaded (cond b (n ∷ []) []) []) (sym barred) tt
     one (Some x) (honest, number, is) =
-        let content = is.journal.content_is refl ∙ append-nil _ ∙ append-nil (header_bytes 1 x.number) in
-        let synced = is.journal.synced_is refl ∙ ap length (append-nil (header_bytes 1 x.number)) in
+        let content = is.journal.content_is refl ∙ append-nil _ ∙ append-nil (header_bytes journal_version x.number) in
+        let synced = is.journal.synced_is refl ∙ ap length (append-nil (header_bytes journal_version x.number)) in
         subst (λ b. AreFor IsHeaded (cond b (n ∷ []) []) (x.journal ∷ [])) (sym honest) (
           record {
-            content_is = content ∙ ap (header_bytes 1) number;
+            content_is = content ∙ ap (header_bytes journal_version) number;
             synced_is = synced ∙ ap length (sym content);
           },
           tt,

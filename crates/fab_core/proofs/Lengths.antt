@@ -6,11 +6,11 @@ use Rattle.fab_base.specs.declared.entry.Entry.{Entry}
 use Rattle.fab_base.specs.declared.entry.Entry.TheVariants as entries
 use Rattle.fab_base.specs.declared.message.Message.TheVariants.{Prepare}
 use Rattle.fab_base.specs.FieldSpelling.{KeepsItems}
-use Rattle.fab_base.specs.JournalSpelling.{record_bytes, version_behind, IsEntry}
+use Rattle.fab_base.specs.JournalSpelling.{record_bytes, version_behind, IsEntry, journal_version}
 use Rattle.fab_wire.proofs.Lengths.{items_le}
 use Rattle.fab_wire.proofs.MessageLaws.{can_be_encoded}
 use Rattle.fab_journal.specs.Lengths.{record_length}
-use Rattle.fab_journal.proofs.Journals.{version_stays}
+use Rattle.fab_journal.proofs.Lengths.{same_length}
 use Rattle.fab_journal.proofs.Lengths.{length-record, result_le}
 use Rattle.fab_net.specs.declared.note.Step.{Step}
 use Rattle.fab_world.specs.Workers.{Act}
@@ -23,7 +23,7 @@ use Rattle.fab_node.specs.Deeds.{IsPlanFor, IsPlanOf, entry_in}
 use Rattle.fab_node.specs.Standing.{GivenModel, NodeModel}
 use Rattle.fab_core.specs.Telling.{length_in}
 
-small : (e : Entry) → IsEntry 1 e → record_length e < 2 ^ 32
+small : (e : Entry) → IsEntry journal_version e → record_length e < 2 ^ 32
 small (entries.Decided tid request result stores) fits = omega (arith, result_le result, fits.body.3.count)
 small (entries.Closed request outcome node) fits = omega arith
 small (entries.Boot boot) fits = omega arith
@@ -36,19 +36,19 @@ small (entries.Released tid) fits = omega arith
 small (entries.BootSeen worker boot) fits = omega arith
 
 -- a record's length fits a number
-record_small : (e : Entry) → IsEntry 1 e → length (record_bytes 1 e) < 2 ^ 32
-record_small e fits = subst (λ n. n < 2 ^ 32) (sym (length-record 1 e)) (small e fits)
+record_small : (e : Entry) → IsEntry journal_version e → length (record_bytes journal_version e) < 2 ^ 32
+record_small e fits = subst (λ n. n < 2 ^ 32) (sym (length-record journal_version e)) (small e fits)
 
 -- ---- plans
 
 planned_bytes : (g : GivenModel) (x : Node) (act : Act) (n : ℕ) (role : Role) (plan : NodePlan) → IsPlanOf g x act n role plan
-    → entry_in plan ≡ option_map (record_bytes 1) act.entry
-planned_bytes g x act n role (plans.Begins notes) h = sym (ap (λ (a : Act). option_map (record_bytes 1) a.entry) h.act_is)
+    → entry_in plan ≡ option_map (record_bytes journal_version) act.entry
+planned_bytes g x act n role (plans.Begins notes) h = sym (ap (λ (a : Act). option_map (record_bytes journal_version) a.entry) h.act_is)
 planned_bytes g x act n role (plans.Store plan) h = ap (λ (s : Step). s.entry) h.step
 planned_bytes g x act n role (plans.Worker plan) h = ap (λ (s : Step). s.entry) h.plan_is.step
 planned_bytes g x act n role (plans.Wakes new keep step) h = ap (λ (s : Step). s.entry) h.step_is
 
-twice : (o : Option Entry) → option_map length (option_map (record_bytes 1) o) ≡ option_map (λ entry. length (record_bytes 1 entry)) o
+twice : (o : Option Entry) → option_map length (option_map (record_bytes journal_version) o) ≡ option_map (λ entry. length (record_bytes journal_version entry)) o
 twice None = refl
 twice (Some entry) = refl
 
@@ -57,7 +57,7 @@ pub planned_length : (g : GivenModel) (x : Node) (act : Act) (node : NodeModel) 
     → option_map length (entry_in plan) ≡ length_in act
 planned_length g x act node plan h = ap (option_map length) (planned_bytes g x act node.number node.role plan h.is) ∙ twice act.entry
 
-small_by : (o : Option Entry) → ((entry : Entry) → o ≡ Some entry → IsEntry 1 entry) → IfSome (option_map (record_bytes 1) o) (λ bytes. length bytes < 2 ^ 32)
+small_by : (o : Option Entry) → ((entry : Entry) → o ≡ Some entry → IsEntry journal_version entry) → IfSome (option_map (record_bytes journal_version) o) (λ bytes. length bytes < 2 ^ 32)
 small_by None h = tt
 small_by (Some entry) h = record_small entry (h entry refl)
 
@@ -74,27 +74,27 @@ module _ (S : Setting) (w : World) (keep : ℕ) (e : Inner) where
   cuts_never h = ap (λ b. b && is_some (act S w e).entry && nat_le keep (length (record_at S w e))) h
 
   by_entry : (o : Option Entry) → (act S w e).entry ≡ o
-      → enabled S w (Cuts keep e) ≡ may S w e && is_some o && nat_le keep (length (record_behind (w.node (node_of e)).entries o))
-  by_entry o h = ap (λ x. may S w e && is_some x && nat_le keep (length (record_behind (w.node (node_of e)).entries x))) h
+      → enabled S w (Cuts keep e) ≡ may S w e && is_some o && nat_le keep (length (record_behind (w.node (node_of e)).first (w.node (node_of e)).entries o))
+  by_entry o h = ap (λ x. may S w e && is_some x && nat_le keep (length (record_behind (w.node (node_of e)).first (w.node (node_of e)).entries x))) h
 
-  unrecorded_by : (o : Option Entry) → (act S w e).entry ≡ o → option_map (λ entry. length (record_bytes 1 entry)) o ≡ None → enabled S w (Cuts keep e) ≡ false
-  unrecorded_by None h n = by_entry None h ∙ ap (λ b. b && nat_le keep (length (record_behind (w.node (node_of e)).entries None))) (and_right (may S w e) false refl)
+  unrecorded_by : (o : Option Entry) → (act S w e).entry ≡ o → option_map (λ entry. length (record_bytes journal_version entry)) o ≡ None → enabled S w (Cuts keep e) ≡ false
+  unrecorded_by None h n = by_entry None h ∙ ap (λ b. b && nat_le keep (length (record_behind (w.node (node_of e)).first (w.node (node_of e)).entries None))) (and_right (may S w e) false refl)
   unrecorded_by (Some entry) h n = absurd (cc)
 
   -- nor one that writes no record
   pub cuts_unrecorded : length_in (act S w e) ≡ None → enabled S w (Cuts keep e) ≡ false
   cuts_unrecorded n = unrecorded_by (act S w e).entry refl n
 
-  recorded_by : (o : Option Entry) (len : ℕ) → (act S w e).entry ≡ o → may S w e ≡ true → option_map (λ entry. length (record_bytes 1 entry)) o ≡ Some len
+  recorded_by : (o : Option Entry) (len : ℕ) → (act S w e).entry ≡ o → may S w e ≡ true → option_map (λ entry. length (record_bytes journal_version entry)) o ≡ Some len
       → enabled S w (Cuts keep e) ≡ nat_le keep len
   recorded_by None len h can n = absurd (cc)
   recorded_by (Some entry) len h can n =
       by_entry (Some entry) h
-      ∙ ap (λ b. b && true && nat_le keep (length (record_bytes (version_behind 1 (w.node (node_of e)).entries) entry))) can
-      ∙ ap (λ v. nat_le keep (length (record_bytes v entry))) (version_stays 1 (w.node (node_of e)).entries)
+      ∙ ap (λ b. b && true && nat_le keep (length (record_bytes (version_behind (w.node (node_of e)).first (w.node (node_of e)).entries) entry))) can
+      ∙ ap (nat_le keep) (same_length entry (version_behind (w.node (node_of e)).first (w.node (node_of e)).entries) journal_version)
       ∙ ap (nat_le keep) (some_length n)
     where
-      some_length : Some (length (record_bytes 1 entry)) ≡ Some len → length (record_bytes 1 entry) ≡ len
+      some_length : Some (length (record_bytes journal_version entry)) ≡ Some len → length (record_bytes journal_version entry) ≡ len
       some_length n = cc
 
   -- another may be cut to any front of its record

@@ -2,7 +2,7 @@
 use Rattle.std.specs.Prelude.{◌≡◌, ◌≤◌, ◌==◌, ℕ, Bool, true, false, IsTrue, List, [], ◌∷◌, map, length, Option, Some, None, IsSome, IfSome, is_some, option_map, unwrap_or}
 use Rattle.std.proofs.Common.{refl, sym, ap, ◌∙◌, subst, true≢false}
 use Rattle.fab_base.specs.declared.entry.Entry.{Entry}
-use Rattle.fab_base.specs.JournalSpelling.{record_bytes}
+use Rattle.fab_base.specs.JournalSpelling.{record_bytes, journal_version}
 use Rattle.fab_base.specs.MessageSpelling.{spelled}
 use Rattle.fab_net.specs.declared.event.Inner.{Inner}
 use Rattle.fab_net.specs.declared.event.Inner.TheVariants as i
@@ -22,13 +22,13 @@ sends_are g x act node (plans.Store plan) p = ap (λ (s : Step). s.sends) p.is.s
 sends_are g x act node (plans.Worker plan) p = ap (λ (s : Step). s.sends) p.is.plan_is.step
 sends_are g x act node (plans.Wakes role keep step) p = ap (λ (s : Step). s.sends) p.is.step_is
 
-pub entry_is : (g : GivenModel) (x : Node) (act : Act) (node : NodeModel) (plan : NodePlan) → IsPlanFor g x act node plan → entry_in plan ≡ option_map (record_bytes 1) act.entry
-entry_is g x act node (plans.Begins notes) p = sym (ap (λ (a : Act). option_map (record_bytes 1) a.entry) p.is.act_is)
+pub entry_is : (g : GivenModel) (x : Node) (act : Act) (node : NodeModel) (plan : NodePlan) → IsPlanFor g x act node plan → entry_in plan ≡ option_map (record_bytes journal_version) act.entry
+entry_is g x act node (plans.Begins notes) p = sym (ap (λ (a : Act). option_map (record_bytes journal_version) a.entry) p.is.act_is)
 entry_is g x act node (plans.Store plan) p = ap (λ (s : Step). s.entry) p.is.step
 entry_is g x act node (plans.Worker plan) p = ap (λ (s : Step). s.entry) p.is.plan_is.step
 entry_is g x act node (plans.Wakes role keep step) p = ap (λ (s : Step). s.entry) p.is.step_is
 
-some_by : (o : Option Entry) → is_some (option_map (record_bytes 1) o) ≡ is_some o
+some_by : (o : Option Entry) → is_some (option_map (record_bytes journal_version) o) ≡ is_some o
 some_by None = refl
 some_by (Some entry) = refl
 
@@ -67,12 +67,12 @@ plan_calls g e bytes x node (plans.Wakes role keep step) p h = recovers_calls g 
 
 -- ---- a record that is cut
 
-some_record : (o : Option (List ℕ)) (entry : Option Entry) → o ≡ option_map (record_bytes 1) entry → is_some entry ≡ true → IsSome o
+some_record : (o : Option (List ℕ)) (entry : Option Entry) → o ≡ option_map (record_bytes journal_version) entry → is_some entry ≡ true → IsSome o
 some_record None None e h = absurd (true≢false (sym h))
 some_record None (Some entry) e h = absurd (cc)
 some_record (Some bytes) entry e h = refl
 
-long_record : (o : Option (List ℕ)) (entry : Option Entry) (keep : ℕ) → o ≡ option_map (record_bytes 1) entry → keep ≤ length (unwrap_or (option_map (record_bytes 1) entry) [])
+long_record : (o : Option (List ℕ)) (entry : Option Entry) (keep : ℕ) → o ≡ option_map (record_bytes journal_version) entry → keep ≤ length (unwrap_or (option_map (record_bytes journal_version) entry) [])
     → IfSome o (λ bytes. keep ≤ length bytes)
 long_record None entry keep e h = tt
 long_record (Some bytes) entry keep e h = subst (λ z. keep ≤ length (unwrap_or z [])) (sym e) h

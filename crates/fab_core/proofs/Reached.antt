@@ -10,11 +10,11 @@ use Rattle.fab_net.specs.declared.event.Inner.{Inner}
 use Rattle.fab_net.specs.declared.event.Inner.TheVariants as i
 use Rattle.fab_rights.specs.Computed.{is_node, is_worker, nodes_in}
 use Rattle.fab_protocol.specs.Stores.{says, asks}
-use Rattle.fab_world.specs.Machine.{Setting, World, Node, Move, Form, Does, Cuts, Fails, Posts, Crashes, Never, form_of, with_at, node_of, act, ready, acted}
+use Rattle.fab_world.specs.Machine.{Setting, World, Move, Form, Does, Cuts, Fails, Posts, Crashes, Never, form_of, with_at, node_of, act, ready, acted}
 use Rattle.fab_world.specs.Machine.{at_start, at_node, sends_out, bytes_to, waiting_for, lands, cut, down, posted, step, steps, may, enabled, is_running, is_empty}
 use Rattle.fab_world.specs.Machine.{is_idle, is_evaluating, is_settled, lacks, rest_of, hears, are_enabled, runs, logged, shelf, kept, parts, of_store}
 use Rattle.fab_world.specs.Serial.{attempts, attempts_at, commit_in}
-use Rattle.fab_world.specs.Workers.{Attempt, Act, fresh, takes, wakes}
+use Rattle.fab_world.specs.Workers.{Attempt, Act, takes, wakes}
 use Rattle.fab_integrity.proofs.Worlds.{at_same, at_other}
 use Rattle.fab_integrity.proofs.Counts.{Counted, counted_start, counted_step}
 
@@ -25,17 +25,13 @@ at_any f n y m P here there = elim (cases_eq m n) [
   | inr ne ↦ subst P (sym (at_other f n y m ne)) (there ne)
 ]
 
--- the nodes of a world at the start
-abbrev pub resting : Node
-resting = record { entries = []; torn = []; attempt = fresh; up = true; failed = false }
-
 module _ (S : Setting) where
   abbrev pub is_honest_in : ℕ → Bool
   is_honest_in n = is_node S.rights n && not (S.hostile n)
 
-  -- a number that is no honest node's has no records and no attempt, and hostile nodes alone have posted
+  -- a number that is no honest node's is as at the start, without records and without an attempt, and hostile nodes alone have posted
   pub record IsReached (w : World) : Type 0 where
-    pub strangers : (n : ℕ) → IsFalse (is_honest_in n) → w.node n ≡ resting
+    pub strangers : (n : ℕ) → IsFalse (is_honest_in n) → w.node n ≡ (at_start S).node n
     pub posts : (h : ℕ) → S.hostile h ≡ false → w.posts h ≡ S.posts h
 
   -- ---- an event that may come is of an honest node

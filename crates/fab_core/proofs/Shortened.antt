@@ -4,7 +4,7 @@ use Rattle.std.proofs.Common.{refl, sym, ap, ◌∙◌, subst, arith}
 use Rattle.std.proofs.lemmas.Bool.{and_parts}
 use Rattle.std.proofs.lemmas.Bool.Decides.{nat_tests}
 use Rattle.fab_base.specs.declared.entry.Entry.{Entry}
-use Rattle.fab_base.specs.JournalSpelling.{record_bytes}
+use Rattle.fab_base.specs.JournalSpelling.{record_bytes, journal_version}
 use Rattle.fab_journal.proofs.Journals.{version_stays}
 use Rattle.fab_net.specs.declared.event.Inner.{Inner}
 use Rattle.fab_net.specs.declared.event.Event.TheVariants as events
@@ -30,9 +30,10 @@ use Rattle.fab_core.proofs.Tables.{bytes_same}
 use Rattle.fab_core.proofs.Wholly.{calls_by, lost_by, own}
 
 -- a record's bytes are the same behind whatever records
-record_same : (entries : List Entry) (entry : Option Entry) → record_behind entries entry ≡ unwrap_or (option_map (record_bytes 1) entry) []
-record_same entries None = refl
-record_same entries (Some entry) = ap (λ version. record_bytes version entry) (version_stays 1 entries)
+record_same : (first : ℕ) (entries : List Entry) (entry : Option Entry) → first ≡ journal_version
+    → record_behind first entries entry ≡ unwrap_or (option_map (record_bytes journal_version) entry) []
+record_same first entries None begun = refl
+record_same first entries (Some entry) begun = ap (λ version. record_bytes version entry) (version_stays first entries ∙ begun)
 
 whole_by : (b : Bool) (act : Act) → is_some (step_if b act) ≡ b
 whole_by true act = refl
@@ -69,7 +70,9 @@ module _ (g : GivenModel) (nodes : List (Option NodeModel)) (queues : Network) (
     act_is = is_deed g w e ∙ ap (deed g (w.node (node_of e)) e) (bytes_same S w queues e core.stands.queue ∙ sym delivered)
 
     record_is : record_at S w e ≡ record_in deed_here
-    record_is = record_same (w.node (node_of e)).entries (act S w e).entry ∙ ap record_in act_is
+    record_is =
+        record_same (w.node (node_of e)).first (w.node (node_of e)).entries (act S w e).entry (own g nodes queues places log core e may_be).stands.begun
+        ∙ ap record_in act_is
 
     pub has_record : HasRecordAt g e bytes keep nodes
     has_record =

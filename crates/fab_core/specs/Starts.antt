@@ -2,7 +2,7 @@
 use Rattle.std.specs.Prelude.{◌≡◌, ◌<◌, ℕ, zero, suc, ◌+◌, Bool, false, IsTrue, List, [], ◌∷◌, ◌++◌, map, length, take, Option, if◌then◌else◌}
 use Rattle.std.specs.List.{AllByRecursion}
 use Rattle.fab_base.specs.Faults.{Rose}
-use Rattle.fab_base.specs.JournalSpelling.{header_bytes}
+use Rattle.fab_base.specs.JournalSpelling.{header_bytes, journal_version}
 use Rattle.fab_language.specs.Evaluation.{map_at_start}
 use Rattle.fab_tree.specs.declared.resolved.Resolved.{Resolved}
 use Rattle.fab_rights.specs.declared.rights.Rights.{Rights}
@@ -46,12 +46,12 @@ pub record AreBack (g : GivenModel) (node : ℕ) (old new : List (ℕ × Bool)) 
 -- ---- what journals hold where the header of one couldn't be written
 
 pub record HoldsHeader (n : ℕ) (content : List ℕ) (synced : ℕ) : Type 0 where
-  pub content_is : content ≡ header_bytes 1 n
+  pub content_is : content ≡ header_bytes journal_version n
   pub synced_is : synced ≡ length content
 
 pub record HoldsFront (n : ℕ) (content : List ℕ) (synced : ℕ) : Type 0 where
   pub many : ℕ
-  pub content_is : content ≡ take many (header_bytes 1 n)
+  pub content_is : content ≡ take many (header_bytes journal_version n)
   pub synced_is : synced ≡ 0
 
 pub record HoldsNothing (content : List ℕ) (synced : ℕ) : Type 0 where

@@ -1,5 +1,10 @@
 //! All nodes together, one event at a time.
 
+ghost use Rattle.std.specs.Prelude.{◌≡◌, map};
+ghost use Rattle.fab_core.specs.Telling.{those_in};
+
+use crate::reading::journals_of;
+use fab_base::Seq;
 use fab_device::Journal;
 use fab_net::Logged;
 use fab_node::{Given, Node};
@@ -10,7 +15,6 @@ use std::marker::Model;
 /// All nodes of a bundle, their journals, the messages between them, and the log of a run from the
 /// start. Honest nodes stand at their numbers; hostile ones run no code here. A vector without
 /// journals has places for all of them, so that they are handed back without taking memory.
-#[derive(Drop)]
 pub struct Core<J: Journal> {
     pub(crate) alloc: Global,
     pub(crate) given: Given,
@@ -19,6 +23,20 @@ pub struct Core<J: Journal> {
     pub(crate) places: Vec<usize>,
     pub(crate) log: Vec<Logged>,
     pub(crate) spare: Vec<J>,
+}
+
+impl<J: Journal + Drop> Drop for Core<J> {
+    fn drop(self) {
+        let Core {
+            alloc,
+            given,
+            nodes,
+            queues,
+            places,
+            log,
+            spare,
+        } = self;
+    }
 }
 
 impl<J: Journal> Model for Core<J> {
@@ -40,4 +58,23 @@ impl<J: Journal> Model for Core<J> {
     } };
 
     ghost invariant = { λ c. IsCore c.given c.nodes.items c.queues c.places.items c.log.items × HasPlaces c.nodes.items (length c.spare.items) (vec_capacity c.spare) };
+}
+
+impl<J: Journal + Drop> Core<J> {
+    /// The journals of the honest nodes, in the order of their numbers. It takes no memory.
+    pub fn into_journals(self) -> Seq<J>
+        ensures { map (λ journal. record { content = J.content journal; synced = J.synced journal; room = J.room journal; faults = J.faults journal; sure = J.sure journal }) result
+            ≡ those_in self.journals }
+    {
+        let Core {
+            alloc: _,
+            given: _,
+            nodes,
+            queues: _,
+            places: _,
+            log: _,
+            spare,
+        } = self;
+        Seq::from_vec(journals_of(nodes, spare))
+    }
 }

@@ -7,7 +7,7 @@ ghost use Rattle.fab_tree.specs.declared.start.Start.{Start};
 ghost use Rattle.fab_language.specs.Numbers.{resolved};
 ghost use Rattle.fab_settings.specs.Settings.{IsAcceptedWith, is_hostile_node};
 ghost use Rattle.fab_core.specs.Cores.{HasPlaces, count_in, is_honest as is_honest_in};
-ghost use Rattle.fab_base.specs.JournalSpelling.{header_bytes as header_of};
+ghost use Rattle.fab_base.specs.JournalSpelling.{header_bytes as header_of, journal_version};
 ghost use Rattle.fab_device.specs.Devices.{JournalCause, KeepsSure};
 ghost use Rattle.fab_device.specs.declared.traits.JournalError.TheVariants.{Failed as JournalFault, Memory as Wanting};
 ghost use Rattle.fab_core.specs.declared.refused.CoreRefused.TheVariants.{Journal as JournalFailed, Memory as WantsMemory};
@@ -58,7 +58,7 @@ fn start_journal<J: Journal>(
     journal: &mut J,
 ) -> Result<(), JournalError>
     requires { J.content journal.old ≡ [] }
-    ensures content { OnOk result (J.content journal.new ≡ header_of 1 number) }
+    ensures content { OnOk result (J.content journal.new ≡ header_of journal_version number) }
     ensures synced { OnOk result (J.synced journal.new ≡ length (J.content journal.new)) }
     ensures failed { IsErrOf result JournalFault → HoldsFront number (J.content journal.new) (J.synced journal.new) }
     ensures memory { IsErrOf result Wanting → J.content journal.new ≡ [] }

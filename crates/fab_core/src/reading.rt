@@ -92,7 +92,7 @@ pub(crate) fn put_journal<J: Journal + Drop>(journals: &mut Vec<J>, slot: Option
 }
 
 /// The journals of nodes, in their order, in a vector that has a place for each.
-fn journals_of<J: Journal + Drop>(nodes: Vec<Option<Node<J>>>, places: Vec<J>) -> Vec<J>
+pub(crate) fn journals_of<J: Journal + Drop>(nodes: Vec<Option<Node<J>>>, places: Vec<J>) -> Vec<J>
     requires { HasPlaces nodes.items (length places.items) (vec_capacity places) }
     ensures { map (λ journal. record { content = J.content journal; synced = J.synced journal; room = J.room journal; faults = J.faults journal; sure = J.sure journal }) result.items
         ≡ map (λ node. node.journal) (those_in nodes.items) }
@@ -166,16 +166,5 @@ impl<J: Journal> Core<J> {
             Some(node) => node.journal(),
             None => unreachable!(),
         }
-    }
-}
-
-impl<J: Journal + Drop> Core<J> {
-    /// The journals of the honest nodes, in the order of their numbers. It takes no memory.
-    pub fn into_journals(self) -> Seq<J>
-        ensures { map (λ journal. record { content = J.content journal; synced = J.synced journal; room = J.room journal; faults = J.faults journal; sure = J.sure journal }) result
-            ≡ those_in self.journals }
-    {
-        let Core { nodes, spare, .. } = self;
-        Seq::from_vec(journals_of(nodes, spare))
     }
 }

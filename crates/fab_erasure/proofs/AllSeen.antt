@@ -1,11 +1,11 @@
 -- With everything seen and nothing given the erased meaning is the meaning: nothing is blanked, so each form does what it means.
-use Rattle.std.proofs.Common.{◌≡◌, ℕ, zero, suc, List, [], ◌∷◌, ◌++◌, Option, Some, None, Bool, true, not, ◌&&◌, pos, ◌-ℤ◌, if◌then◌else◌, map, drop, length, refl, ap}
+use Rattle.std.proofs.Common.{◌≡◌, ℕ, zero, suc, List, [], ◌∷◌, ◌++◌, Option, Some, None, Bool, true, ◌&&◌, if◌then◌else◌, map, drop, length, refl, ap}
 use Rattle.std.proofs.Common.{◌∙◌, subst}
 use Rattle.std.specs.Prelude.{slice_get, unwrap_or}
 use Rattle.std.specs.List.{list_all}
 use Rattle.fab_base.specs.declared.object.Tid.{Tid}
 use Rattle.fab_base.specs.declared.object.Value.{Value}
-use Rattle.fab_base.specs.declared.object.Value.TheVariants.{Int, Null, Ref}
+use Rattle.fab_base.specs.declared.object.Value.TheVariants.{Null}
 use Rattle.fab_base.specs.declared.object.Stop.TheVariants.{Depth}
 use Rattle.fab_base.specs.FlatMap.{FlatMap}
 use Rattle.fab_tree.specs.declared.expression.Operator.{Operator}
@@ -25,13 +25,14 @@ use Rattle.fab_tree.specs.declared.resolved.Method.{Method}
 use Rattle.fab_tree.specs.declared.resolved.Request.{Request}
 use Rattle.fab_tree.specs.declared.resolved.Resolved.{Resolved}
 use Rattle.fab_labelling.specs.Obligations.{class_of_local, label_of_local, label_of_class}
-use Rattle.fab_language.specs.Meaning.{stopped, Run, goes, ends, M, and_then, gives, ◌>>=◌, ◌>>◌, charge, local, assign, read, write, create, noted_down, wrapped}
-use Rattle.fab_language.specs.Meaning.{int_of, truth, holds, compares, operate, chained, form_step}
+use Rattle.fab_language.specs.Meaning.{stopped, Run, goes, ends, M, and_then, gives, ◌>>=◌, ◌>>◌, charge, local, assign, read, write, create, noted_down, applied}
+use Rattle.fab_language.specs.Meaning.{truth, holds, compares, operate, chained, form_step}
 use Rattle.fab_language.specs.Meaning.{form_value, operand_value, value, values, in_order, loop, right, statement_step, block, returned, back_with, entered, called}
 use Rattle.fab_language.specs.Meaning.{meant_by, meaning, state_at_start, locals_at_start, default}
 use Rattle.fab_erasure.specs.Erased as erase
 use Rattle.fab_erasure.specs.Erased.{Part, part_of, shown_if}
 use Rattle.fab_erasure.proofs.ErasedForms as erased
+use Rattle.fab_tree.specs.Numbers.{number_value}
 
 abbrev every : ℕ → Bool
 every n = true
@@ -62,14 +63,10 @@ part_whole : (b : Bool) (m : M Value) → b ≡ true → part_of b m ≡ whole m
 part_whole b m e = ap (λ c. part_of c m) e ∙ part_seen m
 
 reads : (site field : ℕ) (v : Value) → erase.read_shown every every site field v ≡ read site field v
-reads site field (Int n) = refl
-reads site field Null = refl
-reads site field (Ref o) = refl
+reads site field v = refl
 
 writes : (site field : ℕ) (v w : Value) → erase.write_shown every every site field v w ≡ write site field v w
-writes site field v (Int n) = refl
-writes site field v Null = refl
-writes site field v (Ref o) = refl
+writes site field v w = refl
 
 -- ---- expressions
 
@@ -100,7 +97,7 @@ module _ (classes : List Class) (locals : List Local) where
   -- over parts that are whole
   whole_step : (y : f.Form-F (M Value) (M Value) (Operator × M Value))
       → step (map-Form (M Value) (M Value) (Operator × M Value) Part Part (Operator × Part) whole whole whole_operand y) ≡ whole (form_step y)
-  whole_step (f.Number n) = part_seen (gives (Int n))
+  whole_step (f.Number n) = part_seen (gives (number_value n))
   whole_step f.Null = part_seen (gives Null)
   whole_step (f.Local x) =
       let labels = label_of_local (slice_get locals x.number) in
@@ -110,8 +107,7 @@ module _ (classes : List Class) (locals : List Local) where
       let more = label_of_class (class_of_local classes (slice_get locals x.number)) in
       part_whole (list_all every labels && list_all every more) (local x.number >>= erase.read_shown every every site field) (both_every labels more)
       ∙ (λ i. whole (local x.number >>= λ v. reads site field v i))
-  whole_step (f.Negative m) = part_seen (m >>= λ v. gives (wrapped (pos 0 -ℤ int_of v)))
-  whole_step (f.Not m) = part_seen (m >>= λ v. gives (truth (not (holds v))))
+  whole_step (f.Unary o m) = part_seen (m >>= λ v. gives (applied o v))
   whole_step (f.Chain m others) =
       let runs = map (λ (u : Operator × Part). (u.0, u.1.run)) (map whole_operand others) in
       part_whole (list_all (λ (u : Operator × Part). u.1.seen) (map whole_operand others)) (m >>= chained operate runs) (all_whole others)
@@ -153,8 +149,7 @@ module _ (classes : List Class) (locals : List Local) where
   by_form f.Null = whole_step f.Null
   by_form (f.Local x) = whole_step (f.Local x)
   by_form (f.Read x field site) = whole_step (f.Read x field site)
-  by_form (f.Negative k) = (λ i. step (f.Negative (k.1 i))) ∙ whole_step (f.Negative (value k.0))
-  by_form (f.Not k) = (λ i. step (f.Not (k.1 i))) ∙ whole_step (f.Not (value k.0))
+  by_form (f.Unary o k) = (λ i. step (f.Unary o (k.1 i))) ∙ whole_step (f.Unary o (value k.0))
   by_form (f.Chain k others) = (λ i. step (f.Chain (k.1 i) (operands others i))) ∙ whole_step (f.Chain (value k.0) (map operand_value (bare others)))
   by_form (f.Compared k comparison l) = (λ i. step (f.Compared (k.1 i) comparison (l.1 i))) ∙ whole_step (f.Compared (value k.0) comparison (value l.0))
 

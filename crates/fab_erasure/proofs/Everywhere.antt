@@ -9,7 +9,7 @@ use Rattle.std.proofs.lemmas.Bool.{and_from}
 use Rattle.fab_base.specs.declared.object.Tid.{Tid}
 use Rattle.fab_base.specs.declared.object.Stop.TheVariants.{Depth}
 use Rattle.fab_base.specs.declared.object.Value.{Value}
-use Rattle.fab_base.specs.declared.object.Value.TheVariants.{Int, Null, Ref}
+use Rattle.fab_base.specs.declared.object.Value.TheVariants.{Null, Ref}
 use Rattle.fab_tree.specs.declared.expression.Operator.{Operator}
 use Rattle.fab_tree.specs.declared.resolved.Class.{Class}
 use Rattle.fab_tree.specs.declared.resolved.Local.{Local}
@@ -29,13 +29,16 @@ use Rattle.fab_labelling.specs.Obligations as ob
 use Rattle.fab_labelling.specs.Obligations.{Tail, under, label_of_local, label_of_class, class_of_local}
 use Rattle.fab_labelling.specs.Sites as sites
 use Rattle.fab_labelling.specs.Sites.{Sited, all_under, form_sites, sites_in, all_sites, right_sites, return_sites, statement_sites, sited, block_sites, method_sites}
-use Rattle.fab_language.specs.Meaning.{stopped, ends, M, gives, ◌>>=◌, ◌>>◌, charge, local, assign, read, write, noted_down, holds, operate, chained, in_order, loop}
+use Rattle.fab_language.specs.Meaning.{stopped, ends, M, gives, ◌>>=◌, ◌>>◌, charge, local, assign, read, write, noted_down, holds, operate, chained, in_order, loop, led}
 use Rattle.fab_language.specs.Meaning.{atomically}
 use Rattle.fab_laws.proofs.Everywhere as all
 use Rattle.fab_laws.proofs.Everywhere.{OfReads, OfSteps, Anywhere}
 use Rattle.fab_erasure.specs.Erased as erase
 use Rattle.fab_erasure.specs.Erased.{Part, part_of, shown_if}
 use Rattle.fab_erasure.proofs.Views.{all_append, split_left, split_right, under_seen}
+use Rattle.fab_base.specs.Values.{referred}
+use Rattle.fab_base.specs.declared.object.Oid.{Oid}
+use Rattle.fab_tree.specs.Numbers.{number_value}
 
 -- ---- what a law shows: beside the steps of the meaning, that a given value is taken
 
@@ -62,9 +65,11 @@ module _ (K : (A : Type 0) → M A → Type 0) (Spot : ℕ → Type 0) (sees sho
 
   module _ (of : OfReads K Spot shows) (classes : List Class) (ls : List Local) where
     read_one : (site field : ℕ) (v : Value) → Spot site → K Value (erase.read_shown sees shows site field v)
-    read_one site field (Int n) at = of.fell
-    read_one site field Null at = of.fell
-    read_one site field (Ref o) at = choose (shows o.class) (read site field (Ref o)) (gives Null) (λ e. of.got site field o at e) (of.given Null)
+    read_one site field v at = by (referred v)
+      where
+        by : (o : Option Oid) → K Value (led o (λ p. if shows p.class then read site field (Ref p) else gives Null))
+        by None = of.fell
+        by (Some o) = choose (shows o.class) (read site field (Ref o)) (gives Null) (λ e. of.got site field o at e) (of.given Null)
 
     -- a part is seen by the labels of what is read
     pub record Calm (p : Part) (labels ns : List ℕ) : Type 0 where
@@ -151,7 +156,7 @@ module _ (K : (A : Type 0) → M A → Type 0) (Spot : ℕ → Type 0) (sees sho
         (step (map-Form Form Expression Operand Part Part (Operator × Part) form_part part operand_part (in_form y)))
         (owed_step (map-Form Form Expression Operand ob.Part ob.Part Tail form_owed owed_by operand_owed (in_form y))).labels
         (form_sites (map-Form Form Expression Operand (List ℕ) (List ℕ) (List ℕ) sites_in_form sites_in sites_in_operand (in_form y)))
-    by_form (f.Number k) = calm true (gives (Int k)) [] [] refl (λ at. of.given (Int k))
+    by_form (f.Number k) = calm true (gives (number_value k)) [] [] refl (λ at. of.given (number_value k))
     by_form f.Null = calm true (gives Null) [] [] refl (λ at. of.given Null)
     by_form (f.Local i) =
         let labels = label_of_local (slice_get ls i.number) in
@@ -162,8 +167,7 @@ module _ (K : (A : Type 0) → M A → Type 0) (Spot : ℕ → Type 0) (sees sho
         calm (list_all sees labels && list_all sees more) (local i.number >>= erase.read_shown sees shows site field) (labels ++ more) (site ∷ [])
         (sym (all_append sees labels more))
         (λ at. of.bound (local i.number) (erase.read_shown sees shows site field) (of.named i.number) (λ v. read_one site field v at.0))
-    by_form (f.Negative k) = calm (part k.0).seen _ (owed_by k.0).labels (sites_in k.0) k.1.seen_is (λ at. of.bound (part k.0).run _ (k.1.by at) (λ v. of.given _))
-    by_form (f.Not k) = calm (part k.0).seen _ (owed_by k.0).labels (sites_in k.0) k.1.seen_is (λ at. of.bound (part k.0).run _ (k.1.by at) (λ v. of.given _))
+    by_form (f.Unary o k) = calm (part k.0).seen _ (owed_by k.0).labels (sites_in k.0) k.1.seen_is (λ at. of.bound (part k.0).run _ (k.1.by at) (λ v. of.given _))
     by_form (f.Chain k others) =
         calm ((part k.0).seen && all_seen others) ((part k.0).run >>= chained operate (runs_of others)) ((owed_by k.0).labels ++ labels_of_all others)
         (sites_in k.0 ++ sites_of_all others)
@@ -260,9 +264,11 @@ module _ (K : (A : Type 0) → M A → Type 0) (Spot : ℕ → Type 0) (sees sho
     one_value e at = (expressions reads classes ls e).by at
 
     write_one : (site field : ℕ) (v w : Value) → Spot site → K (Unit {0}) (erase.write_shown sees shows site field v w)
-    write_one site field v (Int n) at = reads.fell
-    write_one site field v Null at = reads.fell
-    write_one site field v (Ref o) at = choose (shows o.class) (write site field v (Ref o)) (gives tt) (λ e. of.steps.wrote site field v o at e) (reads.given tt)
+    write_one site field v w at = by (referred w)
+      where
+        by : (o : Option Oid) → K (Unit {0}) (led o (λ p. if shows p.class then write site field v (Ref p) else gives tt))
+        by None = reads.fell
+        by (Some o) = choose (shows o.class) (write site field v (Ref o)) (gives tt) (λ e. of.steps.wrote site field v o at e) (reads.given tt)
 
     abbrev down : Value → ℕ → ℕ → Value → M Value
     down = erase.downgraded sees shows classes ls

@@ -1,5 +1,5 @@
 -- Expressions: at a place that is seen the erased one follows the full one; at a hidden place nothing that is in view changes.
-use Rattle.std.proofs.Common.{◌≡◌, ℕ, zero, suc, List, [], ◌∷◌, ◌++◌, Option, Some, None, Bool, true, false, not, ◌&&◌, ◌==◌, ℤ, pos, negsuc, ◌-ℤ◌, if◌then◌else◌, map, refl, sym, ap, ◌∙◌, subst, true≢false, arith}
+use Rattle.std.proofs.Common.{◌≡◌, ℕ, zero, suc, List, [], ◌∷◌, ◌++◌, Option, Some, None, Bool, true, false, ◌&&◌, ◌==◌, ℤ, pos, negsuc, if◌then◌else◌, map, refl, sym, ap, ◌∙◌, subst, true≢false, arith}
 use Rattle.std.specs.Prelude.{slice_get, unwrap_or}
 use Rattle.std.specs.List.{list_all, flat_map, AllByRecursion}
 use Rattle.std.proofs.lemmas.Bool.{and_parts, and_from}
@@ -9,6 +9,7 @@ use Rattle.fab_base.specs.declared.object.Oid.{Oid}
 use Rattle.fab_base.specs.declared.object.Object.{Object}
 use Rattle.fab_base.specs.declared.object.Value.{Value}
 use Rattle.fab_base.specs.declared.object.Value.TheVariants.{Int, Null, Ref}
+use Rattle.fab_base.specs.declared.object.Width.TheVariants as widths
 use Rattle.fab_tree.specs.declared.expression.Operator.{Operator}
 use Rattle.fab_tree.specs.declared.expression.Operator.TheVariants.{Or, And, Add, Subtract, Multiply, Divide}
 use Rattle.fab_tree.specs.declared.resolved.Use.{Use}
@@ -25,7 +26,7 @@ use Rattle.fab_labelling.specs.Obligations as ob
 use Rattle.fab_labelling.specs.Obligations.{Owed, Tail, all_flow, all_fail, division, label_of_local, label_of_class, class_of_sort, class_of_local}
 use Rattle.fab_labelling.specs.declared.rule.LabelRule.{LabelRule}
 use Rattle.fab_labelling.specs.Sites.{form_sites, sites_in, all_sites}
-use Rattle.fab_language.specs.Meaning.{State, Run, goes, ends, M, and_then, gives, ◌>>=◌, local, read, access, field_of, int_of, holds, wrapped, truth, compares, operate, quotient, chained, form_step, value}
+use Rattle.fab_language.specs.Meaning.{State, Run, goes, ends, M, and_then, gives, ◌>>=◌, local, read, access, field_of, int_of, holds, truth, compares, operate, quotient, chained, form_step, value, applied}
 use Rattle.fab_laws.specs.Runs.{state_behind}
 use Rattle.fab_laws.specs.Kinds.{Kind, kind_of_sort}
 use Rattle.fab_laws.specs.Shapes.{suits, AllSuit, IsShaped}
@@ -39,6 +40,7 @@ use Rattle.fab_erasure.proofs.Grows as grow
 use Rattle.fab_erasure.proofs.Near as n
 use Rattle.fab_erasure.proofs.Near.{Sight, Whatever, kinds_of, Match, both_go, both_fail, both_miss, miss, cut, Hidden, went, fell}
 use Rattle.fab_erasure.proofs.Steps as steps
+use Rattle.fab_tree.specs.Numbers.{number_value}
 
 -- the failure label is seen, if there is one
 abbrev pub IsSeenFailure : (ℕ → Bool) → Option ℕ → Type 0
@@ -99,7 +101,7 @@ module _ (sees shows : ℕ → Bool) (program : Resolved) where
   class_by (x ∷ xs) (v ∷ vs) zero o h e = of_sort x.sort (subst (λ w. suits (kind_of_sort x.sort) w ≡ true) e h.0)
     where
       of_sort : (sort : Sort) → suits (kind_of_sort sort) (Ref o) ≡ true → class_of_sort program.classes sort ≡ slice_get program.classes o.class
-      of_sort sorts.Int k = absurd (true≢false (sym k))
+      of_sort (sorts.Number widths.Int) k = absurd (true≢false (sym k))
       of_sort (sorts.Class c) k = ap (slice_get program.classes) (sym (same_number o.class c.number k))
 
   -- an object of a class that isn't there has no fields
@@ -543,14 +545,12 @@ module _ (sight : Sight) (view : IsLabelled sight.sees sight.shows sight.program
       (step (map-Form Form Expression Operand Part Part (Operator × Part) form_part part operand_part (in_form y)))
       (owed_step (map-Form Form Expression Operand ob.Part ob.Part Tail form_owed owed_by operand_owed (in_form y)))
       (form_sites (map-Form Form Expression Operand (List ℕ) (List ℕ) (List ℕ) sites_in_form sites_in sites_in_operand (in_form y)))
-  by_form (f.Number k) = follows true (gives (Int k)) (gives (Int k)) _ [] (constant (Int k))
+  by_form (f.Number k) = follows true (gives (number_value k)) (gives (number_value k)) _ [] (constant (number_value k))
   by_form f.Null = follows true (gives Null) (gives Null) _ [] (constant Null)
   by_form (f.Local x) = follows _ (local x.number) (local x.number) _ [] (a_local x)
   by_form (f.Read x field site) = follows _ _ _ _ (site ∷ []) (a_read x field site)
-  by_form (f.Negative k) = follows (part k.0).seen _ _ (owed_by k.0) (sites_in k.0)
-      (one_more (value k.0) (part k.0) (owed_by k.0) (sites_in k.0) (λ v. wrapped (pos 0 -ℤ int_of v)) k.1)
-  by_form (f.Not k) = follows (part k.0).seen _ _ (owed_by k.0) (sites_in k.0)
-      (one_more (value k.0) (part k.0) (owed_by k.0) (sites_in k.0) (λ v. truth (not (holds v))) k.1)
+  by_form (f.Unary o k) = follows (part k.0).seen _ _ (owed_by k.0) (sites_in k.0)
+      (one_more (value k.0) (part k.0) (owed_by k.0) (sites_in k.0) (applied o) k.1)
   by_form (f.Chain k others) = follows _ _ _ _ _ (a_chain k others)
   by_form (f.Compared k comparison l) =
       follows _ _ _ _ _ (two_more (value k.0) (value l.0) (part k.0) (part l.0) (owed_by k.0) (owed_by l.0) (sites_in k.0) (sites_in l.0)

@@ -1,9 +1,9 @@
 -- Touches and downgraded values are only ever noted behind those before, by what is done erased, too.
-use Rattle.std.proofs.Common.{ℕ, List, [], ◌∷◌, Option, Bool, if◌then◌else◌, map, refl}
+use Rattle.std.proofs.Common.{ℕ, List, [], ◌∷◌, Option, Bool, if◌then◌else◌, map, refl, Some, None}
 use Rattle.std.specs.List.{flat_map}
 use Rattle.fab_base.specs.declared.object.Tid.{Tid}
 use Rattle.fab_base.specs.declared.object.Value.{Value}
-use Rattle.fab_base.specs.declared.object.Value.TheVariants.{Int, Null, Ref}
+use Rattle.fab_base.specs.declared.object.Value.TheVariants.{Null, Ref}
 use Rattle.fab_tree.specs.declared.expression.Operator.{Operator}
 use Rattle.fab_tree.specs.declared.resolved.Class.{Class}
 use Rattle.fab_tree.specs.declared.resolved.Local.{Local}
@@ -15,7 +15,7 @@ use Rattle.fab_tree.specs.declared.resolved.Right.{Right}
 use Rattle.fab_tree.specs.declared.resolved.Statement.{Statement}
 use Rattle.fab_tree.specs.declared.resolved.Resolved.{Resolved}
 use Rattle.fab_labelling.specs.Sites.{sites_in, right_sites, return_sites, block_sites, method_sites}
-use Rattle.fab_language.specs.Meaning.{M, gives, write, operate, chained}
+use Rattle.fab_language.specs.Meaning.{M, gives, write, operate, chained, led}
 use Rattle.fab_laws.specs.Runs.{state_behind}
 use Rattle.fab_laws.proofs.Everywhere as all
 use Rattle.fab_laws.proofs.Everywhere.{Anywhere}
@@ -26,6 +26,8 @@ use Rattle.fab_erasure.specs.Erased.{Part, taken}
 use Rattle.fab_erasure.proofs.ErasedForms.{operand_part}
 use Rattle.fab_erasure.proofs.Everywhere as everywhere
 use Rattle.fab_erasure.proofs.Everywhere.{OfErased, nowhere}
+use Rattle.fab_base.specs.Values.{referred}
+use Rattle.fab_base.specs.declared.object.Oid.{Oid}
 
 pub grows_given : (blank : Value) → Grows (erase.take_given blank)
 grows_given blank t = by_given t.given
@@ -39,10 +41,11 @@ Grow A m = Grows {A = A} m
 
 module _ (sees shows : ℕ → Bool) where
   pub grows_write_shown : (site field : ℕ) (v w : Value) → Grows (erase.write_shown sees shows site field v w)
-  grows_write_shown site field v (Int n) t = as_long t t refl refl
-  grows_write_shown site field v Null t = as_long t t refl refl
-  grows_write_shown site field v (Ref o) t =
-      grows_cond (shows o.class) (write site field v (Ref o)) (gives tt) (grows_write site field v (Ref o)) (λ u. as_long u u refl refl) t
+  grows_write_shown site field v w = by (referred w)
+    where
+      by : (o : Option Oid) → Grows (led o (λ p. if shows p.class then write site field v (Ref p) else gives tt))
+      by None t = as_long t t refl refl
+      by (Some o) t = grows_cond (shows o.class) (write site field v (Ref o)) (gives tt) (grows_write site field v (Ref o)) (λ u. as_long u u refl refl) t
 
   pub grows_downgraded : (classes : List Class) (ls : List Local) (blank : Value) (from to : ℕ) (v : Value)
       → Grows (erase.downgraded sees shows classes ls blank from to v)

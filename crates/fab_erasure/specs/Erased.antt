@@ -7,8 +7,9 @@ use Rattle.std.specs.Prelude.{ℕ, zero, suc, Bool, true, false, not, ◌&&◌, 
 use Rattle.std.specs.List.{list_all}
 use Rattle.fab_base.specs.declared.object.Tid.{Tid}
 use Rattle.fab_base.specs.declared.object.Value.{Value}
-use Rattle.fab_base.specs.declared.object.Value.TheVariants.{Int, Null, Ref}
+use Rattle.fab_base.specs.declared.object.Value.TheVariants.{Null, Ref}
 use Rattle.fab_base.specs.FlatMap.{FlatMap}
+use Rattle.fab_base.specs.Values.{referred}
 use Rattle.fab_tree.specs.declared.expression.Operator.{Operator}
 use Rattle.fab_tree.specs.declared.resolved.Use.{Use}
 use Rattle.fab_tree.specs.declared.resolved.Class.{Class}
@@ -24,8 +25,9 @@ use Rattle.fab_tree.specs.declared.resolved.Returns.{Returns}
 use Rattle.fab_tree.specs.declared.resolved.Method.{Method}
 use Rattle.fab_tree.specs.declared.resolved.Resolved.{Resolved}
 use Rattle.fab_tree.specs.declared.resolved.Request.{Request}
-use Rattle.fab_language.specs.Meaning.{State, Run, goes, ends, failed, stopped, M, gives, ◌>>=◌, ◌>>◌, charge, local, assign, read, write, create, noted_down}
-use Rattle.fab_language.specs.Meaning.{negated, truth, holds, compares, operate, chained, in_order, loop, atomically, default, back_with, Meant, meant_by, state_at_start}
+use Rattle.fab_tree.specs.Numbers.{number_value}
+use Rattle.fab_language.specs.Meaning.{State, Run, goes, ends, failed, stopped, M, gives, ◌>>=◌, ◌>>◌, charge, local, assign, led, read, write, create, noted_down}
+use Rattle.fab_language.specs.Meaning.{applied, truth, holds, compares, operate, chained, in_order, loop, atomically, default, back_with, Meant, meant_by, state_at_start}
 use Rattle.fab_base.specs.declared.object.Stop.TheVariants.{Depth}
 use Rattle.fab_labelling.specs.Obligations.{class_of_local, label_of_local, label_of_class}
 
@@ -61,14 +63,10 @@ module _ (sees shows : ℕ → Bool) where
   -- ---- objects: one of a class that isn't shown isn't looked up
 
   abbrev pub read_shown : ℕ → ℕ → Value → M Value
-  read_shown site field (Int n) = ends failed
-  read_shown site field Null = ends failed
-  read_shown site field (Ref o) = if shows o.class then read site field (Ref o) else gives Null
+  read_shown site field v = led (referred v) (λ o. if shows o.class then read site field (Ref o) else gives Null)
 
   abbrev pub write_shown : ℕ → ℕ → Value → Value → M (Unit {0})
-  write_shown site field v (Int n) = ends failed
-  write_shown site field v Null = ends failed
-  write_shown site field v (Ref o) = if shows o.class then write site field v (Ref o) else gives tt
+  write_shown site field v w = led (referred w) (λ o. if shows o.class then write site field v (Ref o) else gives tt)
 
   -- an object of a class that isn't shown has blank fields; its name counts all the same
   abbrev pub fields_shown : ℕ → List Value → List Value
@@ -89,12 +87,11 @@ module _ (sees shows : ℕ → Bool) where
     sees_read x = sees_local x && list_all sees (label_of_class (class_of_local classes (slice_get locals x.number)))
 
     abbrev pub form_step : f.Form-F Part Part (Operator × Part) → Part
-    form_step (f.Number n) = part_of true (gives (Int n))
+    form_step (f.Number n) = part_of true (gives (number_value n))
     form_step f.Null = part_of true (gives Null)
     form_step (f.Local x) = part_of (sees_local x) (local x.number)
     form_step (f.Read x field site) = part_of (sees_read x) (local x.number >>= read_shown site field)
-    form_step (f.Negative p) = part_of p.seen (p.run >>= λ v. gives (negated v))
-    form_step (f.Not p) = part_of p.seen (p.run >>= λ v. gives (truth (not (holds v))))
+    form_step (f.Unary o p) = part_of p.seen (p.run >>= λ v. gives (applied o v))
     form_step (f.Chain p others) =
         part_of (p.seen && list_all (λ u. u.1.seen) others) (p.run >>= chained operate (map (λ u. (u.0, u.1.run)) others))
     form_step (f.Compared p comparison q) =

@@ -9,7 +9,7 @@ use crate::state::State;
 use fab_base::{Seq, Value};
 use fab_tree::Operator;
 use fab_tree::resolved::{Expression, Form, Operand};
-use fab_values::{compares, holds, negated, operate, truth};
+use fab_values::{applied, compares, operate, truth};
 
 /// The value of an expression.
 #[cycle(value)]
@@ -19,7 +19,7 @@ pub(crate) fn value(state: &mut State, expression: &Expression) -> Result<Value,
     ensures fuel { state.new.state.fuel ≡ state.old.state.fuel }
 {
     match &expression.form {
-        Form::Number(n) => Ok(Value::Int(*n)),
+        Form::Number(number) => Ok(number.value()),
         Form::Null => Ok(Value::Null),
         Form::Local(x) => Ok(state.local(x.number)),
         Form::Read {
@@ -30,13 +30,9 @@ pub(crate) fn value(state: &mut State, expression: &Expression) -> Result<Value,
             let at = state.local(object.number);
             state.read(*site, *field, at)
         }
-        Form::Negative(operand) => {
+        Form::Unary { operator, operand } => {
             let v = value(state, operand.get())?;
-            Ok(negated(v))
-        }
-        Form::Not(operand) => {
-            let v = value(state, operand.get())?;
-            Ok(truth(!holds(v)))
+            Ok(applied(*operator, v))
         }
         Form::Chain { first, others } => {
             let v = value(state, first.get())?;

@@ -8,12 +8,22 @@ use std::sync::Arc;
 
 /// A request in a program, the attempt that runs it, and the objects that were answered so far,
 /// each with the version that was read.
-#[derive(Drop)]
 pub struct Job {
     pub program: Arc<Resolved>,
     pub request: Request,
     pub tid: Tid,
     pub answers: Seq<(Oid, u32, Object)>,
+}
+
+impl Drop for Job {
+    fn drop(self) {
+        let Job {
+            program,
+            request,
+            tid,
+            answers,
+        } = self;
+    }
 }
 
 /// An equal request, for one more attempt at it.

@@ -21,7 +21,6 @@ const FUEL: u32 = 1_000_000;
 /// locals of the method that it is in, the objects, and the values that were downgraded. Contracts
 /// see it as the state that the meaning has, over what stays through each step. An object of this
 /// attempt is in no heap of it but where it was made.
-#[derive(Drop)]
 pub(crate) struct State {
     alloc: Global,
     tid: Tid,
@@ -29,6 +28,19 @@ pub(crate) struct State {
     locals: Vec<Value>,
     frames: Frames,
     downs: Vec<(u16, Value)>,
+}
+
+impl Drop for State {
+    fn drop(self) {
+        let State {
+            alloc,
+            tid,
+            fuel,
+            locals,
+            frames,
+            downs,
+        } = self;
+    }
 }
 
 impl Model for State {
@@ -115,7 +127,7 @@ impl State {
         ensures base { self.new.base ≡ self.old.base }
         ensures fuel { self.new.state.fuel ≡ self.old.state.fuel }
     {
-        let Value::Ref(oid) = at else {
+        let Some(oid) = at.referred() else {
             return Err(Halt::Ended(End::Failed));
         };
         match self.frames.read(site, oid, field) {
@@ -136,7 +148,7 @@ impl State {
         ensures base { self.new.base ≡ self.old.base }
         ensures fuel { self.new.state.fuel ≡ self.old.state.fuel }
     {
-        let Value::Ref(oid) = at else {
+        let Some(oid) = at.referred() else {
             return Err(Halt::Ended(End::Failed));
         };
         match self.frames.write(site, oid, field, value) {
@@ -224,7 +236,14 @@ impl State {
         ensures downs { IfOk result (λ n. n.1 ≡ self.state.downs) }
     {
         let touches = Seq::from_slice(self.alloc, self.frames.touches())?;
-        let State { downs, .. } = self;
+        let State {
+            alloc: _,
+            tid: _,
+            fuel: _,
+            locals: _,
+            frames: _,
+            downs,
+        } = self;
         Ok((touches, Seq::from_vec(downs)))
     }
 }

@@ -1,5 +1,5 @@
 -- What an evaluation over answers says of the request over the whole map.
-use Rattle.std.proofs.Common.{◌≡◌, ℕ, false, List, [], ◌∷◌, ◌++◌, map, Option, None, refl, sym, ap, ◌∙◌, subst}
+use Rattle.std.proofs.Common.{◌≡◌, ℕ, ◌<◌, length, false, List, [], ◌∷◌, ◌++◌, map, Option, None, refl, sym, ap, ◌∙◌, subst}
 use Rattle.fab_base.specs.declared.object.Oid.{Oid}
 use Rattle.fab_base.specs.declared.object.Object.{Object}
 use Rattle.fab_base.specs.declared.object.Stop.{Stop}
@@ -22,8 +22,8 @@ use Rattle.fab_laws.proofs.Changes.{missing_is_absent}
 use Rattle.fab_laws.proofs.Locality.{over_more, part_agrees}
 use Rattle.fab_laws.proofs.Carried.{carried}
 use Rattle.fab_evaluation.specs.declared.single.Single.{Single}
-use Rattle.fab_evaluation.specs.Answered.{IsReady}
-use Rattle.fab_evaluation.specs.Turns.{IsSingle}
+use Rattle.fab_evaluation.specs.Answered.{IsReady, AreAnswers, GetsMore}
+use Rattle.fab_evaluation.specs.Turns.{IsSingle, IsNext}
 use Rattle.fab_evaluation.proofs.Answering.{unanswered, get_answered, part_of}
 
 -- ---- an outcome tells the ending
@@ -68,6 +68,16 @@ pub single_unchanged : (program : Resolved) (known : FlatMap) (request : Request
 single_unchanged program known request end single e i h = record {
   ending = ap (λ (x : Single). x.ending) e ∙ i;
   map = ap (λ (x : Single). put_all x.creates (put_all (objects_of x.writes) known)) e ∙ sym h ∙ ap (λ x. if_ended x (meant program known request).map known) i;
+}
+
+-- the job over more answers is the next one
+pub next_of : (known : FlatMap) (job : Job) (before after rows : Answers) → IsReady known job → before ≡ job.answers → GetsMore known before after → rows ≡ after
+    → IsNext known job (record job { answers = rows })
+next_of known job before after rows ready came gets is = record {
+  ready = record { tid = ready.tid; answers = subst (AreAnswers known) (sym is) (gets.still (subst (AreAnswers known) (sym came) ready.answers)); unmade = ready.unmade; ordered = ready.ordered };
+  program = refl;
+  request = refl;
+  more = subst (λ n. length job.answers < n) (ap length (sym is)) (subst (λ n. n < length after) (ap length came) gets.more);
 }
 
 -- ---- a job over objects of a map

@@ -13,10 +13,15 @@ use std::marker::Model;
 
 /// Answers in the order in which they came. Contracts see it as this list. The names among them
 /// stand in a set of their own.
-#[derive(Drop)]
 pub(crate) struct Answered {
     rows: Seq<(Oid, u32, Object)>,
     names: IndexSet<Oid>,
+}
+
+impl Drop for Answered {
+    fn drop(self) {
+        let Answered { rows, names } = self;
+    }
 }
 
 impl Model for Answered {

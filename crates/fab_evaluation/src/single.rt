@@ -14,6 +14,7 @@ use fab_language::Ending;
 use fab_map::ObjectMap;
 use fab_tree::resolved::{Request, Resolved};
 use std::alloc::{AllocError, Global};
+use std::mem;
 use std::sync::Arc;
 
 /// How a request ended, the objects that it leaves in the place of others, and those that it made.
@@ -105,22 +106,14 @@ fn asked(
     requires needed { Need site oid ≡ outcome_of job }
     ensures { IfOk result (Turns objects.now job) }
 {
-    let Job {
-        program,
-        request,
-        tid,
-        answers,
-    } = job;
+    let mut job = job;
+    let answers = mem::replace(&mut job.answers, Seq::new(alloc));
     let mut answers = Answered::of(alloc, answers)?;
     if !answer_with_others(alloc, objects, oid, &mut answers)? {
         return Ok(Turn::Over(unchanged(alloc, Ending::Missing { site, oid })));
     }
-    Ok(Turn::Again(Job {
-        program,
-        request,
-        tid,
-        answers: answers.into_rows(),
-    }))
+    job.answers = answers.into_rows();
+    Ok(Turn::Again(job))
 }
 
 /// A request that ended so and changed nothing.

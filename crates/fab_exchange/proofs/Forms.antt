@@ -3,9 +3,9 @@ use Rattle.std.proofs.Common.{◌≡◌, ℕ, List, true, false, Option, Some, N
 use Rattle.std.proofs.Common.{refl, sym, ap, ◌∙◌, subst}
 use Rattle.std.specs.Prelude.{is_some, option_map, if◌then◌else◌}
 use Rattle.fab_base.specs.declared.entry.Entry.{Entry}
-use Rattle.fab_base.specs.JournalSpelling.{record_bytes}
+use Rattle.fab_base.specs.JournalSpelling.{record_bytes, journal_version, version_behind}
 use Rattle.fab_eval.specs.declared.done.Done.{Done}
-use Rattle.fab_journal.proofs.Journals.{version_stays}
+use Rattle.fab_journal.proofs.Lengths.{same_length}
 use Rattle.fab_net.specs.declared.event.Event.{Event}
 use Rattle.fab_net.specs.declared.event.Event.TheVariants as e
 use Rattle.fab_net.specs.declared.event.Inner.{Inner}
@@ -32,14 +32,14 @@ module _ (g : GivenModel) (moves : List Move) (x : Inner) where
 
   abbrev formed : Option Entry → Option CrashLine → Form
   formed entry line =
-      form_by x (if is_some entry then keeps_by (setting g) (lines_of g.program) line else None) (length (record_behind (w.node (node_of x)).entries entry))
+      form_by x (if is_some entry then keeps_by (setting g) (lines_of g.program) line else None) (length (record_behind (w.node (node_of x)).first (w.node (node_of x)).entries entry))
 
   abbrev line : Option CrashLine
   line = line_now (setting g) (lines_of g.program) w moves (node_of x)
 
   entry_whole : (entry : Option Entry) (used : Option CrashLine) → keeps_by (setting g) (lines_of g.program) used ≡ None → formed entry used ≡ Does x
   entry_whole None used none = refl
-  entry_whole (Some entry) used none = ap (λ kept. form_by x kept (length (record_behind (w.node (node_of x)).entries (Some entry)))) none
+  entry_whole (Some entry) used none = ap (λ kept. form_by x kept (length (record_behind (w.node (node_of x)).first (w.node (node_of x)).entries (Some entry)))) none
 
   -- no line is used, or none that cuts
   pub form_whole : line_of g moves (node_of x) ≡ None → form_at g moves x ≡ Does x
@@ -50,7 +50,7 @@ module _ (g : GivenModel) (moves : List Move) (x : Inner) where
   unfolding form_at line_of
   form_uncut used is none = entry_whole (act (setting g) w x).entry line (ap (keeps_by (setting g) (lines_of g.program)) is ∙ none)
 
-  entry_none : (entry : Option Entry) → option_map (λ y. length (record_bytes 1 y)) entry ≡ None → formed entry line ≡ Does x
+  entry_none : (entry : Option Entry) → option_map (λ y. length (record_bytes journal_version y)) entry ≡ None → formed entry line ≡ Does x
   entry_none None h = refl
   entry_none (Some entry) h = absurd (cc)
 
@@ -60,14 +60,14 @@ module _ (g : GivenModel) (moves : List Move) (x : Inner) where
   form_unwritten h = entry_none (act (setting g) w x).entry h
 
   entry_cut : (entry : Option Entry) (used : Option CrashLine) (bytes most : ℕ) → keeps_by (setting g) (lines_of g.program) used ≡ Some bytes
-      → option_map (λ y. length (record_bytes 1 y)) entry ≡ Some most → formed entry used ≡ Cuts (min bytes most) x
+      → option_map (λ y. length (record_bytes journal_version y)) entry ≡ Some most → formed entry used ≡ Cuts (min bytes most) x
   entry_cut None used bytes most kept h = absurd (cc)
   entry_cut (Some entry) used bytes most kept h =
-      ap (λ k. form_by x k (length (record_behind (w.node (node_of x)).entries (Some entry)))) kept
-      ∙ ap (λ v. Cuts (min bytes (length (record_bytes v entry))) x) (version_stays 1 (w.node (node_of x)).entries)
+      ap (λ k. form_by x k (length (record_behind (w.node (node_of x)).first (w.node (node_of x)).entries (Some entry)))) kept
+      ∙ ap (λ k. Cuts (min bytes k) x) (same_length entry (version_behind (w.node (node_of x)).first (w.node (node_of x)).entries) journal_version)
       ∙ ap (λ k. Cuts (min bytes k) x) (some_length h)
     where
-      some_length : Some (length (record_bytes 1 entry)) ≡ Some most → length (record_bytes 1 entry) ≡ most
+      some_length : Some (length (record_bytes journal_version entry)) ≡ Some most → length (record_bytes journal_version entry) ≡ most
       some_length h = cc
 
   -- a line cuts it
@@ -82,7 +82,7 @@ module _ (g : GivenModel) (moves : List Move) (x : Inner) where
   unfolding form_at
   form_node = by (if is_some (act (setting g) w x).entry then keeps_by (setting g) (lines_of g.program) line else None)
     where
-      by : (kept : Option ℕ) → node_with w (form_by x kept (length (record_behind (w.node (node_of x)).entries (act (setting g) w x).entry))) ≡ node_of x
+      by : (kept : Option ℕ) → node_with w (form_by x kept (length (record_behind (w.node (node_of x)).first (w.node (node_of x)).entries (act (setting g) w x).entry))) ≡ node_of x
       by None = refl
       by (Some bytes) = refl
 
@@ -91,7 +91,7 @@ module _ (g : GivenModel) (moves : List Move) (x : Inner) where
   unfolding form_at
   form_resume = by (if is_some (act (setting g) w x).entry then keeps_by (setting g) (lines_of g.program) line else None)
     where
-      by : (kept : Option ℕ) → is_resume (form_by x kept (length (record_behind (w.node (node_of x)).entries (act (setting g) w x).entry))) ≡ resumes x
+      by : (kept : Option ℕ) → is_resume (form_by x kept (length (record_behind (w.node (node_of x)).first (w.node (node_of x)).entries (act (setting g) w x).entry))) ≡ resumes x
       by None = refl
       by (Some bytes) = refl
 

@@ -1,10 +1,11 @@
 -- What expressions begin with, and what may follow them.
-use Rattle.std.specs.Prelude.{Bool, true, false}
+use Rattle.std.specs.Prelude.{Bool, true, false, ◌||◌, is_some}
 use Rattle.fab_base.specs.declared.token.Mark.TheVariants as m
 use Rattle.fab_base.specs.declared.token.Kind.{Kind}
 use Rattle.fab_base.specs.declared.token.Kind.TheVariants as k
 use Rattle.fab_tree.specs.declared.expression.Level.{Level}
 use Rattle.fab_tree.specs.declared.expression.Level.TheVariants as level
+use Rattle.fab_tree.specs.Marks.{unary_of}
 use Rattle.fab_reading.specs.Reading.{begins_numeral, is_comma, behind_items, behind_list}
 
 -- a number, null, a name, or an expression in brackets
@@ -15,11 +16,13 @@ begins_primary (k.Fixed m.Null) = true
 begins_primary (k.Fixed m.LeftParen) = true
 begins_primary _ = false
 
--- or a sign before one
+-- the sign of an operator in front of an operand
+abbrev pub begins_unary : Kind → Bool
+begins_unary (k.Fixed x) = is_some (unary_of x)
+begins_unary _ = false
+
 abbrev pub begins_expression : Kind → Bool
-begins_expression (k.Fixed m.Minus) = true
-begins_expression (k.Fixed m.Bang) = true
-begins_expression x = begins_primary x
+begins_expression x = begins_primary x || begins_unary x
 
 -- an operator of a level
 abbrev pub begins_operator : Level → Kind → Bool

@@ -2,13 +2,15 @@
 ghost use Rattle.std.specs.Prelude.{◌≡◌, ◌↔◌, IsTrue, MatchResult};
 ghost use Rattle.fab_tree.specs.Expressions.{IsExpression, IsArguments, IsChain, IsOthers, IsOperand, IsCompared, IsUnary, IsPrimary, placed as placed_tree};
 ghost use Rattle.fab_reading.specs.Reading.{Read, Stops, Starts, Lacks, begins_name, begins_numeral};
-ghost use Rattle.fab_expressions.specs.Pieces.{begins_expression, after_primary, after_compared, after_operand, after_chain, after_expression, after_arguments};
+ghost use Rattle.fab_expressions.specs.Pieces.{begins_primary, begins_expression, after_primary, after_compared, after_operand, after_chain, after_expression, after_arguments};
 
-use crate::operators::{chain_of, comparison, comparison_of, operator};
+use crate::operators::{
+    chain_of, comparison, comparison_of, least_behind, operator, unary_operator,
+};
 use fab_base::{Boxed, Kind, Mark, Seq, Token};
 use fab_reading::{
-    Item, Refusal, added, behind, behind_least, fitted, name, next, numeral, open, place, positive,
-    separated, sign, starts_name,
+    Item, Refusal, added, behind, fitted, name, next, number, open, place, separated, sign,
+    starts_name,
 };
 use fab_tree::{Expression, Form, Level, Operand};
 use std::alloc::Global;
@@ -17,8 +19,9 @@ use std::alloc::Global;
 fn placed(expression: Expression, at: u32) -> Expression
     ensures { result ≡ placed_tree at expression }
 {
-    let Expression { form, .. } = expression;
-    Expression { form, at }
+    let mut expression = expression;
+    expression.at = at;
+    expression
 }
 
 /// A local, or a field of an object.
@@ -62,9 +65,8 @@ fn primary(alloc: Global, tokens: &[Token], room: u8) -> Result<(Expression, &[T
     ensures { MatchResult result (λ x. Read IsPrimary after_primary room tokens.now x.0 x.1.now) (λ e. Stops IsPrimary after_primary room tokens.now e) }
 {
     let at = place(tokens);
-    if let Some((number, rest)) = numeral(tokens) {
-        let value = positive(number);
-        let form = Form::Number(value);
+    if let Some((number, rest)) = number(tokens) {
+        let form = Form::Number(number);
         return Ok((Expression { form, at }, rest));
     }
     if let Some(rest) = behind(tokens, Mark::Null) {
@@ -84,23 +86,19 @@ fn unary(alloc: Global, tokens: &[Token], room: u8) -> Result<(Expression, &[Tok
     ensures { MatchResult result (λ x. Read IsUnary after_primary room tokens.now x.0 x.1.now) (λ e. Stops IsUnary after_primary room tokens.now e) }
 {
     let at = place(tokens);
-    if let Some(rest) = behind(tokens, Mark::Bang) {
-        let (operand, rest) = primary(alloc, rest, room)?;
-        let form = Form::Not(Boxed::make(alloc, operand)?);
-        return Ok((Expression { form, at }, rest));
-    }
-    match behind(tokens, Mark::Minus) {
+    match unary_operator(tokens) {
         None => {
             let (operand, rest) = primary(alloc, tokens, room)?;
             Ok((operand, rest))
         }
-        Some(rest) => {
-            if let Some(rest) = behind_least(rest) {
-                let form = Form::Number(i32::MIN);
+        Some((operator, rest)) => {
+            if let Some((number, rest)) = least_behind(operator, rest) {
+                let form = Form::Number(number);
                 return Ok((Expression { form, at }, rest));
             }
             let (operand, rest) = primary(alloc, rest, room)?;
-            let form = Form::Negative(Boxed::make(alloc, operand)?);
+            let operand = Boxed::make(alloc, operand)?;
+            let form = Form::Unary { operator, operand };
             Ok((Expression { form, at }, rest))
         }
     }
@@ -194,18 +192,31 @@ pub fn expression(
     chain(alloc, tokens, room, Level::Or)
 }
 
-/// Whether an expression comes next.
-pub fn starts_expression(tokens: &[Token]) -> bool
-    ensures { IsTrue result ↔ Starts begins_expression tokens.now }
+/// Whether a primary comes next.
+fn starts_primary(tokens: &[Token]) -> bool
+    ensures { IsTrue result ↔ Starts begins_primary tokens.now }
 {
     match next(tokens) {
         None => false,
         Some((token, _)) => match token.kind {
             Kind::Number(number) => number < 2_147_483_648,
             Kind::Name(_) => true,
-            Kind::Fixed(Mark::Minus | Mark::Bang | Mark::Null | Mark::LeftParen) => true,
+            Kind::Fixed(Mark::Null | Mark::LeftParen) => true,
             _ => false,
         },
+    }
+}
+
+/// Whether an expression comes next.
+pub fn starts_expression(tokens: &[Token]) -> bool
+    ensures { IsTrue result ↔ Starts begins_expression tokens.now }
+{
+    if starts_primary(tokens) {
+        return true;
+    }
+    match unary_operator(tokens) {
+        None => false,
+        Some(_) => true,
     }
 }
 

@@ -1,12 +1,14 @@
 //! Operators, comparisons, and the expressions that they make.
-ghost use Rattle.std.specs.Prelude.{◌≡◌, MatchOption, IfOk};
+ghost use Rattle.std.specs.Prelude.{◌≡◌, IsTrue, MatchOption, IfOk};
+ghost use Rattle.fab_tree.specs.Lists.{Is, IsLeast};
+ghost use Rattle.fab_tree.specs.Marks.{unary_mark};
 ghost use Rattle.fab_tree.specs.Expressions.{IsComparison, IsOperator, expression_at, place_of, chain_of as chain_tree};
-ghost use Rattle.fab_reading.specs.Reading.{Starts};
-ghost use Rattle.fab_expressions.specs.Pieces.{begins_comparison, begins_operator};
+ghost use Rattle.fab_reading.specs.Reading.{Starts, begins_least};
+ghost use Rattle.fab_expressions.specs.Pieces.{begins_comparison, begins_operator, begins_unary};
 
-use fab_base::{Boxed, Mark, NoMemory, Seq, Token};
-use fab_reading::behind;
-use fab_tree::{Comparison, Expression, Form, Level, Operand, Operator};
+use fab_base::{Boxed, Kind, Mark, NoMemory, Seq, Token};
+use fab_reading::{behind, least, next};
+use fab_tree::{Comparison, Expression, Form, Level, Number, Operand, Operator, UnaryOperator};
 use std::alloc::Global;
 
 /// How two values are compared, if a comparison comes next.
@@ -65,6 +67,42 @@ pub fn operator(tokens: &[Token], level: Level) -> Option<(Operator, &[Token])>
                 None => None,
             }
         }
+    }
+}
+
+/// The operator that a token stands for in front of an operand.
+fn unary_of(kind: &Kind) -> Option<UnaryOperator>
+    ensures { MatchOption result (IsTrue (begins_unary kind.now) → ⊥) (λ x. kind.now ≡ Kind.Fixed (unary_mark x)) }
+{
+    match kind {
+        Kind::Fixed(mark) => UnaryOperator::of(*mark),
+        _ => None,
+    }
+}
+
+/// An operator in front of its operand, if one comes next.
+pub fn unary_operator(tokens: &[Token]) -> Option<(UnaryOperator, &[Token])>
+    ensures { MatchOption result (Starts begins_unary tokens.now → ⊥) (λ x. Is (unary_mark x.0) tokens.now x.1.now) }
+{
+    match next(tokens) {
+        None => None,
+        Some((token, rest)) => match unary_of(&token.kind) {
+            None => None,
+            Some(operator) => Some((operator, rest)),
+        },
+    }
+}
+
+/// The least number of a width, where it comes behind a minus sign.
+pub fn least_behind(operator: UnaryOperator, tokens: &[Token]) -> Option<(Number, &[Token])>
+    ensures { MatchOption result (operator ≡ UnaryOperator.Negative → Starts begins_least tokens.now → ⊥) (λ x. IsLeast tokens.now x.0 x.1.now × (operator ≡ UnaryOperator.Negative)) }
+{
+    match operator {
+        UnaryOperator::Negative => match least(tokens) {
+            None => None,
+            Some((number, rest)) => Some((number, rest)),
+        },
+        _ => None,
     }
 }
 

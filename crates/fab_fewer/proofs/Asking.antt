@@ -10,6 +10,7 @@ use Rattle.fab_base.specs.declared.object.Tid.{Tid}
 use Rattle.fab_base.specs.declared.object.Value.{Value}
 use Rattle.fab_base.specs.declared.object.Value.TheVariants.{Int, Null, Ref}
 use Rattle.fab_base.specs.declared.object.Stop.TheVariants.{Fuel}
+use Rattle.fab_base.specs.declared.object.Width.TheVariants as widths
 use Rattle.fab_base.specs.FlatMap.{get}
 use Rattle.fab_tree.specs.declared.expression.Operator.{Operator}
 use Rattle.fab_tree.specs.declared.expression.Operator.TheVariants.{Or, And, Add, Subtract, Multiply, Divide}
@@ -51,11 +52,12 @@ use Rattle.fab_laws.proofs.Walk.{on, off}
 use Rattle.fab_erasure.specs.Agreement.{in_view}
 use Rattle.fab_erasure.proofs.Views.{split_left, split_right}
 use Rattle.fab_fewer.specs.Asking.{access_of, IsKeptByAccess, is_asked_in_view}
+use Rattle.fab_tree.specs.Numbers.{number_value}
 
 -- ---- a reference in a local is of the local's class
 
 by_sort : (classes : List Class) (x : Sort) (o : Oid) → suits (kind_of_sort x) (Ref o) ≡ true → class_of_sort classes x ≡ slice_get classes o.class
-by_sort classes sorts.Int o h = absurd (true≢false (sym h))
+by_sort classes (sorts.Number widths.Int) o h = absurd (true≢false (sym h))
 by_sort classes (sorts.Class c) o h = ap (slice_get classes) (sym (eq_from o.class c.number h))
 
 no_reference : (o : Oid) → Null ≡ Ref o → ⊥
@@ -344,12 +346,11 @@ module _ (sees shows : ℕ → Bool) (r : Resolved) (tid : Tid) where
         (owed_step (map-Form Form Expression Operand ob.Part ob.Part Tail form_owed owed_by operand_owed (in_form y))).owes
         (form_sites (map-Form Form Expression Operand (List ℕ) (List ℕ) (List ℕ) sites_in_form sites_in sites_in_operand (in_form y)))
         (form_step (map-Form Form Expression Operand (M Value) (M Value) (Operator × M Value) form_value value operand_value (in_form y)))
-    by_form (f.Number n) = record { by = λ pc failure k at. given ls (Int n) }
+    by_form (f.Number n) = record { by = λ pc failure k at. given ls (number_value n) }
     by_form f.Null = record { by = λ pc failure k at. given ls Null }
     by_form (f.Local x) = record { by = λ pc failure k at. local_reads ls x.number }
     by_form (f.Read x field site) = record { by = λ pc failure k at. reads_local ls x.number site field (reaches x pc failure site k at.0) }
-    by_form (f.Negative x) = record { by = λ pc failure k at. bind ls (value x.0) _ (x.1.by pc failure k at) (λ v. given ls _) }
-    by_form (f.Not x) = record { by = λ pc failure k at. bind ls (value x.0) _ (x.1.by pc failure k at) (λ v. given ls _) }
+    by_form (f.Unary o x) = record { by = λ pc failure k at. bind ls (value x.0) _ (x.1.by pc failure k at) (λ v. given ls _) }
     by_form (f.Chain x others) = record {
       by = λ pc failure k at.
           bind ls (value x.0) (chained operate (values_of others))

@@ -1,6 +1,7 @@
 -- Worked examples of arguments that aren't seen, and of what is asked for.
 use Rattle.std.proofs.Common.{◌≡◌, ℕ, pos, List, [], ◌∷◌, Bool, true, false, ◌==◌, codes, refl, sym, true≢false}
 use Rattle.fab_base.specs.declared.object.Value.TheVariants.{Int, Null}
+use Rattle.fab_base.specs.declared.object.Width.TheVariants as widths
 use Rattle.fab_tree.specs.declared.name.Name.{Name}
 use Rattle.fab_tree.specs.declared.resolved.Use.{Use}
 use Rattle.fab_tree.specs.declared.resolved.Sort.TheVariants as sorts
@@ -23,7 +24,7 @@ abbrev used : ℕ → Use
 used n = record { number = n; at = 0 }
 
 abbrev a_local : ℕ → Local
-a_local label = record { sort = sorts.Int; name = name; label = used label }
+a_local label = record { sort = sorts.Number widths.Int; name = name; label = used label }
 
 -- a parameter that is seen, and one that isn't
 abbrev two_parameters : List Local

@@ -6,6 +6,7 @@ use Rattle.fab_base.specs.declared.object.Tid.{Tid}
 use Rattle.fab_base.specs.declared.object.Stop.TheVariants.{Reads}
 use Rattle.fab_base.specs.declared.object.Value.{Value}
 use Rattle.fab_base.specs.declared.object.Value.TheVariants.{Int, Ref}
+use Rattle.fab_base.specs.declared.object.Width.TheVariants as widths
 use Rattle.fab_base.specs.FlatMap.{FlatMap}
 use Rattle.fab_tree.specs.declared.name.Name.{Name}
 use Rattle.fab_tree.specs.declared.resolved.Expression.{Expression}
@@ -58,7 +59,7 @@ abbrev method : List Statement → Method
 method body = record {
   name = name;
   parameters = 3;
-  locals = of a_class ∷ of sorts.Int ∷ of a_class ∷ of sorts.Int ∷ [];
+  locals = of a_class ∷ of (sorts.Number widths.Int) ∷ of a_class ∷ of (sorts.Number widths.Int) ∷ [];
   returns = None;
   begin = used 0;
   fails = false;

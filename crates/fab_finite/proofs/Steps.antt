@@ -253,21 +253,21 @@ module _ (S : Setting) (T : ℕ) where
       cut_owed : (keep y : ℕ) (b : Bool)
           → left * owed S.roots n y
           (cond b (record (u.node n) { entries = (u.node n).entries ++ option_list (act S w e).entry })
-          (record (u.node n) { torn = take keep (record_behind (u.node n).entries (act S w e).entry) })).entries
+          (record (u.node n) { torn = take keep (record_behind (u.node n).first (u.node n).entries (act S w e).entry) })).entries
           ≤ left * owed S.roots n y (u.node n).entries + T * gains y (act S w e).entry
       cut_owed keep y true = later y
       cut_owed keep y false = omega arith
 
       cut_failed : (keep : ℕ) (b : Bool)
           → (cond b (record (u.node n) { entries = (u.node n).entries ++ option_list (act S w e).entry })
-          (record (u.node n) { torn = take keep (record_behind (u.node n).entries (act S w e).entry) })).failed ≡ (u.node n).failed
+          (record (u.node n) { torn = take keep (record_behind (u.node n).first (u.node n).entries (act S w e).entry) })).failed ≡ (u.node n).failed
       cut_failed keep true = refl
       cut_failed keep false = refl
 
       cuts_row : (keep y : ℕ) → between left (steps S w (Cuts keep e)) n y + paid e y ≤ between left u n y + given w e y
       cuts_row keep y =
           let c = comes.cost y in
-          let whole = keep == length (record_behind (u.node n).entries (act S w e).entry) in
+          let whole = keep == length (record_behind (u.node n).first (u.node n).entries (act S w e).entry) in
           let l = cut_owed keep y whole in
           let f = ap (λ b. one (not b)) (cut_failed keep whole) in
           let node = ap (own left n y) (down_here S (at_node S u n (λ _. marred keep)) n) in

@@ -1,11 +1,12 @@
 -- Rights of one bundle are the same.
-use Rattle.std.proofs.Common.{◌≡◌, ◌↔◌, ℕ, suc, ◌*◌, ◌^◌, List, [], ◌∷◌, map, Option, slice_get, IsSomeAnd, IsBitSet, inl, inr, refl, sym, ap, ◌∙◌, arith}
+use Rattle.std.proofs.Common.{◌≡◌, ◌↔◌, ℕ, suc, ◌*◌, ◌^◌, List, [], ◌∷◌, map, slice_get, IsSomeAnd, IsBitSet, inl, inr, refl, sym, ap, ◌∙◌, arith}
 use Rattle.std.specs.Int.{bit_at}
 use Rattle.std.proofs.lemmas.Bool.{cases_eq}
 use Rattle.std.proofs.Math.Pow.{pow_pos}
 use Rattle.std.proofs.lemmas.Nat.Bits.{and_pow, bit_at-lt, same_from_bits}
 use Rattle.fab_tree.specs.declared.resolved.Resolved.{Resolved}
 use Rattle.fab_rights.specs.declared.rights.ClassRights.{ClassRights}
+use Rattle.fab_rights.specs.declared.rights.Shape.{Shape}
 use Rattle.fab_rights.specs.declared.rights.Rights.{Rights}
 use Rattle.fab_places.specs.Places.{AreRights}
 
@@ -49,7 +50,7 @@ same_class x y f w h k =
     ap (λ (n : ℕ). record x { fetchers = n }) f
     ∙ ap (λ (n : ℕ). record x { fetchers = y.fetchers; writers = n }) w
     ∙ ap (λ (n : ℕ). record y { holders = n; fields = x.fields }) h
-    ∙ ap (λ (ks : List (Option ℕ)). record y { fields = ks }) k
+    ∙ ap (λ (ks : List Shape). record y { fields = ks }) k
 
 -- classes whose masks have the same bits, and whose fields are of the same kinds
 same_classes : (xs ys : List ClassRights) → map (λ x. x.fields) xs ≡ map (λ y. y.fields) ys
@@ -77,5 +78,5 @@ one_rights r a b x y =
     same_rights a b
     (same_mask a.workers b.workers (λ n. both_ways (x.workers n) (y.workers n)))
     (same_mask a.stores b.stores (λ n. both_ways (x.stores n) (y.stores n)))
-    (same_classes a.classes b.classes (x.kinds ∙ sym y.kinds)
+    (same_classes a.classes b.classes (x.shapes ∙ sym y.shapes)
     (λ n c. both_ways (x.fetched n c) (y.fetched n c)) (λ n c. both_ways (x.written n c) (y.written n c)) (λ n c. both_ways (x.held n c) (y.held n c)))

@@ -1,7 +1,6 @@
 //! The numbers in the bodies of methods.
 ghost use Rattle.std.specs.List.{flat_map};
-ghost use Rattle.fab_fitting.specs.Fitting.{AllFit};
-ghost use Rattle.fab_settings.specs.Numbers.{in_method, in_result, in_right, in_statement};
+ghost use Rattle.fab_settings.specs.Numbers.{AllFit, in_method, in_result, in_right, in_statement};
 
 use crate::expressions::{read_arguments, read_expression};
 use fab_tree::resolved::{Method, Return, Right, Statement};

@@ -1,9 +1,21 @@
 //! The numbers in expressions. Who reads a number knows that it fits its type.
 ghost use Rattle.std.specs.List.{flat_map};
-ghost use Rattle.fab_fitting.specs.Fitting.{AllFit};
-ghost use Rattle.fab_settings.specs.Numbers.{in_expression};
+ghost use Rattle.fab_settings.specs.Numbers.{AllFit, IsSmall, in_expression};
+ghost use Rattle.fab_tree.specs.Numbers.{number_value};
 
+use fab_tree::Number;
 use fab_tree::resolved::{Expression, Form, Operand};
+
+/// Reads a number.
+fn read_number(number: &Number)
+    ensures { IsSmall (number_value number.now) }
+{
+    match number {
+        Number::Int(n) => {
+            let _n = *n;
+        }
+    }
+}
 
 /// Reads the numbers in an expression.
 #[cycle(expression)]
@@ -11,11 +23,9 @@ pub(crate) fn read_expression(expression: &Expression)
     ensures { AllFit (in_expression expression.now) }
 {
     match &expression.form {
-        Form::Number(number) => {
-            let _number = *number;
-        }
+        Form::Number(number) => read_number(number),
         Form::Null | Form::Local(_) | Form::Read { .. } => {}
-        Form::Negative(operand) | Form::Not(operand) => read_expression(operand.get()),
+        Form::Unary { operand, .. } => read_expression(operand.get()),
         Form::Chain { first, others } => {
             read_expression(first.get());
             read_operands(others.as_slice());

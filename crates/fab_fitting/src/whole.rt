@@ -1,7 +1,6 @@
 //! The numbers in a bundle.
 ghost use Rattle.std.specs.List.{flat_map};
-ghost use Rattle.fab_fitting.specs.Fitting.{AllFit};
-ghost use Rattle.fab_settings.specs.Numbers.{in_session, in_value, in_values, numbers_of};
+ghost use Rattle.fab_settings.specs.Numbers.{AllFit, in_session, in_value, in_values, values_of};
 
 use crate::bodies::read_methods;
 use fab_base::Value;
@@ -54,7 +53,7 @@ fn read_sessions(sessions: &[Session])
 
 /// Reads each number that stands in a bundle. It gives nothing back, but who called it knows that each fits 32 bits.
 pub fn read_numbers(resolved: &Resolved)
-    ensures { AllFit (numbers_of resolved.now) }
+    ensures { AllFit (values_of resolved.now) }
 {
     read_methods(resolved.methods.as_slice());
     read_roots(resolved.roots.as_slice());

@@ -1,10 +1,9 @@
 -- What the requests of a well labelled bundle leave, one after the other.
-use Rattle.std.proofs.Common.{◌≡◌, List, [], ◌∷◌, Some}
+use Rattle.std.proofs.Common.{◌≡◌, List, [], ◌∷◌, Some, Option, None}
 use Rattle.std.specs.List.{AllByRecursion}
 use Rattle.fab_base.specs.declared.object.Oid.{Oid}
 use Rattle.fab_base.specs.declared.object.Object.{Object}
 use Rattle.fab_base.specs.declared.object.Value.{Value}
-use Rattle.fab_base.specs.declared.object.Value.TheVariants.{Int, Null, Ref}
 use Rattle.fab_base.specs.FlatMap.{FlatMap, get}
 use Rattle.fab_tree.specs.declared.resolved.Root.{Root}
 use Rattle.fab_tree.specs.declared.resolved.Resolved.{Resolved}
@@ -12,13 +11,15 @@ use Rattle.fab_tree.specs.declared.start.Start.{Start}
 use Rattle.fab_language.specs.Evaluation.{rows_of, map_at_start, requests_of, course_of}
 use Rattle.fab_language.specs.Numbers.{resolved}
 use Rattle.fab_labelling.specs.Claims.{IsWellLabelled}
-use Rattle.fab_laws.specs.Closed.{IsThere, AreThere}
+use Rattle.fab_laws.specs.Closed.{IsThere, AreThere, HasOne}
 use Rattle.fab_laws.proofs.Values.{all_more}
 use Rattle.fab_shapes.proofs.Maps.{each_of_map}
 use Rattle.fab_shapes.proofs.Objects.{closed, given_there}
 use Rattle.fab_held.specs.Held.{IsHeld, RefersToHeld, AllHeld, HasOnlyHeld}
 use Rattle.fab_held.proofs.Made.{roots_held}
 use Rattle.fab_held.proofs.Requests.{course_held}
+use Rattle.fab_base.specs.Values.{referred}
+use Rattle.std.specs.Prelude.{IfSome}
 
 module _ (r : Resolved) where
   rows_held : (xs : List Root) → AllByRecursion (λ x. IsHeld r x.oid) xs → AllByRecursion (λ row. IsHeld r row.0) (rows_of xs)
@@ -27,9 +28,11 @@ module _ (r : Resolved) where
 
   -- what leads to an object of a map
   there_held : (m : FlatMap) → ((o : Oid) (x : Object) → get m o ≡ Some x → IsHeld r o) → (v : Value) → IsThere m v → RefersToHeld r v
-  there_held m names (Int n) h = tt
-  there_held m names Null h = tt
-  there_held m names (Ref o) h = names o h.0 h.1
+  there_held m names v = by (referred v)
+    where
+      by : (o : Option Oid) → IfSome o (HasOne m) → IfSome o (IsHeld r)
+      by None h = tt
+      by (Some o) h = names o h.0 h.1
 
   all_there : (m : FlatMap) → ((o : Oid) (x : Object) → get m o ≡ Some x → IsHeld r o) → (vs : List Value) → AreThere m vs → AllHeld r vs
   all_there m names vs h = all_more (IsThere m) (RefersToHeld r) vs (there_held m names) h

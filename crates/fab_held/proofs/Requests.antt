@@ -1,11 +1,10 @@
 -- In a well labelled bundle a request leaves objects at stores that may hold them.
-use Rattle.std.proofs.Common.{◌≡◌, ℕ, List, [], ◌∷◌, Bool, true, false, Some, refl, sym, ◌∙◌}
+use Rattle.std.proofs.Common.{◌≡◌, ℕ, List, [], ◌∷◌, Bool, true, false, Some, refl, sym, ◌∙◌, Option, None}
 use Rattle.std.specs.List.{AllByRecursion}
 use Rattle.fab_base.specs.declared.object.Oid.{Oid}
 use Rattle.fab_base.specs.declared.object.Object.{Object}
 use Rattle.fab_base.specs.declared.object.Tid.{Tid}
 use Rattle.fab_base.specs.declared.object.Value.{Value}
-use Rattle.fab_base.specs.declared.object.Value.TheVariants.{Int, Null, Ref}
 use Rattle.fab_base.specs.FlatMap.{FlatMap, get}
 use Rattle.fab_tree.specs.declared.resolved.Request.{Request}
 use Rattle.fab_tree.specs.declared.resolved.Resolved.{Resolved}
@@ -26,6 +25,8 @@ use Rattle.fab_laws.proofs.Placed.{meant_passes}
 use Rattle.fab_laws.proofs.Values.{all_more}
 use Rattle.fab_held.specs.Held.{IsHeld, RefersToHeld, AllHeld, HasOnlyHeld, MakesHeld, OnlyHeld}
 use Rattle.fab_held.proofs.Made.{all_made}
+use Rattle.fab_base.specs.Values.{referred}
+use Rattle.std.specs.Prelude.{IfSome}
 
 module _ (r : Resolved) where
   -- whether the store of a name may hold the name's class
@@ -36,14 +37,18 @@ module _ (r : Resolved) where
   is_so o = (Decides-claim r (holds o.store o.class)).0
 
   passing : (v : Value) → RefersToHeld r v → Passes is_held v
-  passing (Int n) h = tt
-  passing Null h = tt
-  passing (Ref o) h = (Decides-claim r (holds o.store o.class)).1 h
+  passing v = by (referred v)
+    where
+      by : (o : Option Oid) → IfSome o (IsHeld r) → IfSome o (λ p. is_held p ≡ true)
+      by None h = tt
+      by (Some o) h = (Decides-claim r (holds o.store o.class)).1 h
 
   from_passing : (v : Value) → Passes is_held v → RefersToHeld r v
-  from_passing (Int n) h = tt
-  from_passing Null h = tt
-  from_passing (Ref o) h = is_so o h
+  from_passing v = by (referred v)
+    where
+      by : (o : Option Oid) → IfSome o (λ p. is_held p ≡ true) → IfSome o (IsHeld r)
+      by None h = tt
+      by (Some o) h = is_so o h
 
   making : (tid : Tid) (c : Claim) → MakesHeld r c → MakesPassing is_held tid c
   making tid (given taker kind) h = tt

@@ -1,11 +1,11 @@
 -- Objects whose stores may hold their classes.
-use Rattle.std.specs.Prelude.{◌≡◌, ℕ, true, List, Some}
+use Rattle.std.specs.Prelude.{◌≡◌, ℕ, true, List, Some, IfSome}
 use Rattle.std.specs.List.{AllByRecursion}
 use Rattle.fab_base.specs.declared.object.Oid.{Oid}
 use Rattle.fab_base.specs.declared.object.Object.{Object}
 use Rattle.fab_base.specs.declared.object.Value.{Value}
-use Rattle.fab_base.specs.declared.object.Value.TheVariants.{Int, Null, Ref}
 use Rattle.fab_base.specs.FlatMap.{FlatMap, get}
+use Rattle.fab_base.specs.Values.{referred}
 use Rattle.fab_tree.specs.declared.resolved.Resolved.{Resolved}
 use Rattle.fab_language.specs.declared.ending.Ending.TheVariants.{Ended, Missing}
 use Rattle.fab_language.specs.Flows.{delegations_of}
@@ -20,9 +20,7 @@ IsHeld r o = MayHoldNumber r (delegations_of r) o.store o.class
 
 -- so may that of a value that is a reference
 abbrev pub RefersToHeld : Resolved → Value → Type 0
-RefersToHeld r (Int n) = Unit {0}
-RefersToHeld r Null = Unit {0}
-RefersToHeld r (Ref o) = IsHeld r o
+RefersToHeld r v = IfSome (referred v) (IsHeld r)
 
 abbrev pub AllHeld : Resolved → List Value → Type 0
 AllHeld r vs = AllByRecursion (RefersToHeld r) vs

@@ -100,8 +100,7 @@ module _ (start : Start) (choice : List ℕ) where
     steps f.Null = refl
     steps (f.Local x) = λ i. siteless (nf.Local (record { number = local_stays locals from x i; at = x.at }))
     steps (f.Read x y) = λ i. λ n. (nf.Read (record { number = local_stays locals from x i; at = x.at }) (field_stays locals from x y i) n, suc n)
-    steps (f.Negative e) = refl
-    steps (f.Not e) = refl
+    steps (f.Unary o e) = refl
     steps (f.Chain e us) = refl
     steps (f.Compared e c g) = refl
 

@@ -3,6 +3,7 @@ use Rattle.std.proofs.Common.{◌≡◌, ℕ, ◌<◌, nat_lt, Bool, true, false
 use Rattle.std.specs.Prelude.{slice_get}
 use Rattle.std.specs.List.{AllByRecursion, flat_map}
 use Rattle.fab_base.proofs.Lists.{all_split, at_index}
+use Rattle.fab_base.specs.declared.object.Width.TheVariants as widths
 use Rattle.fab_tree.specs.declared.expression.Operator.{Operator}
 use Rattle.fab_tree.specs.declared.expression.Operator.TheVariants as o
 use Rattle.fab_tree.specs.declared.statement.Downgrade.{Downgrade}
@@ -156,8 +157,7 @@ module _ (n : ℕ) where
     by_form forms.Null = record { by = λ pc failure q. refl }
     by_form (forms.Local x) = record { by = λ pc failure q. refl }
     by_form (forms.Read x field site) = record { by = λ pc failure q. quiet_reaching x pc failure q }
-    by_form (forms.Negative k) = k.1
-    by_form (forms.Not k) = k.1
+    by_form (forms.Unary o k) = k.1
     by_form (forms.Chain k ks) = record {
       by = λ pc failure q. both_quiet ((part classes locals k.0).owes pc failure) (flat_map (tail_owes classes locals pc failure) (tails ks)) (k.1.by pc failure q) (quiet_tails ks pc failure q);
     }
@@ -275,7 +275,7 @@ module _ (n : ℕ) where
       quiet_writing pc x e (Some c) k = quiet_flow Write x.at (pc ++ ob.local_labels classes locals x ++ (part classes locals e).labels) c.label.number k
 
       found_sort : (t : Sort) → FoundClass (ob.class_of_sort classes t)
-      found_sort sorts.Int = tt
+      found_sort (sorts.Number widths.Int) = tt
       found_sort (sorts.Class y) = found_class y.number (slice_get classes y.number) refl
 
       found_behind : (x : Option Local) → FoundClass (ob.class_of_local classes x)

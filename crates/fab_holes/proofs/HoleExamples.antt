@@ -2,6 +2,7 @@
 use Rattle.std.proofs.Common.{◌≡◌, ℕ, zero, suc, ◌+◌, ◌<◌, true, false, List, [], ◌∷◌, map, None, refl, sym, subst, codes, arith}
 use Rattle.fab_base.specs.declared.label.Policy.{Policy}
 use Rattle.fab_base.specs.declared.label.Label.{Label}
+use Rattle.fab_base.specs.declared.object.Width.TheVariants as widths
 use Rattle.fab_base.specs.Labels.{Flows, Deny}
 use Rattle.fab_base.specs.Principals.{Delegations, ActsFor, Leads}
 use Rattle.fab_tree.specs.declared.name.Name.{Name}
@@ -41,7 +42,7 @@ over labels = record {
 }
 
 abbrev parameter : ℕ → List ℕ → Parameter
-parameter at label = record { sort = texts.Int; name = named 0 (codes "q"); label = named at label }
+parameter at label = record { sort = texts.Number widths.Int; name = named 0 (codes "q"); label = named at label }
 
 -- `infer` stands for a label where no label has the name
 a_hole : is_hole (over (codes "S" ∷ codes "P" ∷ [])) (named 9 (codes "infer")) ≡ true
@@ -67,7 +68,7 @@ abbrev free : Label
 free = record { conf = []; integ = [] }
 
 abbrev local : ℕ → Local
-local label = record { sort = sorts.Int; name = named 0 (codes "x"); label = record { number = label; at = 0 } }
+local label = record { sort = sorts.Number widths.Int; name = named 0 (codes "x"); label = record { number = label; at = 0 } }
 
 abbrev method : List ℕ → List Statement → Method
 method labels body = record {

@@ -6,6 +6,7 @@ use Rattle.std.specs.List.{AllByRecursion, flat_map, list_any}
 use Rattle.std.proofs.lemmas.Bool.{eqb-true}
 use Rattle.std.proofs.lemmas.List.{map-append}
 use Rattle.fab_base.proofs.Lists.{all_split, all_append}
+use Rattle.fab_base.specs.declared.object.Width.TheVariants as widths
 use Rattle.fab_tree.specs.declared.expression.Operator.{Operator}
 use Rattle.fab_tree.specs.declared.expression.Operator.TheVariants as o
 use Rattle.fab_tree.specs.declared.statement.Downgrade.{Downgrade}
@@ -233,7 +234,7 @@ module _ (f : ℕ → ℕ) (P : Claim → Type 0) where
     kept_slot i (Some c) e = kept i c e
 
     kept_sort : (t : Sort) → IsKept (class_of_sort classes t)
-    kept_sort sorts.Int = tt
+    kept_sort (sorts.Number widths.Int) = tt
     kept_sort (sorts.Class y) = kept_slot y.number (slice_get classes y.number) refl
 
     kept_local : (x : Option Local) → IsKept (class_of_local classes x)
@@ -344,8 +345,7 @@ module _ (f : ℕ → ℕ) (P : Claim → Type 0) where
           ∙ sym (map-append f (local_labels classes locals x) (label_of_class (class_behind classes locals x)));
       owes = λ pc qc failure e like. both_reaching x pc qc failure e like;
     }
-    by_form (forms.Negative k) = k.1
-    by_form (forms.Not k) = k.1
+    by_form (forms.Unary o k) = k.1
     by_form (forms.Chain k ks) =
         let p = part classes locals k.0 in
         let q = part classes others k.0 in

@@ -3,6 +3,7 @@ use Rattle.std.proofs.Common.{◌≡◌, ℕ, Bool, true, false, cond, ◌||◌,
 use Rattle.std.specs.List.{flat_map, list_any}
 use Rattle.std.proofs.lemmas.List.{map-append, length-map}
 use Rattle.fab_base.proofs.Lists.{left_nil, right_nil}
+use Rattle.fab_base.specs.declared.object.Width.TheVariants as widths
 use Rattle.fab_tree.specs.declared.name.Name.{Name}
 use Rattle.fab_tree.specs.declared.declaration.Sort.{Sort}
 use Rattle.fab_tree.specs.declared.declaration.Class.{Class}
@@ -211,8 +212,7 @@ module _ (start : Start) (c e : List ℕ) where
     unknown_steps f.Null = refl
     unknown_steps (f.Local x) = same_local x
     unknown_steps (f.Read x y) = same_reach x y
-    unknown_steps (f.Negative p) = refl
-    unknown_steps (f.Not p) = refl
+    unknown_steps (f.Unary o p) = refl
     unknown_steps (f.Chain p others) = refl
     unknown_steps (f.Compared p how q) = refl
 
@@ -253,8 +253,7 @@ module _ (start : Start) (c e : List ℕ) where
       value = record { kind = kind_of_field start (named field_name (fields_of start (same_class x i)) y); at = at };
       faults = t.if_so (t.is_reachable (same_kind x i)) at;
     }
-    typed_steps (f.Negative p) = refl
-    typed_steps (f.Not p) = refl
+    typed_steps (f.Unary o p) = refl
     typed_steps (f.Chain p others) = refl
     typed_steps (f.Compared p how q) = refl
 
@@ -278,7 +277,7 @@ module _ (start : Start) (c e : List ℕ) where
     typed_same returns (assign x v) = typed_right (t.local_kind A ka x) (t.local_kind B kb x) v (same_kind x)
     typed_same returns (write x y v) = λ i. t.if_so (t.is_reachable (same_kind x i)) x.at ++ (typed_expression v i).faults ++ t.given_to (kind_of_field start (named field_name (fields_of start (same_class x i)) y)) (typed_expression v i).value
     typed_same returns (call m es) = typed_arguments (t.parameter_kinds A (named method_name A.program.methods m)) (t.parameter_kinds B (named method_name B.program.methods m)) es (same_kinds m)
-    typed_same returns (test v) = λ i. (typed_expression v i).faults ++ t.given_to number (typed_expression v i).value
+    typed_same returns (test v) = λ i. (typed_expression v i).faults ++ t.given_to (number widths.Int) (typed_expression v i).value
     typed_same returns (atomic l) = refl
     typed_same returns (result v) = λ i. (typed_expression v.value i).faults ++ t.given_to (t.result_kind start ka returns) (typed_expression v.value i).value
 

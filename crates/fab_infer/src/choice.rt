@@ -3,8 +3,9 @@ ghost use Rattle.std.specs.Prelude.{◌≡◌, ◌≤◌, IfOk, length};
 ghost use Rattle.fab_holes.specs.Chosen.{put_first, put_locals, put_method, put_methods, with_chosen};
 
 use fab_base::{NoMemory, Seq};
-use fab_tree::resolved::{Local, Method, Resolved, Use};
+use fab_tree::resolved::{Local, Method, Resolved};
 use std::alloc::Global;
+use std::mem;
 
 /// A local with the first of these labels if it is a hole, and the labels that are left.
 #[tactic(auto, using(fab_holes::proofs::Puts::kept_first))]
@@ -17,12 +18,9 @@ fn with_first(local: Local, count: u16, labels: &[u16]) -> (Local, &[u16])
     match labels.split_first() {
         None => (local, labels),
         Some((number, after)) => {
-            let Local { sort, name, label } = local;
-            let label = Use {
-                number: *number,
-                at: label.at,
-            };
-            (Local { sort, name, label }, after)
+            let mut local = local;
+            local.label.number = *number;
+            (local, after)
         }
     }
 }
@@ -55,29 +53,10 @@ fn with_choice(
 ) -> Result<(Method, &[u16]), NoMemory>
     ensures { IfOk result (λ t. (t.0, t.1.now) ≡ put_method count method labels.now) }
 {
-    let Method {
-        name,
-        parameters,
-        locals,
-        returns,
-        begin,
-        fails,
-        authority,
-        body,
-        result,
-    } = method;
+    let mut method = method;
+    let locals = mem::replace(&mut method.locals, Seq::new(alloc));
     let (locals, after) = with_labels(alloc, locals, count, labels)?;
-    let method = Method {
-        name,
-        parameters,
-        locals,
-        returns,
-        begin,
-        fails,
-        authority,
-        body,
-        result,
-    };
+    method.locals = locals;
     Ok((method, after))
 }
 
@@ -106,31 +85,8 @@ pub(crate) fn chosen(alloc: Global, start: Resolved, labels: &[u16]) -> Result<R
     ensures { IfOk result (λ r. r ≡ with_chosen start labels.now) }
 {
     let count = start.labels.len() as u16;
-    let Resolved {
-        nodes,
-        pairs,
-        labels: declared,
-        classes,
-        methods,
-        roots,
-        sessions,
-        posts,
-        crashes,
-        cache,
-        schedule,
-    } = start;
-    let methods = with_choices(alloc, methods, count, labels)?;
-    Ok(Resolved {
-        nodes,
-        pairs,
-        labels: declared,
-        classes,
-        methods,
-        roots,
-        sessions,
-        posts,
-        crashes,
-        cache,
-        schedule,
-    })
+    let mut start = start;
+    let methods = mem::replace(&mut start.methods, Seq::new(alloc));
+    start.methods = with_choices(alloc, methods, count, labels)?;
+    Ok(start)
 }

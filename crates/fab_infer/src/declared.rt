@@ -61,9 +61,9 @@ impl<'a> Declared<'a> {
         match self.labels.get(usize::from(label)) {
             None => Ok(name),
             Some(found) => {
-                let Name { text: _, at } = name;
-                let text = found.name.text.copy(alloc)?;
-                Ok(Name { text, at })
+                let mut name = name;
+                name.text = found.name.text.copy(alloc)?;
+                Ok(name)
             }
         }
     }

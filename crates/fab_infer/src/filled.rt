@@ -7,8 +7,9 @@ ghost use Rattle.fab_infer.specs.Fill.{IsFilled, filled_others, of_labels};
 
 use crate::declared::Declared;
 use fab_base::{NoMemory, Seq};
-use fab_tree::{Expression, Method, Name, Parameter, Program, Start, Statement};
+use fab_tree::{Expression, Method, Name, Parameter, Start, Statement};
 use std::alloc::Global;
+use std::mem;
 
 /// A parameter with a label for its hole, and the labels that are left.
 fn fill_parameter<'c>(
@@ -203,28 +204,13 @@ fn fill_method<'c>(
 ) -> Result<(Method, &'c [u16]), NoMemory>
     ensures { IfOk result (λ t. IsFilled (λ choice. filled_method (of_labels declared.now.labels.now) choice method) choice.now t.0 t.1.now) }
 {
-    let Method {
-        name,
-        parameters,
-        returns,
-        begin,
-        fails,
-        authority,
-        body,
-        result,
-    } = method;
+    let mut method = method;
+    let parameters = mem::replace(&mut method.parameters, Seq::new(alloc));
     let (parameters, left) = fill_parameters(alloc, declared, parameters, choice)?;
+    method.parameters = parameters;
+    let body = mem::replace(&mut method.body, Seq::new(alloc));
     let (body, left) = fill_block(alloc, declared, body, left)?;
-    let method = Method {
-        name,
-        parameters,
-        returns,
-        begin,
-        fails,
-        authority,
-        body,
-        result,
-    };
+    method.body = body;
     Ok((method, left))
 }
 
@@ -251,38 +237,9 @@ fn fill_methods(
 pub fn fill(alloc: Global, start: Start, choice: &[u16]) -> Result<Start, NoMemory>
     ensures { IfOk result (λ s. s ≡ filled start choice.now) }
 {
-    let Start {
-        program,
-        roots,
-        sessions,
-        posts,
-        crashes,
-        cache,
-        schedule,
-    } = start;
-    let Program {
-        nodes,
-        delegations,
-        labels,
-        classes,
-        methods,
-    } = program;
-    let declared = Declared::of(labels.as_slice());
-    let methods = fill_methods(alloc, &declared, methods, choice)?;
-    let program = Program {
-        nodes,
-        delegations,
-        labels,
-        classes,
-        methods,
-    };
-    Ok(Start {
-        program,
-        roots,
-        sessions,
-        posts,
-        crashes,
-        cache,
-        schedule,
-    })
+    let mut start = start;
+    let methods = mem::replace(&mut start.program.methods, Seq::new(alloc));
+    let declared = Declared::of(start.program.labels.as_slice());
+    start.program.methods = fill_methods(alloc, &declared, methods, choice)?;
+    Ok(start)
 }

@@ -27,7 +27,7 @@ fn class_of_sort<'a>(names: &Names<'a>, sort: Sort) -> Option<&'a Class>
     ensures { option_copied result ≡ class_of_sort names.now.classes.now sort }
 {
     match sort {
-        Sort::Int => None,
+        Sort::Number(_) => None,
         Sort::Class(class) => names.classes.get(usize::from(class.number)),
     }
 }
@@ -71,7 +71,7 @@ pub(crate) fn put_labels(
             put_local(names, out, *object)?;
             put_behind(names, out, *object)
         }
-        Form::Negative(operand) | Form::Not(operand) => put_labels(names, out, operand.get()),
+        Form::Unary { operand, .. } => put_labels(names, out, operand.get()),
         Form::Chain { first, others } => {
             put_labels(names, out, first.get())?;
             put_operands(names, out, others.as_slice())

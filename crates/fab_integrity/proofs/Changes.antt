@@ -12,7 +12,7 @@ use Rattle.fab_world.specs.Workers.{Kept, Attempt, fresh, worker_keeps, kept_of}
 use Rattle.fab_integrity.proofs.Costs.{boots_by, outcomes_by, boots_in, outcomes_in}
 use Rattle.fab_integrity.proofs.Worlds.{at_same, at_other}
 use Rattle.fab_integrity.proofs.Lasting.{kept_more}
-use Rattle.fab_integrity.proofs.Transport.{ready_entries}
+use Rattle.fab_integrity.proofs.Transport.{ready_entries, ready_first}
 
 -- ---- the boots and the outcomes of a worker, one record later
 
@@ -124,15 +124,15 @@ module _ (S : Setting) where
   if_whole false entry = None
 
   cut_entries : (keep : ℕ) (entry : Option Entry) (node : Node) (entries : List Entry) (b : Bool) → node.entries ≡ entries
-      → (keep == length (record_behind entries entry)) ≡ b
+      → (keep == length (record_behind node.first entries entry)) ≡ b
       → (cut S keep entry node).entries ≡ entries ++ option_list (if_whole b entry)
   cut_entries keep entry node entries b same h =
-      ap (λ t. (cond t (record node { entries = node.entries ++ option_list entry }) (record node { torn = take keep (record_behind node.entries entry) })).entries)
-      (ap (λ es. keep == length (record_behind es entry)) same ∙ h)
+      ap (λ t. (cond t (record node { entries = node.entries ++ option_list entry }) (record node { torn = take keep (record_behind node.first node.entries entry) })).entries)
+      (ap (λ es. keep == length (record_behind node.first es entry)) same ∙ h)
       ∙ stands b
     where
       stands : (b : Bool)
-          → (cond b (record node { entries = node.entries ++ option_list entry }) (record node { torn = take keep (record_behind node.entries entry) })).entries
+          → (cond b (record node { entries = node.entries ++ option_list entry }) (record node { torn = take keep (record_behind node.first node.entries entry) })).entries
           ≡ entries ++ option_list (if_whole b entry)
       stands true = ap (λ es. es ++ option_list entry) same
       stands false = same ∙ sym (append-nil entries)
@@ -156,7 +156,8 @@ module _ (S : Setting) where
   cuts_changes w keep e b h =
       changed_and_down w (ready S w e) (node_of e) (cut S keep (act S w e).entry ((ready S w e).node (node_of e))) (if_whole b (act S w e).entry) (ready_entries S w e)
       (ready_attempt w e)
-      (cut_entries keep (act S w e).entry ((ready S w e).node (node_of e)) (w.node (node_of e)).entries b (ready_entries S w e (node_of e)) h)
+      (cut_entries keep (act S w e).entry ((ready S w e).node (node_of e)) (w.node (node_of e)).entries b (ready_entries S w e (node_of e))
+      (ap (λ first. keep == length (record_behind first (w.node (node_of e)).entries (act S w e).entry)) (ready_first S w e (node_of e)) ∙ h))
 
   -- what a hostile node posts changes no node
   pub posted_node : (w : World) (h : ℕ) (posts : List (ℕ × List ℕ)) → (posted S w h posts).node ≡ w.node

@@ -20,7 +20,7 @@ use Rattle.fab_integrity.specs.Redone.{AllRedone, IsFaithful}
 use Rattle.fab_integrity.proofs.Invariant.{In}
 use Rattle.fab_integrity.proofs.Lists.{filter_twice}
 use Rattle.fab_integrity.proofs.Worlds.{IsAsBefore, at_same, at_other, as_before}
-use Rattle.fab_integrity.proofs.Transport.{mutes, ready_other, ready_entries, lands_muted, lands_whole}
+use Rattle.fab_integrity.proofs.Transport.{mutes, ready_other, ready_entries, record_ready, lands_muted, lands_whole}
 use Rattle.fab_integrity.proofs.WorkerSteps.{HasRoom}
 use Rattle.fab_integrity.proofs.Steps.{Holds, any_acted, down_like, holds_calm, holds_outsider, holds_down, queues_whole, queues_muted, ready_beside}
 use Rattle.fab_integrity.proofs.Counts.{Counted, counted_start, counted_step}
@@ -90,8 +90,8 @@ module _ (S : Setting) (D ex : ℕ → Bool) (given : IsSetting S) (law : IsEval
       (λ z ne. as_before ((mutes S (ready S w e) n (act S w e)).node z) (x.node z) (at_other (ready S w e).node n _ z ne ∙ sym (at_other (ready S w e).node n _ z ne)))
       (ap (λ (u : Node). u.entries) (at_same (ready S w e).node n _)
       ∙ ap (λ b. (if b then record ((ready S w e).node n) { entries = ((ready S w e).node n).entries ++ option_list (act S w e).entry }
-      else record ((ready S w e).node n) { torn = take keep (record_behind ((ready S w e).node n).entries (act S w e).entry) }).entries)
-      (ap (λ es. keep == length (record_behind es (act S w e).entry)) (ready_entries S w e (node_of e)) ∙ whole)
+      else record ((ready S w e).node n) { torn = take keep (record_behind ((ready S w e).node n).first ((ready S w e).node n).entries (act S w e).entry) }).entries)
+      (ap (λ bytes. keep == length bytes) (record_ready S w e (act S w e).entry) ∙ whole)
       ∙ sym (ap (λ (u : Node). u.entries) (at_same (ready S w e).node n _)))
       (λ z b ne. refl)
       (holds_down S D ex given (mutes S (ready S w e) n (act S w e)) _
@@ -110,8 +110,8 @@ module _ (S : Setting) (D ex : ℕ → Bool) (given : IsSetting S) (law : IsEval
       (at_other (ready S w e).node (node_of e) _ z ne ∙ ready_other S w e z ne))
       (ap (λ (u : Node). u.entries) (at_same (ready S w e).node (node_of e) _)
       ∙ ap (λ b. (if b then record ((ready S w e).node (node_of e)) { entries = ((ready S w e).node (node_of e)).entries ++ option_list (act S w e).entry }
-      else record ((ready S w e).node (node_of e)) { torn = take keep (record_behind ((ready S w e).node (node_of e)).entries (act S w e).entry) }).entries)
-      (ap (λ es. keep == length (record_behind es (act S w e).entry)) (ready_entries S w e (node_of e)) ∙ whole)
+      else record ((ready S w e).node (node_of e)) { torn = take keep (record_behind ((ready S w e).node (node_of e)).first ((ready S w e).node (node_of e)).entries (act S w e).entry) }).entries)
+      (ap (λ bytes. keep == length bytes) (record_ready S w e (act S w e).entry) ∙ whole)
       ∙ ready_entries S w e (node_of e))
       (λ z b ne. ready_beside S w e z b ne) (holds_down S D ex given w cs h (node_of e)))
 

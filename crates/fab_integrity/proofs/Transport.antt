@@ -1,14 +1,15 @@
 -- How a node's act gets into the world: what stands behind an event at its node, at the others, and in the queues.
-use Rattle.std.specs.Prelude.{◌≡◌, ◌⊎◌, ℕ, true, false, not, ◌&&◌, ◌==◌, IsTrue, List, [], ◌∷◌, ◌++◌, map}
+use Rattle.std.specs.Prelude.{◌≡◌, ◌⊎◌, ℕ, true, false, not, ◌&&◌, ◌==◌, IsTrue, List, [], ◌∷◌, ◌++◌, map, Option}
 use Rattle.std.specs.List.{filter}
 use Rattle.std.proofs.Common.{refl, sym, ap, ◌∙◌, subst, inl, inr, cond, true≢false}
 use Rattle.std.proofs.lemmas.Bool.{cases_eq, eqb-true, and_parts, cond_both}
+use Rattle.fab_base.specs.declared.entry.Entry.{Entry}
 use Rattle.fab_base.specs.declared.message.Message.{Message}
 use Rattle.fab_base.specs.MessageSpelling.{spelled}
 use Rattle.fab_net.specs.declared.event.Inner.{Inner}
 use Rattle.fab_net.specs.declared.event.Inner.TheVariants as i
 use Rattle.fab_rights.specs.Computed.{is_node}
-use Rattle.fab_world.specs.Machine.{Setting, Node, World, with_at, rest_of, option_list, node_of, act, at_node, ready, acted, bytes_to, waiting_for}
+use Rattle.fab_world.specs.Machine.{Setting, Node, World, with_at, rest_of, option_list, node_of, act, at_node, ready, acted, bytes_to, record_behind, waiting_for}
 use Rattle.fab_world.specs.Machine.{lands, is_running, may}
 use Rattle.fab_world.specs.Machine.{is_empty, front_of}
 use Rattle.fab_world.specs.Workers.{Act, to_all}
@@ -126,6 +127,26 @@ module _ (S : Setting) where
         (ap (λ (y : Node). y.entries) (at_same w.node n (record (w.node n) { torn = []; up = true })))
     | inr ne ↦ ap (λ (y : Node). y.entries) (at_other w.node n (record (w.node n) { torn = []; up = true }) x ne)
   ]
+
+  -- nor does the version in which its journal begins change
+  pub ready_first : (w : World) (e : Inner) (x : ℕ) → ((ready S w e).node x).first ≡ (w.node x).first
+  ready_first w (i.Begin n) x = refl
+  ready_first w (i.Resume n) x = refl
+  ready_first w (i.Idle n s) x = refl
+  ready_first w (i.Deliver a c) x = refl
+  ready_first w (i.Recover n) x = elim (cases_eq x n) [
+    | inl same ↦ subst (λ z. ((ready S w (i.Recover n)).node z).first ≡ (w.node z).first) (sym same)
+        (ap (λ (y : Node). y.first) (at_same w.node n (record (w.node n) { torn = []; up = true })))
+    | inr ne ↦ ap (λ (y : Node). y.first) (at_other w.node n (record (w.node n) { torn = []; up = true }) x ne)
+  ]
+
+  -- so a record has the same bytes
+  pub record_ready : (w : World) (e : Inner) (entry : Option Entry)
+      → record_behind ((ready S w e).node (node_of e)).first ((ready S w e).node (node_of e)).entries entry
+      ≡ record_behind (w.node (node_of e)).first (w.node (node_of e)).entries entry
+  record_ready w e entry =
+      ap (λ es. record_behind ((ready S w e).node (node_of e)).first es entry) (ready_entries w e (node_of e))
+      ∙ ap (λ first. record_behind first (w.node (node_of e)).entries entry) (ready_first w e (node_of e))
 
   -- a node that is running is up
   pub running_up : (w : World) (n : ℕ) → IsTrue (is_running S w n) → (w.node n).up ≡ true

@@ -3,7 +3,7 @@ use Rattle.std.proofs.Common.{◌≡◌, ℕ, ◌+◌, ◌-◌, ◌^◌, ◌<◌
 use Rattle.std.proofs.lemmas.List.{append-nil, length-take}
 use Rattle.std.proofs.Math.Seq.{take-append_seam, drop-append_seam, take-append-add}
 use Rattle.fab_base.specs.declared.entry.Entry.{Entry}
-use Rattle.fab_base.specs.JournalSpelling.{header_bytes, records_from, record_bytes, version_behind, journal_bytes, IsEntry, AreEntries, IsTorn, IsReadAs}
+use Rattle.fab_base.specs.JournalSpelling.{header_bytes, records_from, record_bytes, version_behind, journal_bytes, IsEntry, AreEntries, IsTorn, IsReadAs, journal_version}
 use Rattle.fab_base.proofs.Torn.{short_is_torn}
 use Rattle.fab_device.specs.Devices.{MayLeave}
 use Rattle.fab_journal.proofs.Fronts.{torn_inside}
@@ -29,37 +29,37 @@ front_is_left old bytes left h =
 
 -- ---- the journal with one record more
 
-pub journal-push : (node : ℕ) (entries : List Entry) (e : Entry) → journal_bytes 1 node (entries ++ e ∷ []) ≡ journal_bytes 1 node entries ++ record_bytes (version_behind 1 entries) e
+pub journal-push : (node : ℕ) (entries : List Entry) (e : Entry) → journal_bytes journal_version node (entries ++ e ∷ []) ≡ journal_bytes journal_version node entries ++ record_bytes (version_behind journal_version entries) e
 journal-push node entries e =
-    ap (λ (t : List ℕ). header_bytes 1 node ++ t) (records-push 1 entries e)
-    ∙ sym (append_assoc (header_bytes 1 node) (records_from 1 entries) (record_bytes (version_behind 1 entries) e))
+    ap (λ (t : List ℕ). header_bytes journal_version node ++ t) (records-push journal_version entries e)
+    ∙ sym (append_assoc (header_bytes journal_version node) (records_from journal_version entries) (record_bytes (version_behind journal_version entries) e))
 
 -- ---- what is behind a journal and no whole record is dropped
 
-behind : (node : ℕ) (entries : List Entry) (rest : List ℕ) → node < 2 ^ 16 → AreEntries 1 entries → IsTorn rest → IsReadAs (journal_bytes 1 node entries ++ rest) entries (length (journal_bytes 1 node entries))
+behind : (node : ℕ) (entries : List Entry) (rest : List ℕ) → node < 2 ^ 16 → AreEntries journal_version entries → IsTorn rest → IsReadAs (journal_bytes journal_version node entries ++ rest) entries (length (journal_bytes journal_version node entries))
 behind node entries rest small fits torn =
     inr (record {
       front = record {
         node = node;
         in_range = small;
         entries_fit = fits;
-        within = omega (arith, length-append (journal_bytes 1 node entries) rest);
-        spelled = take-append_seam (journal_bytes 1 node entries) rest;
+        within = omega (arith, length-append (journal_bytes journal_version node entries) rest);
+        spelled = take-append_seam (journal_bytes journal_version node entries) rest;
       };
-      torn = subst IsTorn (sym (drop-append_seam (journal_bytes 1 node entries) rest)) torn;
+      torn = subst IsTorn (sym (drop-append_seam (journal_bytes journal_version node entries) rest)) torn;
     })
 
-pub whole_read : (node : ℕ) (entries : List Entry) → node < 2 ^ 16 → AreEntries 1 entries → IsReadAs (journal_bytes 1 node entries) entries (length (journal_bytes 1 node entries))
+pub whole_read : (node : ℕ) (entries : List Entry) → node < 2 ^ 16 → AreEntries journal_version entries → IsReadAs (journal_bytes journal_version node entries) entries (length (journal_bytes journal_version node entries))
 whole_read node entries small fits =
-    subst (λ (t : List ℕ). IsReadAs t entries (length (journal_bytes 1 node entries))) (append-nil (journal_bytes 1 node entries))
+    subst (λ (t : List ℕ). IsReadAs t entries (length (journal_bytes journal_version node entries))) (append-nil (journal_bytes journal_version node entries))
     (behind node entries [] small fits (short_is_torn [] (omega arith)))
 
-cut_record : (e : Entry) (n : ℕ) → IsEntry 1 e → n < length (record_bytes 1 e) → IsTorn (take n (record_bytes 1 e))
-cut_record e n fits lt = subst (λ (t : List ℕ). IsTorn (take n t)) (append-nil (record_bytes 1 e)) (torn_inside e [] n fits lt)
+cut_record : (e : Entry) (n : ℕ) → IsEntry journal_version e → n < length (record_bytes journal_version e) → IsTorn (take n (record_bytes journal_version e))
+cut_record e n fits lt = subst (λ (t : List ℕ). IsTorn (take n t)) (append-nil (record_bytes journal_version e)) (torn_inside e [] n fits lt)
 
-pub torn_read : (node : ℕ) (entries : List Entry) (e : Entry) (n : ℕ) → node < 2 ^ 16 → AreEntries 1 entries → IsEntry (version_behind 1 entries) e → n < length (record_bytes (version_behind 1 entries) e)
-    → IsReadAs (journal_bytes 1 node entries ++ take n (record_bytes (version_behind 1 entries) e)) entries (length (journal_bytes 1 node entries))
+pub torn_read : (node : ℕ) (entries : List Entry) (e : Entry) (n : ℕ) → node < 2 ^ 16 → AreEntries journal_version entries → IsEntry (version_behind journal_version entries) e → n < length (record_bytes (version_behind journal_version entries) e)
+    → IsReadAs (journal_bytes journal_version node entries ++ take n (record_bytes (version_behind journal_version entries) e)) entries (length (journal_bytes journal_version node entries))
 torn_read node entries e n small fits =
-    subst (λ (v : ℕ). IsEntry v e → n < length (record_bytes v e) → IsReadAs (journal_bytes 1 node entries ++ take n (record_bytes v e)) entries (length (journal_bytes 1 node entries)))
-    (sym (version_stays 1 entries))
-    (λ one lt. behind node entries (take n (record_bytes 1 e)) small fits (cut_record e n one lt))
+    subst (λ (v : ℕ). IsEntry v e → n < length (record_bytes v e) → IsReadAs (journal_bytes journal_version node entries ++ take n (record_bytes v e)) entries (length (journal_bytes journal_version node entries)))
+    (sym (version_stays journal_version entries))
+    (λ one lt. behind node entries (take n (record_bytes journal_version e)) small fits (cut_record e n one lt))

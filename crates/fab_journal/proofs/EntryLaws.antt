@@ -10,7 +10,7 @@ use Rattle.fab_base.specs.declared.message.Items.{Items}
 use Rattle.fab_base.specs.declared.entry.Entry.{Entry}
 use Rattle.fab_base.specs.declared.entry.Entry.TheVariants as entries
 use Rattle.fab_base.specs.FieldSpelling.{two_bytes, four_bytes, tid_bytes, IsTid, value_bytes, IsValue, items_bytes, AreItems}
-use Rattle.fab_base.specs.JournalSpelling.{result_bytes, IsResult, stores_bytes, AscendFrom, AreStores, NamesNode, IsOutcome, body_bytes, IsEntryBody, IsEntry}
+use Rattle.fab_base.specs.JournalSpelling.{result_bytes, IsResult, stores_bytes, AscendFrom, AreStores, NamesNode, IsOutcome, body_bytes, IsEntryBody, IsEntry, journal_version}
 use Rattle.fab_wire.specs.Reading.{◌>>=◌, made, value_at}
 use Rattle.fab_wire.proofs.ReaderLaws.{IsBytes, IsBytes-nil, IsBytes-cons, Reads, Stops, bind_ok, bind_err, ok_is, made_reads, chosen_reads, both_reads, respelled, nothing_reads}
 use Rattle.fab_wire.proofs.NumberLaws.{two_reads, four_reads, byte_reads}
@@ -239,10 +239,10 @@ said (entries.BootSeen worker boot) = two_bytes worker ++ four_bytes boot
 
 -- an entry of a kind
 abbrev OfKind : ℕ → Entry → Type 0
-OfKind kind e = IsEntryBody 1 e × (kind_of e ≡ kind)
+OfKind kind e = IsEntryBody journal_version e × (kind_of e ≡ kind)
 
 decided_back : (e : Entry) → OfKind 1 e
-    → (p : Tid × (ℕ × (Option Value × List ℕ))) × (IsTid p.0 × ((p.1.0 < 2 ^ 32) × (IsResult 1 p.1.1.0 × AreStores p.1.1.1))) × (entries.Decided p.0 p.1.0 p.1.1.0 p.1.1.1 ≡ e)
+    → (p : Tid × (ℕ × (Option Value × List ℕ))) × (IsTid p.0 × ((p.1.0 < 2 ^ 32) × (IsResult journal_version p.1.1.0 × AreStores p.1.1.1))) × (entries.Decided p.0 p.1.0 p.1.1.0 p.1.1.1 ≡ e)
 unfolding kind_of
 decided_back (entries.Decided tid request result stores) h = ((tid, (request, (result, stores))), (h.0.0, (h.0.1, (h.0.2, h.0.3))), refl)
 decided_back e h = absurd (omega (arith, h.1))
@@ -286,13 +286,13 @@ entry_by_reads : (kind : ℕ) → (1 ≤ kind) × (kind ≤ 8) → Reads (entry_
 unfolding kind_of said
 entry_by_reads zero h = absurd (omega (arith, h.0))
 entry_by_reads (suc zero) h =
-    made_reads (λ p. entries.Decided p.0 p.1.0 p.1.1.0 p.1.1.1) said (OfKind 1) (both_reads tid_reads (both_reads four_reads (both_reads (result_reads 1) stores_reads)))
+    made_reads (λ p. entries.Decided p.0 p.1.0 p.1.1.0 p.1.1.1) said (OfKind 1) (both_reads tid_reads (both_reads four_reads (both_reads (result_reads journal_version) stores_reads)))
     (λ p fp. (simp append_assoc, ((fp.0, fp.1.0, fp.1.1.0, fp.1.1.1), refl))) decided_back
 entry_by_reads (suc (suc zero)) h =
     made_reads (λ p. entries.Closed p.0 p.1.0 p.1.1) said (OfKind 2) (both_reads four_reads outcome_reads) (λ p fp. (refl, ((fp.0, fp.1), refl))) closed_back
 entry_by_reads (suc (suc (suc zero))) h = made_reads (λ n. entries.Boot n) said (OfKind 3) four_reads (λ n fn. (refl, (fn, refl))) boot_back
 entry_by_reads (suc (suc (suc (suc zero)))) h =
-    made_reads (λ p. entries.Prepared p.0 p.1) said (OfKind 4) (both_reads tid_reads (items_reads 1)) (λ p fp. (refl, ((fp.0, fp.1), refl))) prepared_back
+    made_reads (λ p. entries.Prepared p.0 p.1) said (OfKind 4) (both_reads tid_reads (items_reads journal_version)) (λ p fp. (refl, ((fp.0, fp.1), refl))) prepared_back
 entry_by_reads (suc (suc (suc (suc (suc zero))))) h = made_reads (λ t. entries.Refused t) said (OfKind 5) tid_reads (λ t ft. (refl, (ft, refl))) refused_back
 entry_by_reads (suc (suc (suc (suc (suc (suc zero)))))) h = made_reads (λ t. entries.Applied t) said (OfKind 6) tid_reads (λ t ft. (refl, (ft, refl))) applied_back
 entry_by_reads (suc (suc (suc (suc (suc (suc (suc zero))))))) h = made_reads (λ t. entries.Released t) said (OfKind 7) tid_reads (λ t ft. (refl, (ft, refl))) released_back
@@ -300,7 +300,7 @@ entry_by_reads (suc (suc (suc (suc (suc (suc (suc (suc zero)))))))) h =
     made_reads (λ p. entries.BootSeen p.0 p.1) said (OfKind 8) (both_reads two_reads four_reads) (λ p fp. (refl, ((fp.0, fp.1), refl))) boot_seen_back
 entry_by_reads (suc (suc (suc (suc (suc (suc (suc (suc (suc kind))))))))) h = absurd (omega (arith, h.1))
 
-entry_parts : (e : Entry) → body_bytes 1 e ≡ (kind_of e ∷ []) ++ said e
+entry_parts : (e : Entry) → body_bytes journal_version e ≡ (kind_of e ∷ []) ++ said e
 unfolding kind_of said
 entry_parts (entries.Decided tid request result stores) = refl
 entry_parts (entries.Closed request outcome node) = refl
@@ -322,8 +322,8 @@ kind_within (entries.Applied tid) = (omega arith, omega arith)
 kind_within (entries.Released tid) = (omega arith, omega arith)
 kind_within (entries.BootSeen worker boot) = (omega arith, omega arith)
 
-pub entry_reads : Reads entry_at (body_bytes 1) (IsEntry 1)
+pub entry_reads : Reads entry_at (body_bytes journal_version) (IsEntry journal_version)
 unfolding entry_at
 entry_reads =
-    respelled (body_bytes 1) (IsEntry 1) (chosen_reads entry_by kind_of said (IsEntryBody 1) (byte_reads 1 8 (omega arith) (omega arith)) entry_by_reads)
+    respelled (body_bytes journal_version) (IsEntry journal_version) (chosen_reads entry_by kind_of said (IsEntryBody journal_version) (byte_reads 1 8 (omega arith) (omega arith)) entry_by_reads)
     (λ e fe. entry_parts e) (λ e h. record { known = refl; body = h.1 }) (λ e h. (kind_within e, h.body))

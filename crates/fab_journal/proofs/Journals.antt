@@ -4,7 +4,7 @@ use Rattle.std.proofs.lemmas.List.{append-nil, take-append-drop, take_all, lengt
 use Rattle.std.proofs.Math.Seq.{take-append_seam, drop-append_seam}
 use Rattle.fab_base.specs.declared.entry.Entry.{Entry}
 use Rattle.fab_base.specs.FieldSpelling.{two_bytes, four_bytes}
-use Rattle.fab_base.specs.JournalSpelling.{opening, header_bytes, body_bytes, IsEntry, framed, record_bytes, records_from, version_behind, journal_bytes, AreEntries, IsTornHeader, IsSpelledTo}
+use Rattle.fab_base.specs.JournalSpelling.{opening, header_bytes, body_bytes, IsEntry, framed, record_bytes, records_from, version_behind, journal_bytes, AreEntries, IsTornHeader, IsSpelledTo, journal_version}
 use Rattle.fab_base.proofs.Torn.{number_in, number_in-framed, length-framed}
 use Rattle.fab_wire.proofs.ReaderLaws.{IsBytes}
 use Rattle.fab_wire.proofs.NumberLaws.{two_bytes_of}
@@ -26,14 +26,14 @@ same_front a b x y la lb e =
 
 -- ---- headers
 
-pub header_rest : (node other : ℕ) (x y : List ℕ) → header_bytes 1 node ++ x ≡ header_bytes 1 other ++ y → x ≡ y
-header_rest node other x y e = (same_parts (header_bytes 1 node) (header_bytes 1 other) x y refl e).1
+pub header_rest : (node other : ℕ) (x y : List ℕ) → header_bytes journal_version node ++ x ≡ header_bytes journal_version other ++ y → x ≡ y
+header_rest node other x y e = (same_parts (header_bytes journal_version node) (header_bytes journal_version other) x y refl e).1
 
-pub length-journal : (node : ℕ) (entries : List Entry) → length (journal_bytes 1 node entries) ≡ 8 + length (records_from 1 entries)
-length-journal node entries = length-append (header_bytes 1 node) (records_from 1 entries)
+pub length-journal : (node : ℕ) (entries : List Entry) → length (journal_bytes journal_version node entries) ≡ 8 + length (records_from journal_version entries)
+length-journal node entries = length-append (header_bytes journal_version node) (records_from journal_version entries)
 
 -- the bytes behind a whole opening are a header's node
-pub header_from : (bytes : List ℕ) → IsBytes bytes → 8 ≤ length bytes → take 6 bytes ≡ opening → (node : ℕ) × (node < 2 ^ 16) × (take 8 bytes ≡ header_bytes 1 node)
+pub header_from : (bytes : List ℕ) → IsBytes bytes → 8 ≤ length bytes → take 6 bytes ≡ opening → (node : ℕ) × (node < 2 ^ 16) × (take 8 bytes ≡ header_bytes journal_version node)
 header_from (a ∷ b ∷ c ∷ d ∷ e ∷ f ∷ g ∷ h ∷ bytes) isb le same =
     let node : two_bytes (g * 256 + h) ≡ g ∷ h ∷ [] = two_bytes_of g h (isb 6) (isb 7) in
     (g * 256 + h, omega (arith, isb 6, isb 7), (ap (λ (t : List ℕ). t ++ g ∷ h ∷ []) same ∙ ap (λ (t : List ℕ). opening ++ t) (sym node)))
@@ -81,18 +81,18 @@ pub AreEntries-push : (version : ℕ) (entries : List Entry) (e : Entry) → Are
 AreEntries-push version [] e all one = (one, tt)
 AreEntries-push version (x ∷ entries) e all one = (all.0, AreEntries-push version entries e all.1 one)
 
-one_more : (entries : List Entry) (e : Entry) → records_from 1 (entries ++ e ∷ []) ≡ records_from 1 entries ++ record_bytes 1 e
-one_more entries e = records-push 1 entries e ∙ ap (λ (v : ℕ). records_from 1 entries ++ record_bytes v e) (version_stays 1 entries)
+one_more : (entries : List Entry) (e : Entry) → records_from journal_version (entries ++ e ∷ []) ≡ records_from journal_version entries ++ record_bytes journal_version e
+one_more entries e = records-push journal_version entries e ∙ ap (λ (v : ℕ). records_from journal_version entries ++ record_bytes v e) (version_stays journal_version entries)
 
 -- only a header
 pub spelled_header : (bytes : List ℕ) → IsBytes bytes → 8 ≤ length bytes → take 6 bytes ≡ opening → IsSpelledTo bytes [] 8
 spelled_header bytes isb le same =
     let h = header_from bytes isb le same in
-    record { node = h.0; in_range = h.1; entries_fit = tt; within = le; spelled = h.2 ∙ sym (append-nil (header_bytes 1 h.0)) }
+    record { node = h.0; in_range = h.1; entries_fit = tt; within = le; spelled = h.2 ∙ sym (append-nil (header_bytes journal_version h.0)) }
 
 -- a record more is spelled
 pub spelled_further : (bytes : List ℕ) (entries : List Entry) (at : ℕ) (body : List ℕ) (e : Entry) → IsSpelledTo bytes entries at
-    → drop at bytes ≡ framed body ++ drop (4 + length body) (drop at bytes) → IsEntry 1 e → body ≡ body_bytes 1 e → IsSpelledTo bytes (entries ++ e ∷ []) (at + (4 + length body))
+    → drop at bytes ≡ framed body ++ drop (4 + length body) (drop at bytes) → IsEntry journal_version e → body ≡ body_bytes journal_version e → IsSpelledTo bytes (entries ++ e ∷ []) (at + (4 + length body))
 spelled_further bytes entries at body e s follows one same =
     let len : length (framed body) ≡ 4 + length body = length-framed body in
     let whole : bytes ≡ take at bytes ++ (framed body ++ drop (4 + length body) (drop at bytes)) = sym (take-append-drop at bytes) ∙ ap (λ (t : List ℕ). take at bytes ++ t) follows in
@@ -105,10 +105,10 @@ spelled_further bytes entries at body e s follows one same =
     record {
       node = s.node;
       in_range = s.in_range;
-      entries_fit = AreEntries-push 1 entries e s.entries_fit (subst (λ (v : ℕ). IsEntry v e) (sym (version_stays 1 entries)) one);
+      entries_fit = AreEntries-push journal_version entries e s.entries_fit (subst (λ (v : ℕ). IsEntry v e) (sym (version_stays journal_version entries)) one);
       within = omega (arith, total);
-      spelled = taken ∙ ap (λ (t : List ℕ). t ++ framed body) s.spelled ∙ append_assoc (header_bytes 1 s.node) (records_from 1 entries) (framed body)
-          ∙ ap (λ (t : List ℕ). header_bytes 1 s.node ++ (records_from 1 entries ++ framed t)) same ∙ ap (λ (t : List ℕ). header_bytes 1 s.node ++ t) (sym (one_more entries e));
+      spelled = taken ∙ ap (λ (t : List ℕ). t ++ framed body) s.spelled ∙ append_assoc (header_bytes journal_version s.node) (records_from journal_version entries) (framed body)
+          ∙ ap (λ (t : List ℕ). header_bytes journal_version s.node ++ (records_from journal_version entries ++ framed t)) same ∙ ap (λ (t : List ℕ). header_bytes journal_version s.node ++ t) (sym (one_more entries e));
     }
 
 -- what a slice from a place on holds

@@ -1,7 +1,7 @@
 -- What reading a journal's records gives.
 use Rattle.std.specs.Prelude.{◌≡◌, ℕ, ◌+◌, ◌<◌, ◌^◌, List, ◌++◌, length, take, drop, Option, Some, None, Result, Ok, Err}
 use Rattle.fab_base.specs.declared.entry.Entry.{Entry}
-use Rattle.fab_base.specs.JournalSpelling.{body_bytes, IsEntry, framed, IsTorn, IsReadAs, IsFirstWrong, IsBadBody, IsBadPlace}
+use Rattle.fab_base.specs.JournalSpelling.{body_bytes, IsEntry, framed, IsTorn, IsReadAs, IsFirstWrong, IsBadBody, IsBadPlace, journal_version}
 use Rattle.fab_journal.specs.declared.error.RecordError.{RecordError}
 use Rattle.fab_journal.specs.declared.error.RecordError.TheVariants.{Memory, Bad}
 
@@ -19,9 +19,9 @@ AnswersOnly (Err (Bad at)) entries len = ⊥
 
 -- the entry whose body this is, or where it goes wrong
 abbrev pub ReadsBody : Result Entry RecordError → List ℕ → Type 0
-ReadsBody (Ok entry) body = IsEntry 1 entry × (body ≡ body_bytes 1 entry)
+ReadsBody (Ok entry) body = IsEntry journal_version entry × (body ≡ body_bytes journal_version entry)
 ReadsBody (Err Memory) body = Unit {0}
-ReadsBody (Err (Bad place)) body = IsBadBody 1 body place × (place < 4 + length body)
+ReadsBody (Err (Bad place)) body = IsBadBody journal_version body place × (place < 4 + length body)
 
 -- the body of the whole record that stands at the front, where there is one
 abbrev pub FrontRecord : Option (List ℕ) → List ℕ → Type 0

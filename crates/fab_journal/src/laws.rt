@@ -2,7 +2,7 @@
 
 ghost use Rattle.std.specs.Prelude.{◌≡◌, ◌↔◌, ◌+◌, ◌<◌, ◌≤◌, ◌^◌, ℕ, List, [], ◌∷◌, ◌++◌, length, take};
 ghost use Rattle.fab_base.specs.declared.entry.Entry.{Entry};
-ghost use Rattle.fab_base.specs.JournalSpelling.{journal_bytes, record_bytes, version_behind, AreEntries, IsEntry, IsReadAs};
+ghost use Rattle.fab_base.specs.JournalSpelling.{journal_bytes, record_bytes, version_behind, AreEntries, IsEntry, IsReadAs, journal_version};
 ghost use Rattle.fab_device.specs.Devices.{MayLeave};
 ghost use Rattle.fab_journal.specs.Crash.{ReadsWholeRecords, length_to};
 ghost use Rattle.fab_journal.specs.Lengths.{record_length};
@@ -17,14 +17,14 @@ pub fn one_reading()
 /// whole in it.
 pub fn crash_leaves_whole_records()
     ensures { (node : ℕ) (entries : List Entry) (left : ℕ)
-        → node < 2 ^ 16 → AreEntries 1 entries → ReadsWholeRecords node entries left }
+        → node < 2 ^ 16 → AreEntries journal_version entries → ReadsWholeRecords node entries left }
 {}
 
 /// Cut at any byte at or after its synced length, a journal keeps every synced record.
 pub fn cut_keeps_synced_records()
     ensures { (node : ℕ) (entries : List Entry) (synced cut index : ℕ)
-        → node < 2 ^ 16 → AreEntries 1 entries → synced ≤ cut → index < length entries → length_to node entries (index + 1) ≤ synced
-        → (count len : ℕ) × (index < count) × IsReadAs (take cut (journal_bytes 1 node entries)) (take count entries) len }
+        → node < 2 ^ 16 → AreEntries journal_version entries → synced ≤ cut → index < length entries → length_to node entries (index + 1) ≤ synced
+        → (count len : ℕ) × (index < count) × IsReadAs (take cut (journal_bytes journal_version node entries)) (take count entries) len }
 {}
 
 /// Where all but what was appended last is synced, a crash leaves that, and behind it any front of
@@ -38,9 +38,9 @@ pub fn crash_leaves_a_front()
 /// behind the entries, which is the first one's.
 pub fn one_record_more()
     ensures spelled { (node : ℕ) (entries : List Entry) (entry : Entry)
-        → journal_bytes 1 node (entries ++ entry ∷ []) ≡ journal_bytes 1 node entries ++ record_bytes (version_behind 1 entries) entry }
+        → journal_bytes journal_version node (entries ++ entry ∷ []) ≡ journal_bytes journal_version node entries ++ record_bytes (version_behind journal_version entries) entry }
     ensures fits { (entries : List Entry) (entry : Entry)
-        → AreEntries 1 entries → IsEntry (version_behind 1 entries) entry → AreEntries 1 (entries ++ entry ∷ []) }
+        → AreEntries journal_version entries → IsEntry (version_behind journal_version entries) entry → AreEntries journal_version (entries ++ entry ∷ []) }
     ensures version { (version : ℕ) (entries : List Entry) → version_behind version entries ≡ version }
 {}
 
@@ -48,10 +48,10 @@ pub fn one_record_more()
 /// it that isn't the whole record as the same.
 pub fn torn_record_is_dropped()
     ensures whole { (node : ℕ) (entries : List Entry)
-        → node < 2 ^ 16 → AreEntries 1 entries → IsReadAs (journal_bytes 1 node entries) entries (length (journal_bytes 1 node entries)) }
+        → node < 2 ^ 16 → AreEntries journal_version entries → IsReadAs (journal_bytes journal_version node entries) entries (length (journal_bytes journal_version node entries)) }
     ensures torn { (node : ℕ) (entries : List Entry) (entry : Entry) (n : ℕ)
-        → node < 2 ^ 16 → AreEntries 1 entries → IsEntry (version_behind 1 entries) entry → n < length (record_bytes (version_behind 1 entries) entry)
-        → IsReadAs (journal_bytes 1 node entries ++ take n (record_bytes (version_behind 1 entries) entry)) entries (length (journal_bytes 1 node entries)) }
+        → node < 2 ^ 16 → AreEntries journal_version entries → IsEntry (version_behind journal_version entries) entry → n < length (record_bytes (version_behind journal_version entries) entry)
+        → IsReadAs (journal_bytes journal_version node entries ++ take n (record_bytes (version_behind journal_version entries) entry)) entries (length (journal_bytes journal_version node entries)) }
 {}
 
 /// How long a record is.

@@ -8,13 +8,11 @@ ghost use Rattle.fab_journal.specs.Records.{ReadsRecords, AnswersOnly, ReadsBody
 
 use crate::entries::entry_of;
 use crate::error::RecordError;
+use crate::writing::OPENING;
 use byteorder::{BigEndian, ByteOrder};
 use fab_base::{Entry, Seq};
 use fab_wire::Stop;
 use std::alloc::Global;
-
-/// The letters FABJ and version 1; a header has the node's number after them, two bytes.
-const OPENING: [u8; 6] = [70, 65, 66, 74, 0, 1];
 
 /// How long a header is.
 const HEADER: usize = 8;

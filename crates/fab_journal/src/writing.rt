@@ -4,19 +4,19 @@ ghost use Rattle.std.specs.Prelude.{◌≡◌, ◌++◌, ◌∷◌, OnOk, IfOk};
 ghost use Rattle.std.specs.List.{flat_map};
 ghost use Rattle.fab_base.specs.FieldSpelling.{tid_bytes, IsTid, two_bytes};
 ghost use Rattle.fab_base.specs.declared.entry.Entry.TheVariants.{Decided, Closed};
-ghost use Rattle.fab_base.specs.JournalSpelling.{body_bytes, header_bytes as header_of, record_bytes as record_of, result_bytes, stores_bytes};
+ghost use Rattle.fab_base.specs.JournalSpelling.{body_bytes, header_bytes as header_of, record_bytes as record_of, result_bytes, stores_bytes, journal_version};
 ghost use Rattle.fab_base.specs.JournalSpelling.{AreStores, IsEntry, IsEntryBody, IsResult, KeepsEntry};
 
 use fab_base::{Entry, NoMemory, Seq, Tid, Value};
 use fab_wire::{put_items, put_tid, put_u8, put_u16, put_u32, put_value};
 use std::alloc::Global;
 
-/// The letters FABJ and version 1.
-const OPENING: [u8; 6] = [70, 65, 66, 74, 0, 1];
+/// The letters FABJ and the version; a header has the node's number after them, two bytes.
+pub const OPENING: [u8; 6] = [70, 65, 66, 74, 0, 1];
 
 /// A journal's header, 8 bytes.
 pub fn header_bytes(alloc: Global, node: u16) -> Result<Seq<u8>, NoMemory>
-    ensures { IfOk result (λ bytes. bytes ≡ header_of 1 node) }
+    ensures { IfOk result (λ bytes. bytes ≡ header_of journal_version node) }
 {
     let mut out = Seq::from_slice(alloc, &OPENING)?;
     put_u16(&mut out, node)?;
@@ -26,9 +26,9 @@ pub fn header_bytes(alloc: Global, node: u16) -> Result<Seq<u8>, NoMemory>
 /// An entry's record: the length of its body, four bytes, and the body.
 pub fn record_bytes(alloc: Global, entry: &Entry) -> Result<Seq<u8>, NoMemory>
     requires { KeepsEntry entry.now }
-    ensures bytes { IfOk result (λ bytes. bytes ≡ record_of 1 entry.now) }
+    ensures bytes { IfOk result (λ bytes. bytes ≡ record_of journal_version entry.now) }
     // The entry has a spelling.
-    ensures fits { OnOk result (IsEntry 1 entry.now) }
+    ensures fits { OnOk result (IsEntry journal_version entry.now) }
 {
     let mut body = Seq::new(alloc);
     put_body(&mut body, entry)?;
@@ -40,8 +40,8 @@ pub fn record_bytes(alloc: Global, entry: &Entry) -> Result<Seq<u8>, NoMemory>
 
 fn put_body(out: &mut Seq<u8>, entry: &Entry) -> Result<(), NoMemory>
     requires { KeepsEntry entry.now }
-    ensures bytes { OnOk result (out.new ≡ out.old ++ body_bytes 1 entry.now) }
-    ensures fits { OnOk result (IsEntryBody 1 entry.now) }
+    ensures bytes { OnOk result (out.new ≡ out.old ++ body_bytes journal_version entry.now) }
+    ensures fits { OnOk result (IsEntryBody journal_version entry.now) }
 {
     match entry {
         Entry::Decided {
@@ -83,8 +83,8 @@ fn put_decided(
     stores: &[u16],
 ) -> Result<(), NoMemory>
     requires { AreStores stores.now }
-    ensures bytes { OnOk result (out.new ≡ out.old ++ body_bytes 1 (Decided tid request value stores.now)) }
-    ensures fits { OnOk result (IsEntryBody 1 (Decided tid request value stores.now)) }
+    ensures bytes { OnOk result (out.new ≡ out.old ++ body_bytes journal_version (Decided tid request value stores.now)) }
+    ensures fits { OnOk result (IsEntryBody journal_version (Decided tid request value stores.now)) }
 {
     put_kind_and_tid(out, 1, tid)?;
     put_u32(out, request)?;
@@ -93,7 +93,7 @@ fn put_decided(
 }
 
 fn put_closed(out: &mut Seq<u8>, request: u32, outcome: u8, node: u16) -> Result<(), NoMemory>
-    ensures { OnOk result (out.new ≡ out.old ++ body_bytes 1 (Closed request outcome node)) }
+    ensures { OnOk result (out.new ≡ out.old ++ body_bytes journal_version (Closed request outcome node)) }
 {
     put_u8(out, 2)?;
     put_u32(out, request)?;
@@ -112,7 +112,7 @@ fn put_kind_and_tid(out: &mut Seq<u8>, kind: u8, tid: Tid) -> Result<(), NoMemor
 
 fn put_result(out: &mut Seq<u8>, value: Option<Value>) -> Result<(), NoMemory>
     ensures bytes { OnOk result (out.new ≡ out.old ++ result_bytes value) }
-    ensures fits { IsResult 1 value }
+    ensures fits { IsResult journal_version value }
 {
     match value {
         None => put_u8(out, 3),

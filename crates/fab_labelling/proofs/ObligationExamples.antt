@@ -2,6 +2,7 @@
 --
 -- In all of them the local 0 is `c` of the class C, under label 3, the local 1 is `n` under 4 and the local 2 is
 -- `s` under 5; C is of label 6 and access 7.
+use Rattle.fab_base.specs.declared.object.Width.TheVariants as widths
 use Rattle.std.proofs.Common.{◌≡◌, ℕ, Bool, true, false, pos, List, [], ◌∷◌, ◌++◌, map, Some, None, refl, ap, codes}
 use Rattle.fab_tree.specs.declared.name.Name.{Name}
 use Rattle.fab_tree.specs.declared.declaration.Role.TheVariants as roles
@@ -22,6 +23,8 @@ use Rattle.fab_tree.specs.declared.resolved.Method.{Method}
 use Rattle.fab_tree.specs.declared.resolved.Principal.{Principal}
 use Rattle.fab_tree.specs.declared.resolved.Asked.{Asked}
 use Rattle.fab_tree.specs.declared.resolved.Resolved.{Resolved}
+use Rattle.fab_tree.specs.declared.expression.Number.TheVariants as numbers
+use Rattle.fab_tree.specs.declared.expression.UnaryOperator.TheVariants as unary
 use Rattle.fab_labelling.specs.declared.rule.LabelRule.{LabelRule}
 use Rattle.fab_labelling.specs.declared.rule.LabelRule.TheVariants.{Placement, Begin, Atomic, Write, Access, Fail, Declassify, Endorse, Authority}
 use Rattle.fab_labelling.specs.Obligations.{flows, conf, nowhere, declassifies, endorses, holds, answers_for, Owed, owe, Part, part, Owes, right_owes, statement_step, owed}
@@ -41,11 +44,11 @@ abbrev classes : List Class
 classes = record { name = name; label = used 6 0; access = used 7 0; fields = [] } ∷ []
 
 abbrev locals : List l.Local
-locals = local (sorts.Class (used 0 0)) 3 ∷ local sorts.Int 4 ∷ local sorts.Int 5 ∷ []
+locals = local (sorts.Class (used 0 0)) 3 ∷ local (sorts.Number widths.Int) 4 ∷ local (sorts.Number widths.Int) 5 ∷ []
 
 -- a method with two parameters under 8 and 9
 abbrev called : ℕ → Bool → Method
-called begin fails = record { name = name; parameters = 2; locals = local sorts.Int 8 ∷ local sorts.Int 9 ∷ local sorts.Int 0 ∷ []; returns = Some (record { sort = sorts.Int; label = used 10 0 }); begin = used begin 0; fails = fails; authority = []; body = []; result = None }
+called begin fails = record { name = name; parameters = 2; locals = local (sorts.Number widths.Int) 8 ∷ local (sorts.Number widths.Int) 9 ∷ local (sorts.Number widths.Int) 0 ∷ []; returns = Some (record { sort = sorts.Number widths.Int; label = used 10 0 }); begin = used begin 0; fails = fails; authority = []; body = []; result = None }
 
 -- method 0 begins under 11 and may fail, method 1 begins under 12 and doesn't
 abbrev methods : List Method
@@ -73,7 +76,7 @@ abbrev the_s : ℕ → Expression
 the_s at = expression_at at (f.Local (used 2 at))
 
 abbrev five : Expression
-five = expression_at 0 (f.Number (pos 5))
+five = expression_at 0 (f.Number (numbers.Int (pos 5)))
 
 -- a constant has no label
 number_owes : of (part classes locals five) ≡ ([], [])
@@ -90,10 +93,10 @@ read_owes : of (part classes locals (c_f 20)) ≡ (3 ∷ 6 ∷ [], access 20 (1 
 read_owes = rw part_is refl
 
 -- -n and !c.f are as their operands
-negative_owes : of (part classes locals (expression_at 20 (f.Negative (the_n 21)))) ≡ (4 ∷ [], [])
+negative_owes : of (part classes locals (expression_at 20 (f.Unary unary.Negative (the_n 21)))) ≡ (4 ∷ [], [])
 negative_owes = rw (part_is, part_is) refl
 
-not_owes : of (part classes locals (expression_at 20 (f.Not (c_f 21)))) ≡ (3 ∷ 6 ∷ [], access 21 (1 ∷ 2 ∷ 3 ∷ []) ++ flow Fail 21 (1 ∷ 2 ∷ 3 ∷ []) 1)
+not_owes : of (part classes locals (expression_at 20 (f.Unary unary.Not (c_f 21)))) ≡ (3 ∷ 6 ∷ [], access 21 (1 ∷ 2 ∷ 3 ∷ []) ++ flow Fail 21 (1 ∷ 2 ∷ 3 ∷ []) 1)
 not_owes = rw (part_is, part_is) refl
 
 -- s / c.f * n / 5: each divisor with what decided, at its sign
@@ -188,7 +191,7 @@ nested_owes = refl
 -- ---- a whole bundle
 
 abbrev the_method : List Statement → Method
-the_method body = record { name = name; parameters = 1; locals = locals; returns = Some (record { sort = sorts.Int; label = used 10 0 }); begin = used 1 0; fails = false; authority = used 0 0 ∷ []; body = body; result = Some (record { value = c_f 37; at = 30 }) }
+the_method body = record { name = name; parameters = 1; locals = locals; returns = Some (record { sort = sorts.Number widths.Int; label = used 10 0 }); begin = used 1 0; fails = false; authority = used 0 0 ∷ []; body = body; result = Some (record { value = c_f 37; at = 30 }) }
 
 abbrev nobody : Principal
 nobody = record { role = roles.Principal; name = name; node = None }

@@ -7,6 +7,7 @@ use Rattle.std.proofs.lemmas.Nat.Bits.{and_pow, bit_at_above}
 use Rattle.std.proofs.lemmas.Bool.{cases_lt}
 use Rattle.std.proofs.lemmas.Option.{slice_get_within}
 use Rattle.fab_base.specs.declared.label.Policy.{Policy}
+use Rattle.fab_base.specs.declared.object.Width.TheVariants as widths
 use Rattle.fab_base.specs.Principals.{Leads}
 use Rattle.fab_base.specs.Labels.{PolicyDenies, Deny, DenyWith}
 use Rattle.fab_tree.specs.declared.resolved.Use.{Use}
@@ -17,6 +18,7 @@ use Rattle.fab_tree.specs.declared.resolved.Statement.{Statement, roll-Statement
 use Rattle.fab_tree.specs.declared.resolved.Statement.TheOpen as s
 use Rattle.fab_tree.specs.declared.resolved.Method.{Method}
 use Rattle.fab_tree.specs.declared.resolved.Resolved.{Resolved}
+use Rattle.fab_tree.specs.declared.expression.Number.TheVariants as numbers
 use Rattle.fab_labelling.specs.declared.rule.LabelRule.TheVariants.{Write, Access, Fail}
 use Rattle.fab_labelling.specs.declared.rule.Side.TheVariants.{Label}
 use Rattle.fab_labelling.specs.Obligations.{flows, conf, nowhere, declassifies, endorses, holds, answers_for, Owed, owe, owed}
@@ -119,7 +121,7 @@ abbrev used : ℕ → ℕ → Use
 used number at = record { number = number; at = at }
 
 abbrev method : List ℕ → List Statement → Method
-method authority body = record { name = name; parameters = 2; locals = record { sort = sorts.Class (used 0 0); name = name; label = used 1 0 } ∷ record { sort = sorts.Int; name = name; label = used 0 0 } ∷ []; returns = None; begin = used 1 0; fails = true; authority = map (λ p. used p 0) authority; body = body; result = None }
+method authority body = record { name = name; parameters = 2; locals = record { sort = sorts.Class (used 0 0); name = name; label = used 1 0 } ∷ record { sort = sorts.Number widths.Int; name = name; label = used 0 0 } ∷ []; returns = None; begin = used 1 0; fails = true; authority = map (λ p. used p 0) authority; body = body; result = None }
 
 -- calls stand in all blocks, and in what is assigned
 calls_in_text : map called_step (s.Call (used 4 0) [] ∷ s.Assign 0 (rights.Call (used 5 0) []) 0 ∷ s.If (expression_at 0 f.Null) ((1 ∷ []) ∷ (2 ∷ []) ∷ []) ((3 ∷ []) ∷ []) ∷ s.While (expression_at 0 f.Null) ((1 ∷ []) ∷ []) ∷ s.Atomic (used 0 0) ((1 ∷ []) ∷ []) ((2 ∷ []) ∷ []) 0 ∷ s.Fail 0 ∷ [])
@@ -167,7 +169,7 @@ v_answers_for_b (suc (suc (suc n))) way has = absurd (let below : suc (suc (suc 
 -- principal A; label S = {A ->}; label P = {}; class C label P access P { int f; } method m(C c : P, int s : S)
 -- begin P fails { if (s) { c.f = 1; } }, with `c` of the write at 112
 abbrev refused : Resolved
-refused = record (bundle (method [] (roll-Statement (s.If (expression_at 106 (f.Local (used 1 106))) (roll-Statement (s.Write (used 0 112) 0 (expression_at 118 (f.Number (pos 1))) 0) ∷ []) []) ∷ []) ∷ [])) { classes = class 1 1 ∷ [] }
+refused = record (bundle (method [] (roll-Statement (s.If (expression_at 106 (f.Local (used 1 106))) (roll-Statement (s.Write (used 0 112) 0 (expression_at 118 (f.Number (numbers.Int (pos 1)))) 0) ∷ []) []) ∷ []) ∷ [])) { classes = class 1 1 ∷ [] }
 
 -- the list has the access before the write, and of each rule the label of `s` between two P
 abbrev nine : List Owed

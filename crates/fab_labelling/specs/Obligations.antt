@@ -3,6 +3,7 @@
 -- A statement stands under labels that say what decided that it runs, `pc`, the outermost first, and a label to
 -- which its failures flow, if there is one. The labels of an expression are those of what it reads. The joint of
 -- labels is never computed: several labels flow to another where each of them does.
+use Rattle.fab_base.specs.declared.object.Width.TheVariants as widths
 use Rattle.std.specs.Prelude.{ℕ, ◌==◌, if◌then◌else◌, List, [], ◌∷◌, ◌++◌, map, take, length, Option, Some, None, slice_get}
 use Rattle.std.specs.List.{flat_map, list_any, range_with_len}
 use Rattle.fab_tree.specs.declared.expression.Operator.{Operator}
@@ -77,7 +78,7 @@ under pc (l ∷ ls) = under (if list_any (λ k. k == l) pc then pc else pc ++ l 
 
 -- the class of what a local refers to
 abbrev pub class_of_sort : List Class → Sort → Option Class
-class_of_sort classes sorts.Int = None
+class_of_sort classes (sorts.Number widths.Int) = None
 class_of_sort classes (sorts.Class x) = slice_get classes x.number
 
 abbrev pub class_of_local : List Class → Option Local → Option Class
@@ -149,8 +150,7 @@ module _ (classes : List Class) (locals : List Local) where
   form_step f.Null = silent []
   form_step (f.Local x) = silent (local_labels x)
   form_step (f.Read x field site) = record { labels = local_labels x ++ label_of_class (class_behind x); owes = reaching x }
-  form_step (f.Negative p) = p
-  form_step (f.Not p) = p
+  form_step (f.Unary o p) = p
   form_step (f.Chain p others) = record {
     labels = p.labels ++ flat_map (λ u. u.part.labels) others;
     owes = λ pc failure. p.owes pc failure ++ flat_map (tail_owes pc failure) others;

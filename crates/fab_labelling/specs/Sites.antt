@@ -25,8 +25,7 @@ form_sites (f.Number n) = []
 form_sites f.Null = []
 form_sites (f.Local x) = []
 form_sites (f.Read x field site) = site ∷ []
-form_sites (f.Negative ns) = ns
-form_sites (f.Not ns) = ns
+form_sites (f.Unary o ns) = ns
 form_sites (f.Chain ns others) = ns ++ all_sites others
 form_sites (f.Compared ns comparison ms) = ns ++ ms
 

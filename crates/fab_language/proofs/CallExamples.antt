@@ -4,6 +4,7 @@ use Rattle.std.proofs.Math.Dec.{eqb-suc-zero}
 use Rattle.fab_base.specs.declared.object.Value.{Value}
 use Rattle.fab_base.specs.declared.object.Value.TheVariants.{Null, Ref}
 use Rattle.fab_base.specs.declared.object.Stop.TheVariants.{Fuel, Depth}
+use Rattle.fab_base.specs.declared.object.Width.TheVariants as widths
 use Rattle.fab_tree.specs.declared.name.Name.{Name}
 use Rattle.fab_tree.specs.declared.resolved.Expression.{Expression}
 use Rattle.fab_tree.specs.declared.resolved.Form.TheOpen as f
@@ -39,7 +40,7 @@ abbrev pub returning : Expression → Option Return
 returning e = Some (record { value = e; at = 0 })
 
 abbrev pub method : List Statement → Option Return → Method
-method body result = record { name = plain_name (codes "m"); parameters = 2; locals = of a_class ∷ of sorts.Int ∷ of a_class ∷ of sorts.Int ∷ []; returns = None; begin = used 0; fails = false; authority = []; body = body; result = result }
+method body result = record { name = plain_name (codes "m"); parameters = 2; locals = of a_class ∷ of (sorts.Number widths.Int) ∷ of a_class ∷ of (sorts.Number widths.Int) ∷ []; returns = None; begin = used 0; fails = false; authority = []; body = body; result = result }
 
 abbrev pub program : List Method → Resolved
 program methods = record { nodes = []; pairs = []; labels = []; classes = []; methods = methods; roots = []; sessions = []; posts = []; crashes = []; cache = 0; schedule = [] }

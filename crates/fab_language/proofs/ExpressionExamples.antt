@@ -9,9 +9,11 @@ use Rattle.fab_tree.specs.declared.expression.Operator.TheVariants.{Or, And, Add
 use Rattle.fab_tree.specs.declared.expression.Comparison.TheVariants.{Equal, NotEqual, Less, LessEqual, Greater, GreaterEqual}
 use Rattle.fab_tree.specs.declared.resolved.Use.{Use}
 use Rattle.fab_tree.specs.declared.resolved.Form.TheOpen as f
+use Rattle.fab_tree.specs.declared.expression.Number.TheVariants as numbers
+use Rattle.fab_tree.specs.declared.expression.UnaryOperator.TheVariants as unary
 use Rattle.fab_language.specs.Meaning.{State, Run, goes, ends, failed, missing, M, gives, holds, equals, compares, operate, form_step, value, values}
 use Rattle.fab_language.proofs.HeapExamples.{root, heap}
-use Rattle.fab_language.proofs.Forms.{expression_at, operand_at, number_means, read_means, negative_means, not_means, chain_means, operand_means}
+use Rattle.fab_language.proofs.Forms.{expression_at, operand_at, number_means, read_means, unary_means, chain_means, operand_means}
 
 -- ---- operators
 
@@ -184,23 +186,23 @@ left_side_first = refl
 none_is_null : form_step (f.Compared (form_step (f.Local (used 0))) Equal (form_step f.Null)) (state both) ≡ goes (int (pos 0)) (state both)
 none_is_null = refl
 
-not_five : form_step (f.Not (number (pos 5))) (state []) ≡ is (pos 0)
+not_five : form_step (f.Unary unary.Not (number (pos 5))) (state []) ≡ is (pos 0)
 not_five = refl
 
-not_zero : form_step (f.Not (number (pos 0))) (state []) ≡ is (pos 1)
+not_zero : form_step (f.Unary unary.Not (number (pos 0))) (state []) ≡ is (pos 1)
 not_zero = refl
 
 -- `-(-2147483648)` wraps
-least_negated : form_step (f.Negative (number (negsuc 2147483647))) (state []) ≡ is (negsuc 2147483647)
+least_negated : form_step (f.Unary unary.Negative (number (negsuc 2147483647))) (state []) ≡ is (negsuc 2147483647)
 unfolding int_wrap
 least_negated = refl
 
 -- ---- whole expressions
 
 -- `-1 & !0 | 4`, in which `&` binds closer
-in_levels : value (expression_at 0 (f.Chain (expression_at 0 (f.Chain (expression_at 0 (f.Negative (expression_at 1 (f.Number (pos 1))))) (operand_at 3 And (expression_at 5 (f.Not (expression_at 6 (f.Number (pos 0))))) ∷ []))) (operand_at 8 Or (expression_at 10 (f.Number (pos 4))) ∷ []))) (state []) ≡ is (pos 5)
+in_levels : value (expression_at 0 (f.Chain (expression_at 0 (f.Chain (expression_at 0 (f.Unary unary.Negative (expression_at 1 (f.Number (numbers.Int (pos 1)))))) (operand_at 3 And (expression_at 5 (f.Unary unary.Not (expression_at 6 (f.Number (numbers.Int (pos 0)))))) ∷ []))) (operand_at 8 Or (expression_at 10 (f.Number (numbers.Int (pos 4)))) ∷ []))) (state []) ≡ is (pos 5)
 unfolding int_wrap
-in_levels = rw (chain_means, chain_means, negative_means, number_means, operand_means, not_means, number_means, operand_means, number_means) refl
+in_levels = rw (chain_means, chain_means, unary_means, number_means, operand_means, unary_means, number_means, operand_means, number_means) refl
 
 -- arguments come from the left: the second is missing, the third isn't sought
 arguments_in_order : values (expression_at 0 (f.Read (used 0) 0 4) ∷ expression_at 0 (f.Read (used 1) 0 5) ∷ expression_at 0 (f.Read (used 2) 0 6) ∷ []) (state (Ref (root 1) ∷ Ref (root 3) ∷ Ref (root 4) ∷ [])) ≡ ends (missing 5 (root 3)) (with_touches ((4, root 1) ∷ []) (state (Ref (root 1) ∷ Ref (root 3) ∷ Ref (root 4) ∷ [])))

@@ -1,5 +1,5 @@
 -- Worked examples of the rules of names and types; places that nothing looks at are 0.
-use Rattle.std.proofs.Common.{◌≡◌, ◌+◌, ℕ, Bool, true, false, not, pos, List, [], ◌∷◌, ◌++◌, map, filter, flat_map, replicate, Option, Some, None, codes, refl, sym, ap, ◌∙◌, lit<, lit≤, arith, ⊎_elim, inl, inr}
+use Rattle.std.proofs.Common.{◌≡◌, ◌+◌, ℕ, Bool, true, false, not, pos, List, [], ◌∷◌, ◌++◌, map, filter, flat_map, replicate, Option, Some, None, codes, refl, sym, ap, ◌∙◌, lit<, lit≤, arith, ⊎_elim, inl, inr, ℤ}
 use Rattle.std.proofs.lemmas.List.Elements.{All-from_recursion}
 use Rattle.fab_tree.specs.declared.name.Name.{Name}
 use Rattle.fab_tree.specs.declared.declaration.Role.{Role}
@@ -7,7 +7,8 @@ use Rattle.fab_tree.specs.declared.declaration.Role.TheVariants.{Principal, Work
 use Rattle.fab_tree.specs.declared.declaration.Node.{Node}
 use Rattle.fab_tree.specs.declared.declaration.Aspect.TheVariants.{Confidentiality, Integrity}
 use Rattle.fab_tree.specs.declared.declaration.Sort.{Sort}
-use Rattle.fab_tree.specs.declared.declaration.Sort.TheVariants.{Int, Class as Of}
+use Rattle.fab_tree.specs.declared.declaration.Sort.{Sort}
+use Rattle.fab_tree.specs.declared.declaration.Sort.TheVariants.{Number as Sized, Class as Of}
 use Rattle.fab_tree.specs.declared.declaration.Field.{Field}
 use Rattle.fab_tree.specs.declared.declaration.Class.{Class}
 use Rattle.fab_tree.specs.declared.expression.Comparison.TheVariants.{Equal, NotEqual, Less}
@@ -28,10 +29,12 @@ use Rattle.fab_tree.specs.declared.event.Step.TheVariants.{Begin, Resume, Delive
 use Rattle.fab_tree.specs.declared.event.Event.{Event}
 use Rattle.fab_tree.specs.declared.event.Event.TheVariants.{Step, CrashIn, Post, Crash}
 use Rattle.fab_tree.specs.declared.start.Literal.{Literal}
-use Rattle.fab_tree.specs.declared.start.Literal.TheVariants.{Int as Number, Null, Root as The}
+use Rattle.fab_tree.specs.declared.start.Literal.TheVariants.{Number as Digits, Null, Root as The}
 use Rattle.fab_tree.specs.declared.start.Given.{Given}
 use Rattle.fab_tree.specs.declared.start.Root.{Root}
 use Rattle.fab_tree.specs.declared.start.Start.{Start}
+use Rattle.fab_tree.specs.declared.expression.Number.TheVariants as numbers
+use Rattle.fab_tree.specs.declared.expression.UnaryOperator.TheVariants as unary
 use Rattle.fab_tree.specs.Expressions.{expression_at}
 use Rattle.fab_language.specs.declared.rule.Fault.{Fault}
 use Rattle.fab_language.specs.declared.rule.NameRule.{NameRule}
@@ -44,6 +47,13 @@ use Rattle.fab_language.specs.Arity as arity
 use Rattle.fab_language.specs.Types as types
 use Rattle.fab_language.specs.Types.{Checked}
 use Rattle.fab_language.specs.Faults.{faults, IsFirst, IsNoLater}
+use Rattle.fab_base.specs.declared.object.Width.TheVariants as widths
+
+abbrev Int : Sort
+Int = Sized widths.Int
+
+abbrev Number : ℤ → Literal
+Number n = Digits (numbers.Int n)
 
 abbrev called : List ℕ → ℕ → Name
 called x at = record { text = x; at = at }
@@ -174,16 +184,16 @@ not_the_later_place : IsFirst four (fault Doubled 7) → ⊥
 not_the_later_place h = ⊎_elim (λ before. omega (arith, before)) (λ here. omega (arith, here.0)) (h.first 2 (fault Arity 5) (lit< tt))
 
 abbrev kinds : List Kind
-kinds = number ∷ object (codes "C") ∷ object (codes "D") ∷ nothing ∷ unknown ∷ []
+kinds = number widths.Int ∷ object (codes "C") ∷ object (codes "D") ∷ nothing ∷ unknown ∷ []
 
 abbrev pairs_without : (Kind → Kind → Bool) → List (Kind × Kind)
 pairs_without fit = filter (λ x. not (fit x.0 x.1)) (flat_map (λ a. map (λ b. (a, b)) kinds) kinds)
 
 -- of all pairs; no taker is null
-not_taken : pairs_without takes ≡ (number, object (codes "C")) ∷ (number, object (codes "D")) ∷ (number, nothing) ∷ (object (codes "C"), number) ∷ (object (codes "C"), object (codes "D")) ∷ (object (codes "D"), number) ∷ (object (codes "D"), object (codes "C")) ∷ []
+not_taken : pairs_without takes ≡ (number widths.Int, object (codes "C")) ∷ (number widths.Int, object (codes "D")) ∷ (number widths.Int, nothing) ∷ (object (codes "C"), number widths.Int) ∷ (object (codes "C"), object (codes "D")) ∷ (object (codes "D"), number widths.Int) ∷ (object (codes "D"), object (codes "C")) ∷ []
 not_taken = refl
 
-not_compared : pairs_without are_comparable ≡ pairs_without takes ++ (nothing, number) ∷ (nothing, nothing) ∷ []
+not_compared : pairs_without are_comparable ≡ pairs_without takes ++ (nothing, number widths.Int) ∷ (nothing, nothing) ∷ []
 not_compared = refl
 
 abbrev makes : List ℕ → Expression → Walk
@@ -217,13 +227,13 @@ abbrev Mistyped : List Checked → List (List ℕ) → Type 0
 Mistyped xs places = map (λ x. x.faults) xs ≡ map (map (fault Typing)) places
 
 -- null == null; o == null; null != k; o == d; n == null; n == 1; z == null; n < o; n + (o) + d, with a bracket at 7; -o; !null
-operands : Mistyped (map (at 3) (f.Compared (at 3 f.Null) Equal (at 11 f.Null) ∷ f.Compared (of (codes "o") 3) Equal (at 8 f.Null) ∷ f.Compared (at 3 f.Null) NotEqual (of (codes "k") 11) ∷ f.Compared (of (codes "o") 3) Equal (of (codes "d") 8) ∷ f.Compared (of (codes "n") 3) Equal (at 8 f.Null) ∷ f.Compared (of (codes "n") 3) Equal (at 8 (f.Number (pos 1)))
-    ∷ f.Compared (of (codes "z") 3) Equal (at 8 f.Null) ∷ f.Compared (of (codes "n") 3) Less (of (codes "o") 7) ∷ f.Chain (of (codes "n") 3) (at 7 (f.Local (called (codes "o") 8)) ∷ of (codes "d") 13 ∷ []) ∷ f.Negative (of (codes "o") 4) ∷ f.Not (at 4 f.Null) ∷ []))
+operands : Mistyped (map (at 3) (f.Compared (at 3 f.Null) Equal (at 11 f.Null) ∷ f.Compared (of (codes "o") 3) Equal (at 8 f.Null) ∷ f.Compared (at 3 f.Null) NotEqual (of (codes "k") 11) ∷ f.Compared (of (codes "o") 3) Equal (of (codes "d") 8) ∷ f.Compared (of (codes "n") 3) Equal (at 8 f.Null) ∷ f.Compared (of (codes "n") 3) Equal (at 8 (f.Number (numbers.Int (pos 1))))
+    ∷ f.Compared (of (codes "z") 3) Equal (at 8 f.Null) ∷ f.Compared (of (codes "n") 3) Less (of (codes "o") 7) ∷ f.Chain (of (codes "n") 3) (at 7 (f.Local (called (codes "o") 8)) ∷ of (codes "d") 13 ∷ []) ∷ f.Unary unary.Negative (of (codes "o") 4) ∷ f.Unary unary.Not (at 4 f.Null) ∷ []))
     ((3 ∷ []) ∷ [] ∷ [] ∷ (3 ∷ []) ∷ (3 ∷ []) ∷ [] ∷ [] ∷ (7 ∷ []) ∷ (7 ∷ 13 ∷ []) ∷ (4 ∷ []) ∷ (4 ∷ []) ∷ [])
 operands = refl
 
 -- !o.z; !n.f; !k.f; !z.f; !o.next; what isn't known has any type
-reaches : Mistyped (map (λ (x : List ℕ × List ℕ). at 3 (f.Not (at 4 (f.Read (called x.0 5) (called x.1 7))))) ((codes "o", codes "z") ∷ (codes "n", codes "f") ∷ (codes "k", codes "f") ∷ (codes "z", codes "f") ∷ (codes "o", codes "next") ∷ [])) ([] ∷ (4 ∷ []) ∷ [] ∷ [] ∷ (4 ∷ []) ∷ [])
+reaches : Mistyped (map (λ (x : List ℕ × List ℕ). at 3 (f.Unary unary.Not (at 4 (f.Read (called x.0 5) (called x.1 7))))) ((codes "o", codes "z") ∷ (codes "n", codes "f") ∷ (codes "k", codes "f") ∷ (codes "z", codes "f") ∷ (codes "o", codes "next") ∷ [])) ([] ∷ (4 ∷ []) ∷ [] ∷ [] ∷ (4 ∷ []) ∷ [])
 reaches = refl
 
 -- n = new C @ s (); o = new D @ w (); d = new D @ t (); o = new K @ q (); n = m(); n = q(); m takes two and returns nothing, two rules at one place
@@ -246,4 +256,4 @@ o_is =
 in_each_place : map (λ (x : Option Returns × Head). types.in_head plain known x.0 x.1) ((None, declare Int (called (codes "x") 2) (called (codes "L") 4) o) ∷ (None, test o) ∷ (None, write (called (codes "n") 3) (called (codes "f") 5) o) ∷ (None, write (called (codes "o") 3) (called (codes "f") 5) o)
     ∷ (None, assign (called (codes "n") 0) (rights.Downgrade Declassify o (called (codes "L") 0) (called (codes "L") 0) 4)) ∷ (None, result (record { value = o; at = 0 })) ∷ (Some (record { sort = Int; label = called (codes "L") 0 }), result (record { value = o; at = 0 })) ∷ [])
     ≡ map (map (fault Typing)) ((9 ∷ []) ∷ (9 ∷ []) ∷ (3 ∷ []) ∷ (9 ∷ []) ∷ (4 ∷ []) ∷ [] ∷ (9 ∷ []) ∷ [])
-in_each_place = ap (λ x. let for_number = x.faults ++ types.given_to number x.value in let for_any = x.faults ++ types.given_to unknown x.value in for_number ∷ for_number ∷ (fault Typing 3 ∷ for_any) ∷ for_number ∷ (x.faults ++ types.given_to number (record { kind = x.value.kind; at = 4 })) ∷ for_any ∷ for_number ∷ []) o_is
+in_each_place = ap (λ x. let for_number = x.faults ++ types.given_to (number widths.Int) x.value in let for_any = x.faults ++ types.given_to unknown x.value in for_number ∷ for_number ∷ (fault Typing 3 ∷ for_any) ∷ for_number ∷ (x.faults ++ types.given_to (number widths.Int) (record { kind = x.value.kind; at = 4 })) ∷ for_any ∷ for_number ∷ []) o_is

@@ -1,8 +1,10 @@
 -- What each form means, from what its parts mean.
-use Rattle.std.proofs.Common.{◌≡◌, ℕ, ℤ, List, Option, map, ◌∙◌}
+use Rattle.std.proofs.Common.{◌≡◌, ℕ, List, Option, map, ◌∙◌}
 use Rattle.fab_base.specs.declared.object.Tid.{Tid}
 use Rattle.fab_base.specs.declared.object.Value.{Value}
+use Rattle.fab_tree.specs.declared.expression.Number.{Number}
 use Rattle.fab_tree.specs.declared.expression.Operator.{Operator}
+use Rattle.fab_tree.specs.declared.expression.UnaryOperator.{UnaryOperator}
 use Rattle.fab_tree.specs.declared.expression.Comparison.{Comparison}
 use Rattle.fab_tree.specs.declared.resolved.Use.{Use}
 use Rattle.fab_tree.specs.declared.resolved.Expression.{Expression, roll-Expression, fold-roll-Expression}
@@ -30,7 +32,7 @@ operand_means at operator e = fold-roll-Operand (M Value) (M Value) (Operator ×
 opened : (at : ℕ) (layer : f.Form-F Form Expression Operand) → value (expression_at at layer) ≡ form_value (roll-Form layer)
 opened at layer = fold-roll-Expression (M Value) (M Value) (Operator × M Value) form_step (λ e. e.form) (λ u. (u.operator, u.operand)) (record { form = roll-Form layer; at = at })
 
-pub number_means : (at : ℕ) (n : ℤ) → value (expression_at at (f.Number n)) ≡ form_step (f.Number n)
+pub number_means : (at : ℕ) (n : Number) → value (expression_at at (f.Number n)) ≡ form_step (f.Number n)
 number_means at n = opened at (f.Number n) ∙ fold-roll-Form (M Value) (M Value) (Operator × M Value) form_step (λ e. e.form) (λ u. (u.operator, u.operand)) (f.Number n)
 
 pub null_means : (at : ℕ) → value (expression_at at f.Null) ≡ form_step f.Null
@@ -42,11 +44,10 @@ local_means at x = opened at (f.Local x) ∙ fold-roll-Form (M Value) (M Value) 
 pub read_means : (at : ℕ) (x : Use) (field site : ℕ) → value (expression_at at (f.Read x field site)) ≡ form_step (f.Read x field site)
 read_means at x field site = opened at (f.Read x field site) ∙ fold-roll-Form (M Value) (M Value) (Operator × M Value) form_step (λ e. e.form) (λ u. (u.operator, u.operand)) (f.Read x field site)
 
-pub negative_means : (at : ℕ) (e : Expression) → value (expression_at at (f.Negative e)) ≡ form_step (f.Negative (value e))
-negative_means at e = opened at (f.Negative e) ∙ fold-roll-Form (M Value) (M Value) (Operator × M Value) form_step (λ x. x.form) (λ u. (u.operator, u.operand)) (f.Negative e)
-
-pub not_means : (at : ℕ) (e : Expression) → value (expression_at at (f.Not e)) ≡ form_step (f.Not (value e))
-not_means at e = opened at (f.Not e) ∙ fold-roll-Form (M Value) (M Value) (Operator × M Value) form_step (λ x. x.form) (λ u. (u.operator, u.operand)) (f.Not e)
+pub unary_means : (at : ℕ) (operator : UnaryOperator) (e : Expression) → value (expression_at at (f.Unary operator e)) ≡ form_step (f.Unary operator (value e))
+unary_means at operator e =
+    opened at (f.Unary operator e)
+    ∙ fold-roll-Form (M Value) (M Value) (Operator × M Value) form_step (λ x. x.form) (λ u. (u.operator, u.operand)) (f.Unary operator e)
 
 pub chain_means : (at : ℕ) (e : Expression) (us : List Operand) → value (expression_at at (f.Chain e us)) ≡ form_step (f.Chain (value e) (map operand_value us))
 chain_means at e us = opened at (f.Chain e us) ∙ fold-roll-Form (M Value) (M Value) (Operator × M Value) form_step (λ x. x.form) (λ u. (u.operator, u.operand)) (f.Chain e us)
@@ -79,7 +80,7 @@ module _ (tid : Tid) (call : ℕ → List Value → M (Option Value)) where
   fail_means at = fold-roll-Statement (M (Unit {0})) (statement_step tid call) (s.Fail at)
 
 -- the equations of expressions together
-pub ruleset means = (number_means, null_means, local_means, read_means, negative_means, not_means, chain_means, operand_means, compared_means)
+pub ruleset means = (number_means, null_means, local_means, read_means, unary_means, chain_means, operand_means, compared_means)
 
 -- those of statements
 pub ruleset statements_mean = (assign_means, write_means, call_means, if_means, while_means, atomic_means, fail_means)

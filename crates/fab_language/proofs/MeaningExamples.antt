@@ -5,6 +5,7 @@ use Rattle.fab_base.specs.declared.object.Tid.{Tid}
 use Rattle.fab_base.specs.declared.object.Value.{Value}
 use Rattle.fab_base.specs.declared.object.Value.TheVariants.{Null, Ref}
 use Rattle.fab_base.specs.declared.object.Stop.TheVariants.{Fuel, Depth, Reads, Writes}
+use Rattle.fab_tree.specs.declared.expression.Number.TheVariants as numbers
 use Rattle.fab_tree.specs.declared.resolved.Expression.{Expression}
 use Rattle.fab_tree.specs.declared.resolved.Form.TheOpen as f
 use Rattle.fab_tree.specs.declared.resolved.Right.{Right}
@@ -81,7 +82,7 @@ abbrev doing : s.Statement-F (M (Unit {0})) → M (Unit {0})
 doing = statement_step tid gives_number
 
 abbrev pub number : ℤ → Expression
-number n = expression_at 0 (f.Number n)
+number n = expression_at 0 (f.Number (numbers.Int n))
 
 -- the field of a local's object, at a site
 abbrev pub field : ℕ → ℕ → Expression

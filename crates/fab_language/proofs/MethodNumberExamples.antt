@@ -1,4 +1,5 @@
 -- Worked examples of methods with numbers for names: locals, fields, and sites in the order of the text.
+use Rattle.fab_base.specs.declared.object.Width.TheVariants as widths
 use Rattle.std.proofs.Common.{◌≡◌, ℕ, suc, List, [], ◌∷◌, map, Option, Some, None, false, refl, ap, ◌∙◌, codes, arith}
 use Rattle.fab_tree.specs.declared.name.Name.{Name}
 use Rattle.fab_tree.specs.declared.declaration.Role.TheVariants as roles
@@ -36,18 +37,18 @@ class_c = record {
   name = name (codes "C");
   label = name (codes "L");
   access = name (codes "L");
-  fields = record { sort = sorts.Int; name = name (codes "f") } ∷ record { sort = sorts.Int; name = name (codes "g") } ∷ [];
+  fields = record { sort = sorts.Number widths.Int; name = name (codes "f") } ∷ record { sort = sorts.Number widths.Int; name = name (codes "g") } ∷ [];
 }
 
 abbrev class_d : Class
-class_d = record class_c { name = name (codes "D"); fields = record { sort = sorts.Int; name = name (codes "g") } ∷ [] }
+class_d = record class_c { name = name (codes "D"); fields = record { sort = sorts.Number widths.Int; name = name (codes "g") } ∷ [] }
 
 abbrev local : Sort → List ℕ → Parameter
 local sort text = record { sort = sort; name = name text; label = name (codes "L") }
 
 -- `a` is declared twice
 abbrev locals : List Parameter
-locals = local sorts.Int (codes "x") ∷ local (sorts.Class (name (codes "C"))) (codes "a") ∷ local (sorts.Class (name (codes "D"))) (codes "a") ∷ []
+locals = local (sorts.Number widths.Int) (codes "x") ∷ local (sorts.Class (name (codes "C"))) (codes "a") ∷ local (sorts.Class (name (codes "D"))) (codes "a") ∷ []
 
 -- method m(..) begin L { }
 abbrev method : Method

@@ -1,6 +1,7 @@
 -- Worked examples of numbers for names: what is declared, objects and values, and what a run is asked.
 use Rattle.std.proofs.Common.{◌≡◌, ℕ, true, false, List, [], ◌∷◌, Some, None, refl, codes, pos, map, arith}
 use Rattle.fab_base.specs.declared.object.Value.TheVariants as values
+use Rattle.fab_base.specs.declared.object.Width.TheVariants as widths
 use Rattle.fab_tree.specs.declared.name.Name.{Name}
 use Rattle.fab_tree.specs.declared.declaration.Role.{Role}
 use Rattle.fab_tree.specs.declared.declaration.Role.TheVariants as roles
@@ -22,6 +23,7 @@ use Rattle.fab_tree.specs.declared.resolved.Sort.TheVariants as numbered
 use Rattle.fab_tree.specs.declared.resolved.Session.{Session as NumberedSession}
 use Rattle.fab_tree.specs.declared.resolved.Step.TheVariants as ns
 use Rattle.fab_tree.specs.declared.resolved.Event.TheVariants as ne
+use Rattle.fab_tree.specs.declared.expression.Number.TheVariants as digits
 use Rattle.fab_language.specs.Uses.{principal_number, node_number, class_use}
 use Rattle.fab_language.specs.Numbers.{principals_from, said_by, class_of, value_of, roots_from, session_of, event_of, resolved}
 
@@ -58,14 +60,14 @@ class_c = record {
   label = at 5 (codes "L");
   access = at 7 (codes "A");
   fields =
-      record { sort = sorts.Int; name = name (codes "n") }
+      record { sort = sorts.Number widths.Int; name = name (codes "n") }
       ∷ record { sort = sorts.Class (at 9 (codes "D")); name = name (codes "d") }
       ∷ [];
 }
 
 -- m(r, 4);
 abbrev asks : ℕ → RequestText
-asks place = record { method = at place (codes "m"); arguments = given (literals.Root (name (codes "r"))) ∷ given (literals.Int (pos 4)) ∷ [] }
+asks place = record { method = at place (codes "m"); arguments = given (literals.Root (name (codes "r"))) ∷ given (literals.Number (digits.Int (pos 4))) ∷ [] }
 
 -- A principal and a worker stand before the stores. The second `w` is declared twice: its name stands for the worker.
 abbrev bundle : Start
@@ -81,7 +83,7 @@ bundle = record {
   };
   roots =
       root (codes "x") (codes "D") (codes "a") []
-      ∷ root (codes "r") (codes "C") (codes "b") (literals.Int (pos 7) ∷ literals.Root (name (codes "x")) ∷ [])
+      ∷ root (codes "r") (codes "C") (codes "b") (literals.Number (digits.Int (pos 7)) ∷ literals.Root (name (codes "x")) ∷ [])
       ∷ [];
   sessions = record { worker = at 3 (codes "w"); requests = asks 10 ∷ asks 20 ∷ [] } ∷ [];
   posts = record { sender = name (codes "a"); receiver = name (codes "w"); bytes = 1 ∷ 2 ∷ [] } ∷ [];
@@ -132,7 +134,7 @@ labels_and_fields : class_of bundle class_c ≡ record {
   label = record { number = 0; at = 5 };
   access = record { number = 1; at = 7 };
   fields =
-      record { sort = numbered.Int; name = name (codes "n") }
+      record { sort = numbered.Number widths.Int; name = name (codes "n") }
       ∷ record { sort = numbered.Class (record { number = 0; at = 9 }); name = name (codes "d") }
       ∷ [];
 }

@@ -1,6 +1,7 @@
 -- The numbers of each form of an expression and a statement, from those of its parts.
-use Rattle.std.proofs.Common.{◌≡◌, ℕ, ℤ, List, map, None, sym, ap, ◌∙◌}
+use Rattle.std.proofs.Common.{◌≡◌, ℕ, List, map, None, sym, ap, ◌∙◌}
 use Rattle.fab_tree.specs.declared.name.Name.{Name}
+use Rattle.fab_tree.specs.declared.expression.Number.{Number}
 use Rattle.fab_tree.specs.declared.expression.Operator.{Operator}
 use Rattle.fab_tree.specs.declared.expression.Comparison.{Comparison}
 use Rattle.fab_tree.specs.declared.expression.Expression.{Expression, fold-roll-Expression}
@@ -42,7 +43,7 @@ module _ (start : Start) (locals : List Parameter) where
       ∙ fold-roll-Form (Numbered NumberedForm) (Numbered NumberedExpression) (Numbered NumberedOperand)
       (form_step start locals) (expression_step start locals) (operand_step start locals) y
 
-  pub number_numbers : (k : ℤ) → form_of start locals (forms.Number k) ≡ form_step start locals (f.Number k)
+  pub number_numbers : (k : Number) → form_of start locals (forms.Number k) ≡ form_step start locals (f.Number k)
   number_numbers k = form_numbers (forms.Number k) (f.Number k) (sym (forms.rolls-Number k))
 
   pub local_numbers : (x : Name) → form_of start locals (forms.Local x) ≡ form_step start locals (f.Local x)

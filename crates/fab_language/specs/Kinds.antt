@@ -1,6 +1,8 @@
 -- What type a value has, as far as the names in it say.
 use Rattle.std.specs.Prelude.{ℕ, Bool, true, false, List, [], Option, Some, None}
 use Rattle.std.specs.Str.{bytes_eq}
+use Rattle.fab_base.specs.declared.object.Width.{Width}
+use Rattle.fab_base.specs.declared.object.Width.TheVariants as widths
 use Rattle.fab_tree.specs.declared.name.Name.{Name}
 use Rattle.fab_tree.specs.declared.declaration.Sort.{Sort}
 use Rattle.fab_tree.specs.declared.declaration.Sort.TheVariants as sorts
@@ -13,24 +15,28 @@ use Rattle.fab_tree.specs.declared.start.Literal.{Literal}
 use Rattle.fab_tree.specs.declared.start.Literal.TheVariants as literals
 use Rattle.fab_tree.specs.declared.start.Root.{Root}
 use Rattle.fab_tree.specs.declared.start.Start.{Start}
+use Rattle.fab_tree.specs.Numbers.{width_of}
 use Rattle.fab_language.specs.Heads.{Locals}
 use Rattle.fab_language.specs.Names.{named, class_name, field_name, local_name, method_name, root_name}
 
--- a number, an object of a declared class, null, or what a name that isn't declared leaves open
+-- a number of a width, an object of a declared class, null, or what a name that isn't declared leaves open
 pub data Kind : Type 0 where
-  number : Kind
+  number : Width → Kind
   object : List ℕ → Kind
   nothing : Kind
   unknown : Kind
 
+abbrev pub is_same_width : Width → Width → Bool
+is_same_width widths.Int widths.Int = true
+
 -- whether what is of the one kind may hold a value of the other; nothing is said where one of them is unknown
 abbrev pub takes : Kind → Kind → Bool
 takes unknown v = true
-takes number number = true
-takes number (object y) = false
-takes number nothing = false
-takes number unknown = true
-takes (object x) number = false
+takes (number v) (number w) = is_same_width v w
+takes (number w) (object y) = false
+takes (number w) nothing = false
+takes (number w) unknown = true
+takes (object x) (number w) = false
 takes (object x) (object y) = bytes_eq x y
 takes (object x) nothing = true
 takes (object x) unknown = true
@@ -39,9 +45,9 @@ takes nothing v = true
 -- whether two values may be asked to be one: two numbers, two objects of one class, or an object and null
 abbrev pub are_comparable : Kind → Kind → Bool
 are_comparable unknown b = true
-are_comparable number b = takes number b
+are_comparable (number w) b = takes (number w) b
 are_comparable (object x) b = takes (object x) b
-are_comparable nothing number = false
+are_comparable nothing (number w) = false
 are_comparable nothing (object y) = true
 are_comparable nothing nothing = false
 are_comparable nothing unknown = true
@@ -63,7 +69,7 @@ module _ (s : Start) where
   kind_of_class (Some c) = object c.name.text
 
   abbrev pub kind_of_sort : Sort → Kind
-  kind_of_sort sorts.Int = number
+  kind_of_sort (sorts.Number w) = number w
   kind_of_sort (sorts.Class x) = kind_of_class (class_of x)
 
   abbrev pub kind_of_local : Option Parameter → Kind
@@ -84,7 +90,7 @@ module _ (s : Start) where
   fields_of (Some c) = c.fields
 
   abbrev pub class_of_sort : Sort → Option Class
-  class_of_sort sorts.Int = None
+  class_of_sort (sorts.Number w) = None
   class_of_sort (sorts.Class x) = class_of x
 
   -- the class of a local's objects, where it is known
@@ -97,7 +103,7 @@ module _ (s : Start) where
   kind_of_root (Some x) = kind_of_class (class_of x.class)
 
   abbrev pub kind_of_literal : Literal → Kind
-  kind_of_literal (literals.Int n) = number
+  kind_of_literal (literals.Number n) = number (width_of n)
   kind_of_literal literals.Null = nothing
   kind_of_literal (literals.Root x) = kind_of_root (root_of x)
 

@@ -12,12 +12,17 @@ use Rattle.fab_base.specs.declared.object.Object.{Object}
 use Rattle.fab_base.specs.declared.object.Tid.{Tid}
 use Rattle.fab_base.specs.declared.object.Value.{Value}
 use Rattle.fab_base.specs.declared.object.Value.TheVariants.{Int, Null, Ref}
+use Rattle.fab_base.specs.declared.object.Width.{Width}
+use Rattle.fab_base.specs.declared.object.Width.TheVariants as widths
 use Rattle.fab_base.specs.declared.object.Stop.{Stop}
 use Rattle.fab_base.specs.declared.object.Stop.TheVariants.{Fuel, Depth, Reads, Writes}
 use Rattle.fab_base.specs.FlatMap.{FlatMap, is_same}
 use Rattle.fab_base.specs.Arith.{java_quotient}
+use Rattle.fab_base.specs.Values.{referred}
 use Rattle.fab_tree.specs.declared.expression.Operator.{Operator}
 use Rattle.fab_tree.specs.declared.expression.Operator.TheVariants.{Or, And, Add, Subtract, Multiply, Divide}
+use Rattle.fab_tree.specs.declared.expression.UnaryOperator.{UnaryOperator}
+use Rattle.fab_tree.specs.declared.expression.UnaryOperator.TheVariants as unary
 use Rattle.fab_tree.specs.declared.expression.Comparison.{Comparison}
 use Rattle.fab_tree.specs.declared.expression.Comparison.TheVariants.{Equal, NotEqual, Less, LessEqual, Greater, GreaterEqual}
 use Rattle.fab_tree.specs.declared.resolved.Sort.{Sort}
@@ -34,6 +39,7 @@ use Rattle.fab_tree.specs.declared.resolved.Return.{Return}
 use Rattle.fab_tree.specs.declared.resolved.Method.{Method}
 use Rattle.fab_tree.specs.declared.resolved.Resolved.{Resolved}
 use Rattle.fab_tree.specs.declared.resolved.Request.{Request}
+use Rattle.fab_tree.specs.Numbers.{number_value}
 use Rattle.fab_language.specs.declared.ending.Ending.{Ending}
 use Rattle.fab_language.specs.declared.ending.Ending.TheVariants.{Ended, Failed, Stopped, Missing}
 use Rattle.fab_language.specs.Heaps.{Heap, index_at, Reach, gone, full, found, reach, replaced, created}
@@ -109,13 +115,14 @@ field_of field x = unwrap_or (slice_get x.fields field) Null
 abbrev pub with_field : ℕ → Value → Object → Object
 with_field field v x = record x { fields = slice_set x.fields field v }
 
--- a field of the object behind a value is read; null fails and touches nothing
+-- what is done with the object that a value leads to; where it leads to none, this fails and touches nothing
+abbrev pub led : {A : Type 0} → Option Oid → (Oid → M A) → M A
+led None does = ends failed
+led (Some o) does = does o
+
+-- a field of the object that a value leads to is read
 abbrev pub read : ℕ → ℕ → Value → M Value
-read site field (Int n) = ends failed
-read site field Null = ends failed
-read site field (Ref o) = do
-  x ← access site o
-  gives (field_of field x)
+read site field v = led (referred v) (λ o. access site o >>= λ x. gives (field_of field x))
 
 -- the heap behind a change, if there is one
 abbrev pub settled : Option Heap → M (Unit {0})
@@ -126,13 +133,9 @@ settled (Some h) t = goes tt (record t { heap = h })
 abbrev pub replace : Oid → Object → M (Unit {0})
 replace o x t = settled (replaced o x t.heap) t
 
--- a field of the object behind the last value is written: the object is touched, and then counted
+-- a field of the object that the last value leads to is written: the object is touched, and then counted
 abbrev pub write : ℕ → ℕ → Value → Value → M (Unit {0})
-write site field v (Int n) = ends failed
-write site field v Null = ends failed
-write site field v (Ref o) = do
-  x ← access site o
-  replace o (with_field field v x)
+write site field v w = led (referred w) (λ o. access site o >>= λ x. replace o (with_field field v x))
 
 -- the name of the next object that an attempt makes of a class at a store and a site
 abbrev pub next_name : Tid → ℕ → ℕ → ℕ → Heap → Oid
@@ -204,6 +207,11 @@ abbrev pub quotient : Option ℤ → M Value
 quotient None = ends failed
 quotient (Some n) = gives (Int n)
 
+-- what an operator in front of its operand makes of it
+abbrev pub applied : UnaryOperator → Value → Value
+applied unary.Negative a = negated a
+applied unary.Not a = truth (not (holds a))
+
 -- what an operator makes of two values; `Or` and `And` work on the 32 bits, and a zero divisor fails
 abbrev pub operate : Operator → Value → Value → M Value
 operate Or a b = gives (Int (int_bit_or w32 (int_of a) (int_of b)))
@@ -224,16 +232,13 @@ chained step (o ∷ os) v = do
   chained step os u
 
 abbrev pub form_step : f.Form-F (M Value) (M Value) (Operator × M Value) → M Value
-form_step (f.Number n) = gives (Int n)
+form_step (f.Number n) = gives (number_value n)
 form_step f.Null = gives Null
 form_step (f.Local x) = local x.number
 form_step (f.Read x field site) = local x.number >>= read site field
-form_step (f.Negative m) = do
+form_step (f.Unary o m) = do
   v ← m
-  gives (negated v)
-form_step (f.Not m) = do
-  v ← m
-  gives (truth (not (holds v)))
+  gives (applied o v)
 form_step (f.Chain m others) = m >>= chained operate others
 form_step (f.Compared m comparison n) = do
   a ← m
@@ -341,9 +346,13 @@ module _ (tid : Tid) (call : ℕ → List Value → M (Option Value)) where
 
 -- ---- calls, at most so many deep
 
+-- 0 as a number of a width
+abbrev pub zero_of : Width → Value
+zero_of widths.Int = Int (pos 0)
+
 -- what a local holds before it is assigned
 abbrev pub default : Sort → Value
-default sorts.Int = Int (pos 0)
+default (sorts.Number w) = zero_of w
 default (sorts.Class class) = Null
 
 -- a method's locals at its start: what it is given, and then each other local's default

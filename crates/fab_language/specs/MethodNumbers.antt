@@ -75,8 +75,7 @@ module _ (start : Start) (locals : List Parameter) where
   form_step f.Null = siteless nf.Null
   form_step (f.Local x) = siteless (nf.Local (local_use locals x))
   form_step (f.Read x y) = λ n. (nf.Read (local_use locals x) (field_number start locals x y) n, suc n)
-  form_step (f.Negative e) = made_of nf.Negative e
-  form_step (f.Not e) = made_of nf.Not e
+  form_step (f.Unary o e) = made_of (nf.Unary o) e
   form_step (f.Chain e others) = made_of_two nf.Chain e (in_turn others)
   form_step (f.Compared e c g) = made_of_two (λ x y. nf.Compared x c y) e g
 

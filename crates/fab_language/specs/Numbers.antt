@@ -44,6 +44,7 @@ use Rattle.fab_tree.specs.declared.resolved.Event.{Event as NumberedEvent}
 use Rattle.fab_tree.specs.declared.resolved.Event.TheVariants as ne
 use Rattle.fab_tree.specs.declared.resolved.Resolved.{Resolved}
 use Rattle.fab_tree.specs.Limits.{is_node}
+use Rattle.fab_tree.specs.Numbers.{number_value}
 use Rattle.fab_language.specs.Names.{named, number_of, root_name}
 use Rattle.fab_language.specs.Uses.{principal_number, node_number, node_use, label_use, class_number, method_number, sort_of}
 use Rattle.fab_language.specs.MethodNumbers.{methods_of}
@@ -110,7 +111,7 @@ reference_to s n (Some x) = values.Ref (oid_of s n x)
 
 -- a literal; the name of a root refers to its object, and a name that no root has to none
 abbrev pub value_of : Start → Literal → Value
-value_of s (literals.Int n) = values.Int n
+value_of s (literals.Number n) = number_value n
 value_of s literals.Null = values.Null
 value_of s (literals.Root x) = reference_to s (number_of root_name s.roots x) (named root_name s.roots x)
 

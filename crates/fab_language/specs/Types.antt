@@ -3,6 +3,7 @@
 -- The place is that of the value's first token. No fault comes where one of the types isn't known.
 use Rattle.std.specs.Prelude.{ℕ, Bool, true, false, List, [], ◌∷◌, ◌++◌, map, Option, Some, None}
 use Rattle.std.specs.List.{flat_map}
+use Rattle.fab_base.specs.declared.object.Width.TheVariants as widths
 use Rattle.fab_tree.specs.declared.name.Name.{Name}
 use Rattle.fab_tree.specs.declared.declaration.Class.{Class}
 use Rattle.fab_tree.specs.declared.expression.Comparison.{Comparison}
@@ -19,6 +20,7 @@ use Rattle.fab_tree.specs.declared.start.Root.{Root}
 use Rattle.fab_tree.specs.declared.start.RequestText.{RequestText}
 use Rattle.fab_tree.specs.declared.start.Session.{Session}
 use Rattle.fab_tree.specs.declared.start.Start.{Start}
+use Rattle.fab_tree.specs.Numbers.{width_of}
 use Rattle.fab_language.specs.declared.rule.Fault.{Fault}
 use Rattle.fab_language.specs.declared.rule.NameRule.TheVariants.{Typing}
 use Rattle.fab_language.specs.Heads.{Locals, Head, declare, assign, write, call, test, atomic, result, heads_of}
@@ -45,7 +47,7 @@ each_given (k ∷ ks) (v ∷ vs) = given_to k v ++ each_given ks vs
 
 -- what stands before a dot isn't a number
 abbrev pub is_reachable : Kind → Bool
-is_reachable number = false
+is_reachable (number w) = false
 is_reachable (object x) = true
 is_reachable nothing = false
 is_reachable unknown = true
@@ -87,7 +89,7 @@ module _ (s : Start) where
 
     -- an operand that is to be a number
     abbrev pub operand : Checked → List Fault
-    operand x = x.faults ++ given_to number x.value
+    operand x = x.faults ++ given_to (number widths.Int) x.value
 
     abbrev pub comparison : ℕ → Bool → Checked → Checked → List Fault
     comparison at true a b = a.faults ++ b.faults ++ if_so (are_comparable a.value.kind b.value.kind) at
@@ -95,14 +97,13 @@ module _ (s : Start) where
 
     -- what an expression at this place is
     abbrev pub in_form : f.Form-F (ℕ → Checked) Checked Checked → ℕ → Checked
-    in_form (f.Number n) at = value_of at number []
+    in_form (f.Number n) at = value_of at (number (width_of n)) []
     in_form f.Null at = value_of at nothing []
     in_form (f.Local x) at = value_of at (local_kind x) []
     in_form (f.Read x y) at = value_of at (kind_of_field s (field_of s known x y)) (in_reach x at)
-    in_form (f.Negative e) at = value_of at number (operand e)
-    in_form (f.Not e) at = value_of at number (operand e)
-    in_form (f.Chain e others) at = value_of at number (operand e ++ flat_map operand others)
-    in_form (f.Compared a how b) at = value_of at number (comparison at (asks_same how) a b)
+    in_form (f.Unary o e) at = value_of at (number widths.Int) (operand e)
+    in_form (f.Chain e others) at = value_of at (number widths.Int) (operand e ++ flat_map operand others)
+    in_form (f.Compared a how b) at = value_of at (number widths.Int) (comparison at (asks_same how) a b)
 
     abbrev pub checked : Expression → Checked
     checked = fold-Expression (ℕ → Checked) Checked Checked in_form (λ e. e.form e.at) (λ u. u.operand)
@@ -149,7 +150,7 @@ module _ (s : Start) where
     in_head returns (assign x r) = in_right (local_kind x) r
     in_head returns (write x y e) = in_reach x x.at ++ in_expression e ++ given_to (kind_of_field s (field_of s known x y)) (typed e)
     in_head returns (call m es) = in_call m es
-    in_head returns (test e) = in_expression e ++ given_to number (typed e)
+    in_head returns (test e) = in_expression e ++ given_to (number widths.Int) (typed e)
     in_head returns (atomic l) = []
     in_head returns (result x) = in_expression x.value ++ given_to (result_kind returns) (typed x.value)
 

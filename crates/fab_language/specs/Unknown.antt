@@ -56,7 +56,7 @@ module _ (s : Start) where
   in_method_name x = if_found (named method_name s.program.methods x) x
 
   abbrev pub in_sort : Sort → List Fault
-  in_sort sorts.Int = []
+  in_sort (sorts.Number w) = []
   in_sort (sorts.Class x) = in_class_name x
 
   -- ---- declarations
@@ -92,8 +92,7 @@ module _ (s : Start) where
     in_form f.Null = []
     in_form (f.Local x) = in_local x
     in_form (f.Read x y) = in_reach x y
-    in_form (f.Negative e) = e
-    in_form (f.Not e) = e
+    in_form (f.Unary o e) = e
     in_form (f.Chain e others) = e ++ flat_map (λ u. u) others
     in_form (f.Compared e c g) = e ++ g
 
@@ -132,7 +131,7 @@ module _ (s : Start) where
   -- ---- the run part
 
   abbrev pub in_literal : Literal → List Fault
-  in_literal (literals.Int n) = []
+  in_literal (literals.Number n) = []
   in_literal literals.Null = []
   in_literal (literals.Root x) = if_found (named root_name s.roots x) x
 

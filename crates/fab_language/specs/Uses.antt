@@ -61,7 +61,7 @@ method_use s x = use_of method_name s.program.methods x
 
 -- a type, with the number of its class
 abbrev pub sort_of : Start → Sort → NumberedSort
-sort_of s sorts.Int = numbered.Int
+sort_of s (sorts.Number w) = numbered.Number w
 sort_of s (sorts.Class x) = numbered.Class (class_use s x)
 
 -- ---- locals and fields
@@ -79,7 +79,7 @@ fields_in (Some c) = c.fields
 
 -- those of what a value of this type refers to
 abbrev pub fields_of_sort : Start → Sort → List Field
-fields_of_sort s sorts.Int = []
+fields_of_sort s (sorts.Number w) = []
 fields_of_sort s (sorts.Class x) = fields_in (named class_name s.program.classes x)
 
 -- those of what a local refers to

@@ -4,10 +4,10 @@ use fab_base::{NoMemory, Object, Oid, Seq, Stop, Text, Tid, Value};
 use fab_language::Ending;
 use fab_map::ObjectMap;
 use fab_meaning::{Meant, plain_meaning};
-use fab_tree::Name;
 use fab_tree::resolved::{
     Expression, Form, Local, Method, Request, Resolved, Sort, Statement, Use,
 };
+use fab_tree::{Name, Number};
 use std::alloc::Global;
 use std::test::Fail;
 
@@ -28,7 +28,7 @@ fn written(value: i32, site: u16) -> Statement {
         object: FIRST,
         field: 0,
         value: Expression {
-            form: Form::Number(value),
+            form: Form::Number(Number::Int(value)),
             at: 0,
         },
         site,

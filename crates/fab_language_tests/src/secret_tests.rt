@@ -1,16 +1,16 @@
 //! Two requests of a method that makes an object or doesn't, by a secret, and then one more. Who doesn't
 //! see the secret finds the same of both: one object, of the second `new`, with index 0.
 
-use fab_base::{NoMemory, Oid, Seq, Text, Tid, Value};
+use fab_base::{NoMemory, Oid, Seq, Text, Tid, Value, Width};
 use fab_language::Ending;
 use fab_map::ObjectMap;
 use fab_meaning::{Meant, meaning};
 use fab_places::Seen;
-use fab_tree::Name;
 use fab_tree::resolved::{
     Class, Expression, Form, Local, Method, Request, Resolved, Return, Returns, Right, Sort,
     Statement, Use,
 };
+use fab_tree::{Name, Number};
 use std::alloc::Global;
 use std::test::Fail;
 
@@ -46,7 +46,7 @@ fn new(alloc: Global, n: i32, site: u16) -> Result<Right, NoMemory> {
     Ok(Right::New {
         class: SECRET,
         store: STORE,
-        arguments: Seq::from_vec(vec![in alloc; expression(Form::Number(n))]?),
+        arguments: Seq::from_vec(vec![in alloc; expression(Form::Number(Number::Int(n)))]?),
         site,
         at: 0,
     })
@@ -81,7 +81,7 @@ fn body(alloc: Global) -> Result<Vec<Statement>, NoMemory> {
 
 fn method(alloc: Global) -> Result<Method, NoMemory> {
     let locals = vec![in alloc;
-        local(alloc, Sort::Int, SECRET)?,
+        local(alloc, Sort::Number(Width::Int), SECRET)?,
         local(alloc, Sort::Class(SECRET), SECRET)?,
         local(alloc, Sort::Class(SECRET), PUBLIC)?,
     ]?;

@@ -1,6 +1,6 @@
 //! A transfer of 5 from an account with 100 to an empty one, replayed.
 
-use fab_base::{Boxed, NoMemory, Oid, Seq, Text, Tid, Value};
+use fab_base::{Boxed, NoMemory, Oid, Seq, Text, Tid, Value, Width};
 use fab_map::ObjectMap;
 use fab_net::{Event, Logged, Note};
 use fab_serial::{commits, replay};
@@ -82,7 +82,7 @@ fn transfer(alloc: Global) -> Result<Method, NoMemory> {
     let locals = vec![in alloc;
         local(alloc, Sort::Class(FIRST))?,
         local(alloc, Sort::Class(FIRST))?,
-        local(alloc, Sort::Int)?,
+        local(alloc, Sort::Number(Width::Int))?,
     ]?;
     let body = vec![in alloc;
         moved(alloc, FIRST, Operator::Subtract)?,

@@ -277,7 +277,7 @@ module _ (known : FlatMap) (program : Resolved) (tid : Tid) where
   kept = record {
     same = λ t. record { still = λ o i. i };
     then_on = λ t u v g h. record { still = λ o i. h.still o (g.still o i) };
-    of_number = λ t n. tt;
+    of_number = λ t w v e. tt;
     of_null = λ t. tt;
     still = λ t u k v g h. tt;
     fitted = λ t taker k v m h. tt;

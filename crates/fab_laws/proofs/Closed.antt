@@ -1,12 +1,13 @@
 -- Over a map in which each reference leads to an object, no object is missing, and the map behind is such a map.
 use Rattle.std.proofs.Common.{◌≡◌, ℕ, ◌-◌, List, [], ◌∷◌, ◌++◌, Option, Some, None, Bool, true, false, refl, sym, ap, ◌∙◌, subst}
-use Rattle.std.specs.Prelude.{slice_get, slice_set, unwrap_or}
+use Rattle.std.specs.Prelude.{slice_get, slice_set, unwrap_or, IfSome}
 use Rattle.std.specs.List.{AllByRecursion}
 use Rattle.fab_base.specs.declared.object.Oid.{Oid}
 use Rattle.fab_base.specs.declared.object.Object.{Object}
 use Rattle.fab_base.specs.declared.object.Tid.{Tid}
 use Rattle.fab_base.specs.declared.object.Value.{Value}
-use Rattle.fab_base.specs.declared.object.Value.TheVariants.{Int, Null, Ref}
+use Rattle.fab_base.specs.declared.object.Value.TheVariants.{Null}
+use Rattle.fab_base.specs.declared.object.Width.TheVariants as widths
 use Rattle.fab_base.specs.FlatMap.{FlatMap, get, put, is_same}
 use Rattle.fab_base.proofs.NameOrder.{one_name}
 use Rattle.fab_map.proofs.Rows.{get-put_same, get-put_other}
@@ -21,18 +22,21 @@ use Rattle.fab_language.specs.Meaning.{State, failed, stopped, missing, Run, wit
 use Rattle.fab_language.specs.Evaluation.{tid_of, meant, if_ended, map_behind, in_turn}
 use Rattle.fab_laws.specs.Kinds.{Kind, Claim, parameter_kinds}
 use Rattle.fab_laws.specs.Closed.{HasOne, IsThere, AreThere, IsClosed, IsFound, IsClosedBehind}
-use Rattle.fab_laws.proofs.Values.{at_place, all_set, all_at_start, all_more}
+use Rattle.fab_laws.proofs.Values.{at_place, all_set, all_at_start, all_more, number_leads_nowhere}
 use Rattle.fab_laws.proofs.Walk as w
 use Rattle.fab_laws.proofs.Walk.{Result, on, off, Finds, made_one, touched_one, Replaces, again, fresh}
+use Rattle.fab_base.specs.Values.{referred}
 
 -- each object of the one map has its name in the other
 pub record Grown (m n : FlatMap) : Type 0 where
   pub still : (o : Oid) (x : Object) → get m o ≡ Some x → HasOne n o
 
 there_still : (m n : FlatMap) (v : Value) → Grown m n → IsThere m v → IsThere n v
-there_still m n (Int i) g h = tt
-there_still m n Null g h = tt
-there_still m n (Ref o) g h = g.still o h.0 h.1
+there_still m n v g = by (referred v)
+  where
+    by : (o : Option Oid) → IfSome o (HasOne m) → IfSome o (HasOne n)
+    by None h = tt
+    by (Some o) h = g.still o h.0 h.1
 
 all_still : (m n : FlatMap) (vs : List Value) → Grown m n → AreThere m vs → AreThere n vs
 all_still m n vs g h = all_more (IsThere m) (IsThere n) vs (λ v p. there_still m n v g p) h
@@ -80,7 +84,7 @@ abbrev Meets : Claim → Type 0
 Meets c = Unit {0}
 
 of_default : (m : FlatMap) (s : Sort) → IsThere m (default s)
-of_default m sorts.Int = tt
+of_default m (sorts.Number widths.Int) = tt
 of_default m (sorts.Class c) = tt
 
 there_is : (t : State) (o : Oid) → HasOne t.heap.rows o → get t.heap.rows o ≡ None → ⊥
@@ -119,7 +123,7 @@ module _ (program : Resolved) (tid : Tid) where
   kept = record {
     same = λ t. record { grown = same_map t.heap.rows };
     then_on = λ t u v g h. record { grown = grown_on t.heap.rows u.heap.rows v.heap.rows g.grown h.grown };
-    of_number = λ t n. tt;
+    of_number = λ t w v e. number_leads_nowhere _ w v e;
     of_null = λ t. tt;
     still = λ t u k v g h. there_still t.heap.rows u.heap.rows v g.grown h;
     fitted = λ t taker k v m h. h;

@@ -25,10 +25,12 @@ use Rattle.fab_tree.specs.declared.resolved.Statement.TheOpen as s
 use Rattle.fab_tree.specs.declared.resolved.Return.{Return}
 use Rattle.fab_tree.specs.declared.resolved.Method.{Method}
 use Rattle.fab_tree.specs.declared.resolved.Resolved.{Resolved}
-use Rattle.fab_language.specs.Meaning.{failed, stopped, ends, M, gives, ◌>>=◌, ◌>>◌, charge, local, assign, read, write, create, noted_down, int_of, holds, quotient}
+use Rattle.fab_language.specs.Meaning.{failed, stopped, ends, M, gives, ◌>>=◌, ◌>>◌, charge, local, assign, read, write, create, noted_down, int_of, holds, quotient, led}
 use Rattle.fab_language.specs.Meaning.{operate, chained}
 use Rattle.fab_language.specs.Meaning.{form_step, form_value, operand_value, value, values, in_order, turns, loop, atomically, right, statement_step, statement, block}
 use Rattle.fab_language.specs.Meaning.{returned, body_of, locals_at_start, back_with, entered, called}
+use Rattle.fab_base.specs.Values.{referred}
+use Rattle.fab_tree.specs.Numbers.{number_value}
 
 -- ---- what a law shows
 
@@ -116,10 +118,12 @@ every class = true
 
 module _ (K : (A : Type 0) → M A → Type 0) where
   module _ (of : OfReads K Anywhere every) where
+    pub led_one : (A : Type 0) (o : Option Oid) (does : Oid → M A) → ((p : Oid) → K A (does p)) → K A (led o does)
+    led_one A None does k = of.fell
+    led_one A (Some o) does k = k o
+
     pub read_one : (site field : ℕ) (v : Value) → K Value (read site field v)
-    read_one site field (Int n) = of.fell
-    read_one site field Null = of.fell
-    read_one site field (Ref o) = of.got site field o tt refl
+    read_one site field v = led_one Value (referred v) _ (λ o. of.got site field o tt refl)
 
     abbrev KnownForm : Type 0
     KnownForm = (x : Form) × K Value (form_value x)
@@ -139,12 +143,11 @@ module _ (K : (A : Type 0) → M A → Type 0) where
 
     by_form : (y : f.Form-F KnownForm KnownValue KnownOperand)
         → K Value (form_step (map-Form Form Expression Operand (M Value) (M Value) (Operator × M Value) form_value value operand_value (in_form y)))
-    by_form (f.Number n) = of.given (Int n)
+    by_form (f.Number n) = of.given (number_value n)
     by_form f.Null = of.given Null
     by_form (f.Local x) = of.named x.number
     by_form (f.Read x field site) = of.bound (local x.number) _ (of.named x.number) (λ v. read_one site field v)
-    by_form (f.Negative k) = of.bound (value k.0) _ k.1 (λ v. of.given _)
-    by_form (f.Not k) = of.bound (value k.0) _ k.1 (λ v. of.given _)
+    by_form (f.Unary o k) = of.bound (value k.0) _ k.1 (λ v. of.given _)
     by_form (f.Chain k others) = of.bound (value k.0) _ k.1 (λ v. chains K Anywhere every of _ v (operands others))
     by_form (f.Compared k comparison l) = of.bound (value k.0) _ k.1 (λ a. of.bound (value l.0) _ l.1 (λ b. of.given _))
 
@@ -178,9 +181,7 @@ module _ (K : (A : Type 0) → M A → Type 0) where
 
   module _ (of : OfSteps K Anywhere every) where
     pub write_one : (site field : ℕ) (v w : Value) → K (Unit {0}) (write site field v w)
-    write_one site field v (Int n) = of.reads.fell
-    write_one site field v Null = of.reads.fell
-    write_one site field v (Ref o) = of.wrote site field v o tt refl
+    write_one site field v w = led_one of.reads (Unit {0}) (referred w) _ (λ o. of.wrote site field v o tt refl)
 
     -- over what a call does
     module _ (tid : Tid) (call : ℕ → List Value → M (Option Value)) (calls : (m : ℕ) (vs : List Value) → K (Option Value) (call m vs)) where

@@ -6,6 +6,7 @@ use Rattle.std.specs.List.{list_all}
 use Rattle.fab_base.specs.declared.object.Oid.{Oid}
 use Rattle.fab_base.specs.declared.object.Tid.{Tid}
 use Rattle.fab_base.specs.declared.object.Value.TheVariants.{Ref}
+use Rattle.fab_base.specs.declared.object.Width.TheVariants as widths
 use Rattle.fab_base.specs.FlatMap.{FlatMap}
 use Rattle.fab_tree.specs.declared.name.Name.{Name}
 use Rattle.fab_tree.specs.declared.resolved.Use.{Use}
@@ -36,16 +37,16 @@ abbrev used : ℕ → Use
 used n = record { number = n; at = 0 }
 
 abbrev one_class : List Class
-one_class = record { name = text (codes "C"); label = used 0; access = used 0; fields = record { sort = sorts.Int; name = text (codes "n") } ∷ record { sort = sorts.Class (used 0); name = text (codes "next") } ∷ [] } ∷ []
+one_class = record { name = text (codes "C"); label = used 0; access = used 0; fields = record { sort = sorts.Number widths.Int; name = text (codes "n") } ∷ record { sort = sorts.Class (used 0); name = text (codes "next") } ∷ [] } ∷ []
 
 abbrev a_local : Sort → locals.Local
 a_local sort = record { sort = sort; name = text (codes "x"); label = used 0 }
 
 abbrev one_method : List Method
-one_method = record { name = text (codes "m"); parameters = 2; locals = a_local (sorts.Class (used 0)) ∷ a_local sorts.Int ∷ a_local (sorts.Class (used 0)) ∷ []; returns = None; begin = used 0; fails = false; authority = []; body = []; result = None } ∷ []
+one_method = record { name = text (codes "m"); parameters = 2; locals = a_local (sorts.Class (used 0)) ∷ a_local (sorts.Number widths.Int) ∷ a_local (sorts.Class (used 0)) ∷ []; returns = None; begin = used 0; fails = false; authority = []; body = []; result = None } ∷ []
 
 abbrev kinds : List Kind
-kinds = object 0 ∷ number ∷ object 0 ∷ []
+kinds = object 0 ∷ number widths.Int ∷ object 0 ∷ []
 
 abbrev kind : Expression → Kind
 kind = kind_of one_class one_method kinds

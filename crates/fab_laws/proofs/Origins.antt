@@ -1,6 +1,6 @@
 -- Each touch comes from the arguments or from a field of a known object that was touched before.
-use Rattle.std.proofs.Common.{◌≡◌, inl, inr, ℕ, ◌-◌, List, [], ◌∷◌, ◌++◌, Option, Some, Bool, true, false, ◌||◌, if◌then◌else◌, append_assoc, append-nil, refl, sym, ap, ◌∙◌, subst}
-use Rattle.std.specs.Prelude.{slice_get, slice_set, unwrap_or}
+use Rattle.std.proofs.Common.{◌≡◌, inl, inr, ℕ, ◌-◌, List, [], ◌∷◌, ◌++◌, Option, Some, Bool, true, false, ◌||◌, if◌then◌else◌, append_assoc, append-nil, refl, sym, ap, ◌∙◌, subst, None, ◌⊎◌}
+use Rattle.std.specs.Prelude.{slice_get, slice_set, unwrap_or, IfSome}
 use Rattle.std.specs.List.{AllByRecursion}
 use Rattle.std.proofs.lemmas.Bool.{true≢false}
 use Rattle.fab_base.specs.declared.object.Oid.{Oid}
@@ -8,6 +8,7 @@ use Rattle.fab_base.specs.declared.object.Object.{Object}
 use Rattle.fab_base.specs.declared.object.Tid.{Tid}
 use Rattle.fab_base.specs.declared.object.Value.{Value}
 use Rattle.fab_base.specs.declared.object.Value.TheVariants.{Int, Null, Ref}
+use Rattle.fab_base.specs.declared.object.Width.TheVariants as widths
 use Rattle.fab_base.specs.FlatMap.{FlatMap, get, put, is_same}
 use Rattle.fab_base.proofs.NameOrder.{one_name}
 use Rattle.fab_base.proofs.Names.{same_self}
@@ -23,9 +24,10 @@ use Rattle.fab_laws.specs.Kinds.{Kind, Claim, parameter_kinds}
 use Rattle.fab_laws.specs.Changes.{has_pair}
 use Rattle.fab_laws.specs.Origins.{is_to, refer, ComesFrom, from_arguments, from_object, EachComesFrom, IsFrom, HasOrigins}
 use Rattle.fab_laws.proofs.Names.{or_true, or_parts, among_more, among_last, touched_still, touched_now, changed_again, written_more, made_too, with_written}
-use Rattle.fab_laws.proofs.Values.{at_place, all_set, all_at_start, all_more}
+use Rattle.fab_laws.proofs.Values.{at_place, all_set, all_at_start, all_more, number_leads_nowhere}
 use Rattle.fab_laws.proofs.Walk as w
 use Rattle.fab_laws.proofs.Walk.{Result, on, off, Finds, made_one, touched_one, Replaces, again, fresh}
+use Rattle.fab_base.specs.Values.{referred}
 
 -- what holds of each value, if it holds of numbers, of null, and of the names to which one of these refers
 all_refer : (P : Value → Type 0) (whole vs : List Value) → ((v : Value) → ((o : Oid) → is_to o v ≡ true → P (Ref o)) → P v) → ((o : Oid) → refer o vs ≡ true → refer o whole ≡ true) → ((o : Oid) → refer o whole ≡ true → P (Ref o)) → AllByRecursion P vs
@@ -71,11 +73,14 @@ module _ (known : FlatMap) (args : List Value) where
     abbrev Next : List Kind → State → State → Type 0
     Next = w.Next program tid Traced Has Then Lacks Meets
 
+    still_referred : (t u : State) (o : Option Oid) → Then t u → IfSome o (λ p. ComesFrom known args t.touches p ⊎ (is_among p t.heap.made ≡ true))
+        → IfSome o (λ p. ComesFrom known args u.touches p ⊎ (is_among p u.heap.made ≡ true))
+    still_referred t u None g h = tt
+    still_referred t u (Some o) g (inl c) = inl (more_before t.touches u.touches o g.touched_still c)
+    still_referred t u (Some o) g (inr i) = inr (g.made_still o i)
+
     still : (t u : State) (v : Value) → Then t u → From t v → From u v
-    still t u (Int n) g h = tt
-    still t u Null g h = tt
-    still t u (Ref o) g (inl c) = inl (more_before t.touches u.touches o g.touched_still c)
-    still t u (Ref o) g (inr i) = inr (g.made_still o i)
+    still t u v = still_referred t u (referred v)
 
     all_still : (t u : State) (vs : List Value) → Then t u → AllByRecursion (From t) vs → AllByRecursion (From u) vs
     all_still t u vs g h = all_more (From t) (From u) vs (λ v p. still t u v g p) h
@@ -93,7 +98,7 @@ module _ (known : FlatMap) (args : List Value) where
     by_names t (Ref o) h = h o (same_self o)
 
     of_default : (t : State) (s : Sort) → From t (default s)
-    of_default t sorts.Int = tt
+    of_default t (sorts.Number widths.Int) = tt
     of_default t (sorts.Class c) = tt
 
     -- the map stays as it is
@@ -183,7 +188,7 @@ module _ (known : FlatMap) (args : List Value) where
     kept = record {
       same = λ t. same t t refl refl;
       then_on = then_on;
-      of_number = λ t n. tt;
+      of_number = λ t w v e. number_leads_nowhere _ w v e;
       of_null = λ t. tt;
       still = λ t u k v g h. still t u v g h;
       fitted = λ t taker k v m h. h;

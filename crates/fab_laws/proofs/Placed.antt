@@ -9,6 +9,7 @@ use Rattle.fab_base.specs.declared.object.Object.{Object}
 use Rattle.fab_base.specs.declared.object.Tid.{Tid}
 use Rattle.fab_base.specs.declared.object.Value.{Value}
 use Rattle.fab_base.specs.declared.object.Value.TheVariants.{Null}
+use Rattle.fab_base.specs.declared.object.Width.TheVariants as widths
 use Rattle.fab_base.specs.FlatMap.{FlatMap, get, put, is_same}
 use Rattle.fab_base.proofs.NameOrder.{one_name}
 use Rattle.fab_map.proofs.Rows.{get-put_same, get-put_other}
@@ -22,7 +23,7 @@ use Rattle.fab_language.specs.Meaning.{State, failed, stopped, missing, Run, wit
 use Rattle.fab_laws.specs.Kinds.{Kind, Claim, method_claims, claims_of, parameter_kinds}
 use Rattle.fab_laws.specs.Origins.{Passes, AllPass, HasOnlyPassing, MakesPassing, OnlyPassing}
 use Rattle.fab_laws.proofs.Names.{or_false, among_more, touched_after}
-use Rattle.fab_laws.proofs.Values.{at_place, all_set, all_at_start}
+use Rattle.fab_laws.proofs.Values.{at_place, all_set, all_at_start, number_leads_nowhere}
 use Rattle.fab_laws.proofs.Walk as w
 use Rattle.fab_laws.proofs.Walk.{Result, on, off, Finds, made_one, touched_one, Replaces, again, fresh, claims_at}
 
@@ -35,7 +36,7 @@ below_limit site h s =
 
 module _ (p : Oid → Bool) where
   of_default : (s : Sort) → Passes p (default s)
-  of_default sorts.Int = tt
+  of_default (sorts.Number widths.Int) = tt
   of_default (sorts.Class c) = tt
 
   put_passing : (o : Oid) (y : Object) (m : FlatMap) → HasOnlyPassing p m → AllPass p y.fields → HasOnlyPassing p (put o y m)
@@ -114,7 +115,7 @@ module _ (p : Oid → Bool) where
     kept = record {
       same = λ t. tt;
       then_on = λ t u v g h. tt;
-      of_number = λ t n. tt;
+      of_number = λ t w v e. number_leads_nowhere _ w v e;
       of_null = λ t. tt;
       still = λ t u k v g h. h;
       fitted = λ t taker k v m h. h;

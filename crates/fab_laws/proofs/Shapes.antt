@@ -9,6 +9,7 @@ use Rattle.fab_base.specs.declared.object.Object.{Object}
 use Rattle.fab_base.specs.declared.object.Tid.{Tid}
 use Rattle.fab_base.specs.declared.object.Value.{Value}
 use Rattle.fab_base.specs.declared.object.Value.TheVariants.{Int, Null, Ref}
+use Rattle.fab_base.specs.declared.object.Width.TheVariants as widths
 use Rattle.fab_base.specs.FlatMap.{FlatMap, get, put, is_same}
 use Rattle.fab_base.proofs.NameOrder.{one_name}
 use Rattle.fab_map.proofs.Rows.{get-put_same, get-put_other}
@@ -52,7 +53,7 @@ suit_length (k ∷ ks) [] h = absurd h
 suit_length (k ∷ ks) (v ∷ vs) h = ap suc (suit_length ks vs h.1)
 
 of_default : (s : Sort) → suits (kind_of_sort s) (default s) ≡ true
-of_default sorts.Int = refl
+of_default (sorts.Number widths.Int) = refl
 of_default (sorts.Class c) = refl
 
 suit_defaults : (ls : List Local) → AllSuit (map (λ (x : Local). kind_of_sort x.sort) ls) (map (λ (x : Local). default x.sort) ls)
@@ -73,17 +74,17 @@ eq_self n = grind (arith, nat_tests)
 
 -- what takes a value of a kind may hold it
 pub taken : (taker k : Kind) (v : Value) → takes taker k ≡ true → suits k v ≡ true → suits taker v ≡ true
-taken number number v h p = p
-taken number (object y) v h p = absurd (true≢false (sym h))
-taken number nothing v h p = absurd (true≢false (sym h))
-taken number unknown v h p = absurd (true≢false (sym h))
-taken (object x) number v h p = absurd (true≢false (sym h))
+taken (number widths.Int) (number widths.Int) v h p = p
+taken (number w) (object y) v h p = absurd (true≢false (sym h))
+taken (number w) nothing v h p = absurd (true≢false (sym h))
+taken (number w) unknown v h p = absurd (true≢false (sym h))
+taken (object x) (number w) v h p = absurd (true≢false (sym h))
 taken (object x) (object y) v h p = subst (λ c. suits (object c) v ≡ true) (sym (eq_from x y h)) p
 taken (object x) nothing (Int n) h p = p
 taken (object x) nothing Null h p = refl
 taken (object x) nothing (Ref o) h p = absurd (true≢false (sym p))
 taken (object x) unknown v h p = absurd (true≢false (sym h))
-taken nothing number v h p = absurd (true≢false (sym h))
+taken nothing (number w) v h p = absurd (true≢false (sym h))
 taken nothing (object y) v h p = absurd (true≢false (sym h))
 taken nothing nothing v h p = p
 taken nothing unknown v h p = absurd (true≢false (sym h))
@@ -105,14 +106,14 @@ put_shaped classes o y m a i p z e = by_same (is_same o p) refl
 
 -- a field of an object that is had as one of a kind
 pub field_suits : (classes : List Class) (k : Kind) (field : ℕ) (o : Oid) (x : Object) → suits k (Ref o) ≡ true → IsShaped classes o x → suits (field_kind classes k field) (field_of field x) ≡ true
-field_suits classes number field o x p i = refl
+field_suits classes (number w) field o x p i = refl
 field_suits classes (object c) field o x p i = subst (λ d. suits (kind_at (class_kinds classes d) field) (field_of field x) ≡ true) (eq_from o.class c p) (suit_at (class_kinds classes o.class) x.fields field i.fields)
 field_suits classes nothing field o x p i = refl
 field_suits classes unknown field o x p i = refl
 
 -- an object with a value in a field that takes it
 pub with_suits : (classes : List Class) (k l : Kind) (field : ℕ) (o : Oid) (v : Value) (x : Object) → suits k (Ref o) ≡ true → takes (field_kind classes k field) l ≡ true → suits l v ≡ true → IsShaped classes o x → IsShaped classes o (with_field field v x)
-with_suits classes number l field o v x p m q i = absurd (true≢false (sym m))
+with_suits classes (number w) l field o v x p m q i = absurd (true≢false (sym m))
 with_suits classes (object c) l field o v x p m q i = record {
   class = i.class;
   fields = suit_set (class_kinds classes o.class) x.fields field v (subst (λ d. suits (kind_at (class_kinds classes d) field) v ≡ true) (sym (eq_from o.class c p)) (taken (kind_at (class_kinds classes c) field) l v m q)) i.fields;
@@ -177,7 +178,7 @@ module _ (program : Resolved) (tid : Tid) where
   kept = record {
     same = λ t. tt;
     then_on = λ t u v g h. tt;
-    of_number = λ t n. refl;
+    of_number = λ t w v e. e;
     of_null = λ t. refl;
     still = λ t u k v g h. h;
     fitted = λ t taker k v m h. taken taker k v m h;

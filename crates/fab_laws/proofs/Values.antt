@@ -1,12 +1,23 @@
 -- What holds of each value of a list.
-use Rattle.std.proofs.Common.{ℕ, zero, suc, List, [], ◌∷◌, ◌++◌, map, drop, length}
-use Rattle.std.specs.Prelude.{slice_get, slice_set, unwrap_or}
+use Rattle.std.proofs.Common.{◌≡◌, ℕ, zero, suc, true, List, [], ◌∷◌, ◌++◌, map, drop, length, sym, true≢false}
+use Rattle.std.specs.Prelude.{slice_get, slice_set, unwrap_or, IfSome}
 use Rattle.std.specs.List.{AllByRecursion}
+use Rattle.fab_base.specs.declared.object.Oid.{Oid}
 use Rattle.fab_base.specs.declared.object.Value.{Value}
+use Rattle.fab_base.specs.declared.object.Value.TheVariants.{Int, Null, Ref}
+use Rattle.fab_base.specs.declared.object.Width.{Width}
+use Rattle.fab_base.specs.declared.object.Width.TheVariants as widths
+use Rattle.fab_base.specs.Values.{is_number_of, referred}
 use Rattle.fab_tree.specs.declared.resolved.Sort.{Sort}
 use Rattle.fab_tree.specs.declared.resolved.Local.{Local}
 use Rattle.fab_tree.specs.declared.resolved.Method.{Method}
 use Rattle.fab_language.specs.Meaning.{default, locals_at_start}
+
+-- a number leads nowhere
+pub number_leads_nowhere : (P : Oid → Type 0) (w : Width) (v : Value) → is_number_of w v ≡ true → IfSome (referred v) P
+number_leads_nowhere P widths.Int (Int n) e = tt
+number_leads_nowhere P widths.Int Null e = absurd (true≢false (sym e))
+number_leads_nowhere P widths.Int (Ref o) e = absurd (true≢false (sym e))
 
 pub at_place : {A : Type 0} (P : A → Type 0) (xs : List A) (i : ℕ) (d : A) → P d → AllByRecursion P xs → P (unwrap_or (slice_get xs i) d)
 at_place P [] i d p h = p

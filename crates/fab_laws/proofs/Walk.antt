@@ -9,9 +9,14 @@ use Rattle.fab_base.specs.declared.object.Oid.{Oid}
 use Rattle.fab_base.specs.declared.object.Object.{Object}
 use Rattle.fab_base.specs.declared.object.Tid.{Tid}
 use Rattle.fab_base.specs.declared.object.Value.{Value}
+use Rattle.fab_base.specs.declared.object.Width.TheVariants as widths
+use Rattle.fab_base.specs.declared.object.Width.{Width}
 use Rattle.fab_base.specs.declared.object.Value.TheVariants.{Int, Null, Ref}
 use Rattle.fab_base.specs.declared.object.Stop.TheVariants.{Fuel, Depth, Reads, Writes}
 use Rattle.fab_base.specs.FlatMap.{get}
+use Rattle.fab_tree.specs.declared.expression.Number.{Number}
+use Rattle.fab_tree.specs.declared.expression.Number.TheVariants as numbers
+use Rattle.fab_tree.specs.declared.expression.UnaryOperator.{UnaryOperator}
 use Rattle.fab_tree.specs.declared.expression.Operator.{Operator}
 use Rattle.fab_tree.specs.declared.expression.Operator.TheVariants.{Or, And, Add, Subtract, Multiply, Divide}
 use Rattle.fab_tree.specs.declared.resolved.Expression.{Expression, ind-Expression, roll-Expression, fold-roll-Expression, map-Expression}
@@ -25,12 +30,15 @@ use Rattle.fab_tree.specs.declared.resolved.Statement.TheOpen as s
 use Rattle.fab_tree.specs.declared.resolved.Return.{Return}
 use Rattle.fab_tree.specs.declared.resolved.Method.{Method}
 use Rattle.fab_tree.specs.declared.resolved.Resolved.{Resolved}
+use Rattle.fab_tree.specs.declared.expression.UnaryOperator.TheVariants as unary
 use Rattle.fab_language.specs.Heaps.{Heap, full, found, reach_in, reach_before, is_among, is_full, touched, noted, with_row, is_changed, is_spent}
-use Rattle.fab_language.specs.Meaning.{State, End, failed, stopped, missing, Run, goes, ends, M, and_then, gives, ◌>>=◌, ◌>>◌, charge, local, assign, reached, access, field_of, with_field, read, settled, replace, write}
+use Rattle.fab_language.specs.Meaning.{State, End, failed, stopped, missing, Run, goes, ends, M, and_then, gives, ◌>>=◌, ◌>>◌, charge, local, assign, reached, access, field_of, with_field, read, settled, replace, write, applied}
 use Rattle.fab_language.specs.Meaning.{next_name, create, noted_down, holds, quotient, operate, chained, form_step, value, values, in_order, turns, or_else, atomically, right, statement_step, statement, block, returned, body_of, locals_at_start, back_with, entered, called}
 use Rattle.fab_laws.specs.Kinds.{Kind, number, object, nothing, unknown, kind_at, class_kinds, field_kind, local_kinds, parameter_kinds, returns_kind, result_kind, Claim, given, counted, made, each_given, all_given, chain_kind, form_kind, kind_of, right_kind, right_claims, call_claims, all_of, statement_claims_step, statement_claims, block_claims, returned_kind, method_claims}
 use Rattle.fab_laws.proofs.Names.{with_written, with_new}
 use Rattle.fab_laws.proofs.Values.{all_any}
+use Rattle.fab_base.specs.Values.{is_number_of}
+use Rattle.fab_tree.specs.Numbers.{width_of, number_value}
 
 -- each claim of both lists
 all_parts : {A : Type 0} (P : A → Type 0) (xs ys : List A) → AllByRecursion P (xs ++ ys) → AllByRecursion P xs × AllByRecursion P ys
@@ -49,6 +57,14 @@ claims_at P g (x ∷ ms) (suc i) m h e = claims_at P g ms i m (all_parts P (g x)
 -- where nothing is asked of claims
 pub unasked : (program : Resolved) (m : Method) → AllByRecursion (λ (c : Claim). Unit {0}) (method_claims program.classes program.methods m)
 unasked program m = all_any (method_claims program.classes program.methods m)
+
+-- a number is of its width, and what an operator in front of its operand gives is one
+of_its_width : (n : Number) → is_number_of (width_of n) (number_value n) ≡ true
+of_its_width (numbers.Int n) = refl
+
+is_applied : (o : UnaryOperator) (v : Value) → is_number_of widths.Int (applied o v) ≡ true
+is_applied unary.Negative v = refl
+is_applied unary.Not v = refl
 
 module _ (program : Resolved) (tid : Tid) (Holds : List Kind → State → Type 0) (Has : State → Kind → Value → Type 0) (Then : State → State → Type 0) (Lacks : ℕ → Oid → Type 0) (Meets : Claim → Type 0) where
   -- ---- what a law shows
@@ -97,7 +113,7 @@ module _ (program : Resolved) (tid : Tid) (Holds : List Kind → State → Type 
   pub record IsKept : Type 0 where
     pub same : (t : State) → Then t t
     pub then_on : (t u w : State) → Then t u → Then u w → Then t w
-    pub of_number : (t : State) (n : ℤ) → Has t number (Int n)
+    pub of_number : (t : State) (w : Width) (v : Value) → is_number_of w v ≡ true → Has t (number w) v
     pub of_null : (t : State) → Has t nothing Null
     pub still : (t u : State) (k : Kind) (v : Value) → Then t u → Has t k v → Has u k v
     pub fitted : (t : State) (taker k : Kind) (v : Value) → Meets (given taker k) → Has t k v → Has t taker v
@@ -258,36 +274,36 @@ module _ (program : Resolved) (tid : Tid) (Holds : List Kind → State → Type 
       gives_local : (x : ℕ) → Gives (kind_at ls x) (local x)
       gives_local x = record { by = λ t h. done ls t (λ u. Has u (kind_at ls x)) _ h (kept.at_local ls t x h) }
 
-      quotients : (n : Option ℤ) → Gives number (quotient n)
+      quotients : (n : Option ℤ) → Gives (number widths.Int) (quotient n)
       quotients None = record { by = λ t h. over ls t _ failed h tt }
-      quotients (Some n) = gives_value number (Int n) (λ t. kept.of_number t n)
+      quotients (Some n) = gives_value (number widths.Int) (Int n) (λ t. kept.of_number t widths.Int _ refl)
 
-      operates : (o : Operator) (a b : Value) → Gives number (operate o a b)
-      operates Or a b = gives_value number _ (λ t. kept.of_number t _)
-      operates And a b = gives_value number _ (λ t. kept.of_number t _)
-      operates Add a b = gives_value number _ (λ t. kept.of_number t _)
-      operates Subtract a b = gives_value number _ (λ t. kept.of_number t _)
-      operates Multiply a b = gives_value number _ (λ t. kept.of_number t _)
+      operates : (o : Operator) (a b : Value) → Gives (number widths.Int) (operate o a b)
+      operates Or a b = gives_value (number widths.Int) _ (λ t. kept.of_number t widths.Int _ refl)
+      operates And a b = gives_value (number widths.Int) _ (λ t. kept.of_number t widths.Int _ refl)
+      operates Add a b = gives_value (number widths.Int) _ (λ t. kept.of_number t widths.Int _ refl)
+      operates Subtract a b = gives_value (number widths.Int) _ (λ t. kept.of_number t widths.Int _ refl)
+      operates Multiply a b = gives_value (number widths.Int) _ (λ t. kept.of_number t widths.Int _ refl)
       operates Divide a b = quotients _
 
       -- a number from a value, whatever it is
-      then_number : (k : Kind) (m : M Value) (g : Value → M Value) → Gives k m → ((v : Value) → Gives number (g v)) → Gives number (m >>= g)
-      then_number k m g p q = record { by = λ t h. run_then ls t (λ u. Has u k) (λ u. Has u number) (m t) g (p.by t h) (λ v u n i. (q v).by u n.holds) }
+      then_number : (k : Kind) (m : M Value) (g : Value → M Value) → Gives k m → ((v : Value) → Gives (number widths.Int) (g v)) → Gives (number widths.Int) (m >>= g)
+      then_number k m g p q = record { by = λ t h. run_then ls t (λ u. Has u k) (λ u. Has u (number widths.Int)) (m t) g (p.by t h) (λ v u n i. (q v).by u n.holds) }
 
       abbrev EachOperand : List (Operator × M Value) → Type 0
       EachOperand [] = Unit {0}
       EachOperand (o ∷ os) = Sound o.1 × EachOperand os
 
       -- one operand more, and what comes behind it from a number
-      step_then : (o : Operator × M Value) (v : Value) (g : Value → M Value) → Sound o.1 → ((n : Value) (t : State) → Holds ls t → Has t number n → Result ls t (λ u. Has u number) (g n t)) → Gives number (o.1 >>= λ w. operate o.0 v w >>= g)
+      step_then : (o : Operator × M Value) (v : Value) (g : Value → M Value) → Sound o.1 → ((n : Value) (t : State) → Holds ls t → Has t (number widths.Int) n → Result ls t (λ u. Has u (number widths.Int)) (g n t)) → Gives (number widths.Int) (o.1 >>= λ w. operate o.0 v w >>= g)
       step_then o v g q k = record {
         by = λ t h.
-            run_then ls t (λ u. Has u q.kind) (λ u. Has u number) (o.1 t) (λ w. operate o.0 v w >>= g) (q.gives.by t h) (λ w u n i.
-            run_then ls u (λ u. Has u number) (λ u. Has u number) (operate o.0 v w u) g ((operates o.0 v w).by u n.holds) (λ x w l j. k x w l.holds j));
+            run_then ls t (λ u. Has u q.kind) (λ u. Has u (number widths.Int)) (o.1 t) (λ w. operate o.0 v w >>= g) (q.gives.by t h) (λ w u n i.
+            run_then ls u (λ u. Has u (number widths.Int)) (λ u. Has u (number widths.Int)) (operate o.0 v w u) g ((operates o.0 v w).by u n.holds) (λ x w l j. k x w l.holds j));
       }
 
-      chains : (os : List (Operator × M Value)) → EachOperand os → (v : Value) (t : State) → Holds ls t → Has t number v → Result ls t (λ u. Has u number) (chained operate os v t)
-      chains [] q v t h p = done ls t (λ u. Has u number) v h p
+      chains : (os : List (Operator × M Value)) → EachOperand os → (v : Value) (t : State) → Holds ls t → Has t (number widths.Int) v → Result ls t (λ u. Has u (number widths.Int)) (chained operate os v t)
+      chains [] q v t h p = done ls t (λ u. Has u (number widths.Int)) v h p
       chains (o ∷ os) q v t h p = (step_then o v (chained operate os) q.0 (chains os q.1)).by t h
 
       abbrev form_value : Form → M Value
@@ -331,17 +347,16 @@ module _ (program : Resolved) (tid : Tid) (Holds : List Kind → State → Type 
       in_form y = map-Form KnownForm KnownValue KnownOperand Form Expression Operand (λ k. k.0) (λ k. k.0) (λ k. k.0) y
 
       by_form : (y : f.Form-F KnownForm KnownValue KnownOperand) → Gives (kind_step (map-Form Form Expression Operand Kind Kind (Unit {0}) kind_in kind operand_kind (in_form y))) (form_step (map-Form Form Expression Operand (M Value) (M Value) (Operator × M Value) form_value value operand_value (in_form y)))
-      by_form (f.Number n) = gives_value number (Int n) (λ t. kept.of_number t n)
+      by_form (f.Number n) = gives_value (number (width_of n)) (number_value n) (λ t. kept.of_number t (width_of n) (number_value n) (of_its_width n))
       by_form f.Null = gives_value nothing Null (λ t. kept.of_null t)
       by_form (f.Local x) = gives_local x.number
       by_form (f.Read x field site) = record {
         by = λ t h.
             run_then ls t (λ u. Has u (kind_at ls x.number)) (λ u. Has u (field_kind program.classes (kind_at ls x.number) field)) (local x.number t) (read site field) ((gives_local x.number).by t h) (λ v u n i. reads ls u (kind_at ls x.number) site field v n.holds i);
       }
-      by_form (f.Negative x) = then_number (kind x.0) (value x.0) _ x.1 (λ v. gives_value number _ (λ t. kept.of_number t _))
-      by_form (f.Not x) = then_number (kind x.0) (value x.0) _ x.1 (λ v. gives_value number _ (λ t. kept.of_number t _))
+      by_form (f.Unary o x) = then_number (kind x.0) (value x.0) _ x.1 (λ v. gives_value (number widths.Int) (applied o v) (λ t. kept.of_number t widths.Int (applied o v) (is_applied o v)))
       by_form (f.Chain x others) = chain_from (kind x.0) (value x.0) others x.1
-      by_form (f.Compared x comparison y) = then_number (kind x.0) (value x.0) _ x.1 (λ a. then_number (kind y.0) (value y.0) _ y.1 (λ b. gives_value number _ (λ t. kept.of_number t _)))
+      by_form (f.Compared x comparison y) = then_number (kind x.0) (value x.0) _ x.1 (λ a. then_number (kind y.0) (value y.0) _ y.1 (λ b. gives_value (number widths.Int) _ (λ t. kept.of_number t widths.Int _ refl)))
 
       pub expressions : (e : Expression) → Gives (kind e) (value e)
       expressions = ind-Expression (λ x. Gives (kind_in x) (form_value x)) (λ x. Gives (kind x) (value x)) (λ x. Sound (operand_value x).1)

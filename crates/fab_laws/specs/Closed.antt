@@ -1,11 +1,11 @@
 -- Maps in which each reference leads to an object.
-use Rattle.std.specs.Prelude.{◌≡◌, List, Some}
+use Rattle.std.specs.Prelude.{◌≡◌, List, Some, IfSome}
 use Rattle.std.specs.List.{AllByRecursion}
 use Rattle.fab_base.specs.declared.object.Oid.{Oid}
 use Rattle.fab_base.specs.declared.object.Object.{Object}
 use Rattle.fab_base.specs.declared.object.Value.{Value}
-use Rattle.fab_base.specs.declared.object.Value.TheVariants.{Int, Null, Ref}
 use Rattle.fab_base.specs.FlatMap.{FlatMap, get}
+use Rattle.fab_base.specs.Values.{referred}
 use Rattle.fab_language.specs.declared.ending.Ending.{Ending}
 use Rattle.fab_language.specs.declared.ending.Ending.TheVariants.{Ended, Missing}
 use Rattle.fab_language.specs.Meaning.{Meant}
@@ -16,9 +16,7 @@ HasOne m o = (x : Object) × (get m o ≡ Some x)
 
 -- a value that is a reference leads to an object
 abbrev pub IsThere : FlatMap → Value → Type 0
-IsThere m (Int n) = Unit {0}
-IsThere m Null = Unit {0}
-IsThere m (Ref o) = HasOne m o
+IsThere m v = IfSome (referred v) (HasOne m)
 
 abbrev pub AreThere : FlatMap → List Value → Type 0
 AreThere m vs = AllByRecursion (IsThere m) vs

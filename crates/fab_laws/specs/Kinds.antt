@@ -1,6 +1,8 @@
 -- Which type a value has, over the trees that have numbers for names, and what a program claims of the values that it puts somewhere.
 --
 -- A program is of fitting types where each claim holds. Nothing is claimed of operands: whatever they are, an operator gives a number.
+use Rattle.fab_base.specs.declared.object.Width.{Width}
+use Rattle.fab_base.specs.declared.object.Width.TheVariants as widths
 use Rattle.std.specs.Prelude.{ℕ, Bool, true, false, ◌==◌, List, [], ◌∷◌, ◌++◌, map, length, take, Option, Some, None, slice_get, unwrap_or}
 use Rattle.std.specs.List.{flat_map}
 use Rattle.fab_tree.specs.declared.resolved.Sort.{Sort}
@@ -16,24 +18,26 @@ use Rattle.fab_tree.specs.declared.resolved.Return.{Return}
 use Rattle.fab_tree.specs.declared.resolved.Returns.{Returns}
 use Rattle.fab_tree.specs.declared.resolved.Method.{Method}
 use Rattle.fab_tree.specs.declared.resolved.Resolved.{Resolved}
+use Rattle.fab_tree.specs.Numbers.{width_of}
+use Rattle.fab_language.specs.Kinds.{is_same_width}
 
--- a number, an object of the class of this number, null, or nothing that is known
+-- a number of a width, an object of the class of this number, null, or nothing that is known
 pub data Kind : Type 0 where
-  number : Kind
+  number : Width → Kind
   object : ℕ → Kind
   nothing : Kind
   unknown : Kind
 
 -- what is of the one kind may hold a value of the other
 abbrev pub takes : Kind → Kind → Bool
-takes number number = true
+takes (number v) (number w) = is_same_width v w
 takes (object x) (object y) = x == y
 takes (object x) nothing = true
 takes nothing nothing = true
 takes _ _ = false
 
 abbrev pub kind_of_sort : Sort → Kind
-kind_of_sort sorts.Int = number
+kind_of_sort (sorts.Number w) = number w
 kind_of_sort (sorts.Class class) = object class.number
 
 abbrev pub kind_at : List Kind → ℕ → Kind
@@ -94,17 +98,16 @@ module _ (classes : List Class) (methods : List Method) (locals : List Kind) whe
   -- a chain with an operand behind the first gives a number
   abbrev pub chain_kind : Kind → List (Unit {0}) → Kind
   chain_kind first [] = first
-  chain_kind first (o ∷ os) = number
+  chain_kind first (o ∷ os) = number widths.Int
 
   abbrev pub form_kind : f.Form-F Kind Kind (Unit {0}) → Kind
-  form_kind (f.Number n) = number
+  form_kind (f.Number n) = number (width_of n)
   form_kind f.Null = nothing
   form_kind (f.Local x) = kind_at locals x.number
   form_kind (f.Read x field site) = field_kind classes (kind_at locals x.number) field
-  form_kind (f.Negative k) = number
-  form_kind (f.Not k) = number
+  form_kind (f.Unary o k) = number widths.Int
   form_kind (f.Chain k others) = chain_kind k others
-  form_kind (f.Compared k comparison l) = number
+  form_kind (f.Compared k comparison l) = number widths.Int
 
   abbrev pub kind_of : Expression → Kind
   kind_of = fold-Expression Kind Kind (Unit {0}) form_kind (λ e. e.form) (λ u. tt)

@@ -1,12 +1,12 @@
 -- Where the names come from that a request touches, writes, makes and misses.
-use Rattle.std.specs.Prelude.{◌≡◌, ◌⊎◌, ℕ, ◌<◌, Bool, true, false, List, [], ◌∷◌, ◌++◌, Some}
+use Rattle.std.specs.Prelude.{◌≡◌, ◌⊎◌, ℕ, ◌<◌, Bool, true, false, List, [], ◌∷◌, ◌++◌, Some, option_map, unwrap_or, IfSome}
 use Rattle.std.specs.List.{AllByRecursion, list_any}
 use Rattle.fab_base.specs.declared.object.Oid.{Oid}
 use Rattle.fab_base.specs.declared.object.Object.{Object}
 use Rattle.fab_base.specs.declared.object.Tid.{Tid}
 use Rattle.fab_base.specs.declared.object.Value.{Value}
-use Rattle.fab_base.specs.declared.object.Value.TheVariants.{Int, Null, Ref}
 use Rattle.fab_base.specs.FlatMap.{FlatMap, get, is_same}
+use Rattle.fab_base.specs.Values.{referred}
 use Rattle.fab_language.specs.declared.ending.Ending.TheVariants.{Ended, Missing}
 use Rattle.fab_language.specs.Heaps.{is_among, touched}
 use Rattle.fab_language.specs.Meaning.{Meant}
@@ -16,9 +16,7 @@ use Rattle.fab_laws.specs.Kinds.{Claim, given, counted, made}
 
 -- a value that is a reference passes by its name
 abbrev pub Passes : (Oid → Bool) → Value → Type 0
-Passes p (Int n) = Unit {0}
-Passes p Null = Unit {0}
-Passes p (Ref o) = p o ≡ true
+Passes p v = IfSome (referred v) (λ o. p o ≡ true)
 
 abbrev pub AllPass : (Oid → Bool) → List Value → Type 0
 AllPass p vs = AllByRecursion (Passes p) vs
@@ -49,9 +47,7 @@ pub record OnlyPassing (p : Oid → Bool) (meant : Meant) : Type 0 where
 -- ---- one after the other
 
 abbrev pub is_to : Oid → Value → Bool
-is_to o (Int n) = false
-is_to o Null = false
-is_to o (Ref p) = is_same p o
+is_to o v = unwrap_or (option_map (λ p. is_same p o) (referred v)) false
 
 -- one of the values is a reference to this object
 abbrev pub refer : Oid → List Value → Bool
@@ -69,9 +65,7 @@ EachComesFrom known args before (t ∷ ts) = ComesFrom known args before t.1 × 
 
 -- a value that is a reference comes so from somewhere, or leads to an object that was made
 abbrev pub IsFrom : FlatMap → List Value → List (ℕ × Oid) → List Oid → Value → Type 0
-IsFrom known args touches own (Int n) = Unit {0}
-IsFrom known args touches own Null = Unit {0}
-IsFrom known args touches own (Ref o) = ComesFrom known args touches o ⊎ (is_among o own ≡ true)
+IsFrom known args touches own v = IfSome (referred v) (λ o. ComesFrom known args touches o ⊎ (is_among o own ≡ true))
 
 -- each touch of a request comes from the arguments and the touches before it, and what it returned from somewhere
 pub record HasOrigins (known : FlatMap) (args : List Value) (meant : Meant) : Type 0 where

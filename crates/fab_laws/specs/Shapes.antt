@@ -4,7 +4,7 @@ use Rattle.std.specs.List.{list_all}
 use Rattle.fab_base.specs.declared.object.Oid.{Oid}
 use Rattle.fab_base.specs.declared.object.Object.{Object}
 use Rattle.fab_base.specs.declared.object.Value.{Value}
-use Rattle.fab_base.specs.declared.object.Value.TheVariants.{Int, Null, Ref}
+use Rattle.fab_base.specs.declared.object.Value.TheVariants.{Null, Ref}
 use Rattle.fab_base.specs.FlatMap.{FlatMap, get}
 use Rattle.fab_tree.specs.declared.resolved.Class.{Class}
 use Rattle.fab_tree.specs.declared.resolved.Resolved.{Resolved}
@@ -13,10 +13,11 @@ use Rattle.fab_language.specs.declared.ending.Ending.TheVariants.{Ended}
 use Rattle.fab_language.specs.Meaning.{Meant}
 use Rattle.fab_laws.specs.Kinds.{Kind, number, object, nothing, unknown, takes, class_kinds, parameter_kinds, result_kind}
 use Rattle.fab_laws.specs.Kinds.{Claim, given, counted, made, claims_of}
+use Rattle.fab_base.specs.Values.{is_number_of}
 
 -- a value is of a kind; a reference is of the class of its name, and null is of every class
 abbrev pub suits : Kind → Value → Bool
-suits number (Int n) = true
+suits (number w) v = is_number_of w v
 suits (object class) Null = true
 suits (object class) (Ref o) = o.class == class
 suits nothing Null = true

@@ -13,9 +13,15 @@ use std::marker::Model;
 use std::mem;
 
 /// Objects by name, each name once, in the order of names. Contracts see it as that list of rows.
-#[derive(Debug, Drop)]
+#[derive(Debug)]
 pub struct ObjectMap {
     rows: Vec<(Oid, Object)>,
+}
+
+impl Drop for ObjectMap {
+    fn drop(self) {
+        let ObjectMap { rows } = self;
+    }
 }
 
 impl Model for ObjectMap {

@@ -7,6 +7,7 @@ use Rattle.fab_base.specs.declared.object.Object.{Object}
 use Rattle.fab_base.specs.declared.object.Value.{Value}
 use Rattle.fab_base.specs.declared.object.Value.TheVariants.{Null, Ref}
 use Rattle.fab_base.specs.declared.object.Stop.TheVariants.{Fuel, Depth}
+use Rattle.fab_base.specs.declared.object.Width.TheVariants as widths
 use Rattle.fab_tree.specs.declared.name.Name.{Name}
 use Rattle.fab_tree.specs.declared.expression.Operator.{Operator}
 use Rattle.fab_tree.specs.declared.expression.Operator.TheVariants.{Add, Divide}
@@ -26,6 +27,8 @@ use Rattle.fab_tree.specs.declared.resolved.Sort.TheVariants as sorts
 use Rattle.fab_tree.specs.declared.resolved.Local as l
 use Rattle.fab_tree.specs.declared.resolved.Return.{Return}
 use Rattle.fab_tree.specs.declared.resolved.Method.{Method}
+use Rattle.fab_tree.specs.declared.expression.Number.TheVariants as numbers
+use Rattle.fab_tree.specs.declared.expression.UnaryOperator.TheVariants as unary
 use Rattle.fab_language.specs.Meaning.{State, goes, ends, failed, stopped, M, assign}
 use Rattle.fab_language.proofs.Forms.{expression_at, operand_at}
 use Rattle.fab_erasure.specs.Erased as e
@@ -50,7 +53,7 @@ of sort label = record { sort = sort; name = name; label = used label }
 
 -- a reference to an object that is shown, one to an object that isn't, a number that is seen, and one that isn't
 abbrev locals : List l.Local
-locals = of (sorts.Class (used 0)) 0 ∷ of (sorts.Class (used 1)) 0 ∷ of sorts.Int 0 ∷ of sorts.Int 1 ∷ []
+locals = of (sorts.Class (used 0)) 0 ∷ of (sorts.Class (used 1)) 0 ∷ of (sorts.Number widths.Int) 0 ∷ of (sorts.Number widths.Int) 1 ∷ []
 
 -- an object of class 1, which no map here has
 abbrev hidden : Oid
@@ -84,7 +87,7 @@ operand_value_is : (at : ℕ) (operator : Operator) (x : Expression) (t : State)
 operand_value_is = forms.operand_value_is first first classes locals
 
 abbrev seven : Expression
-seven = expression_at 0 (f.Number (pos 7))
+seven = expression_at 0 (f.Number (numbers.Int (pos 7)))
 
 abbrev local : ℕ → Expression
 local x = expression_at 0 (f.Local (used x))
@@ -118,10 +121,10 @@ null_fails : value (field 1 4) (state without) ≡ ends failed (state without)
 null_fails = simp (value_is, part_is, operand_is, operand_value_is)
 
 -- -s, !s: blank, and no number
-negative_is_blank : value (expression_at 0 (f.Negative (local 3))) (state held) ≡ goes Null (state held)
+negative_is_blank : value (expression_at 0 (f.Unary unary.Negative (local 3))) (state held) ≡ goes Null (state held)
 negative_is_blank = simp (value_is, part_is, operand_is, operand_value_is)
 
-not_is_blank : value (expression_at 0 (f.Not (local 3))) (state held) ≡ goes Null (state held)
+not_is_blank : value (expression_at 0 (f.Unary unary.Not (local 3))) (state held) ≡ goes Null (state held)
 not_is_blank = simp (value_is, part_is, operand_is, operand_value_is)
 
 -- a.f + s: blank, where one operand is; the other is evaluated for its touch all the same
@@ -133,7 +136,7 @@ chain_from_blank : value (expression_at 0 (f.Chain (local 3) (operand_at 0 Add (
 chain_from_blank = simp (value_is, part_is, operand_is, operand_value_is)
 
 -- s / 0, which fails though its value isn't seen
-chain_fails : value (expression_at 0 (f.Chain (local 3) (operand_at 0 Divide (expression_at 0 (f.Number (pos 0))) ∷ []))) (state held) ≡ ends failed (state held)
+chain_fails : value (expression_at 0 (f.Chain (local 3) (operand_at 0 Divide (expression_at 0 (f.Number (numbers.Int (pos 0)))) ∷ []))) (state held) ≡ ends failed (state held)
 chain_fails = simp (value_is, part_is, operand_is, operand_value_is)
 
 -- a.f == s
@@ -277,14 +280,14 @@ goes_unseen = simp (value_is, part_is, operand_is, operand_value_is)
 -- ---- calls of methods, which begin under one label and return under another
 
 abbrev its_locals : List l.Local
-its_locals = of sorts.Int 0 ∷ of sorts.Int 1 ∷ of sorts.Int 1 ∷ []
+its_locals = of (sorts.Number widths.Int) 0 ∷ of (sorts.Number widths.Int) 1 ∷ of (sorts.Number widths.Int) 1 ∷ []
 
 abbrev method : ℕ → ℕ → List Statement → Option Return → Method
 method begin label body result = record {
   name = name;
   parameters = 2;
   locals = its_locals;
-  returns = Some (record { sort = sorts.Int; label = used label });
+  returns = Some (record { sort = sorts.Number widths.Int; label = used label });
   begin = used begin;
   fails = false;
   authority = [];
@@ -304,7 +307,7 @@ at_first : e.locals_at_start first first (method 0 0 [] None) (int (pos 1) ∷ i
 at_first = refl
 
 -- one value too many is given to no local
-one_too_many : e.args_shown first first (of sorts.Int 1 ∷ []) (int (pos 1) ∷ int (pos 2) ∷ []) ≡ Null ∷ int (pos 2) ∷ []
+one_too_many : e.args_shown first first (of (sorts.Number widths.Int) 1 ∷ []) (int (pos 1) ∷ int (pos 2) ∷ []) ≡ Null ∷ int (pos 2) ∷ []
 one_too_many = refl
 
 result_seen : called (method 0 0 [] (returning (local 0))) 1 (state held) ≡ goes (Some (int (pos 1))) (state held)

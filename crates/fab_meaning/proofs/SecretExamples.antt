@@ -15,7 +15,9 @@ use Rattle.fab_base.specs.declared.object.Oid.{Oid}
 use Rattle.fab_base.specs.declared.object.Object.{Object}
 use Rattle.fab_base.specs.declared.object.Tid.{Tid}
 use Rattle.fab_base.specs.declared.object.Value.TheVariants.{Int, Null, Ref}
+use Rattle.fab_base.specs.declared.object.Width.TheVariants as widths
 use Rattle.fab_rights.specs.Computed.{has_bit}
+use Rattle.fab_tree.specs.declared.expression.Number.TheVariants as numbers
 use Rattle.fab_tree.specs.declared.name.Name.{Name}
 use Rattle.fab_tree.specs.declared.resolved.Class.{Class}
 use Rattle.fab_tree.specs.declared.resolved.Expression.{Expression}
@@ -44,7 +46,7 @@ abbrev named : List ℕ → Name
 named text = record { text = text; at = 0 }
 
 abbrev class : Class
-class = record { name = named (codes "K"); label = used 0; access = used 0; fields = record { sort = sorts.Int; name = named (codes "v") } ∷ [] }
+class = record { name = named (codes "K"); label = used 0; access = used 0; fields = record { sort = sorts.Number widths.Int; name = named (codes "v") } ∷ [] }
 
 abbrev of : Sort → List ℕ → ℕ → l.Local
 of sort text label = record { sort = sort; name = named text; label = used label }
@@ -54,7 +56,7 @@ a_class = sorts.Class (used 0)
 
 -- `new K @ s1 (n)` at a site
 abbrev new : ℤ → ℕ → Right
-new n site = rights.New (used 0) (used 2) (expression_at 0 (f.Number n) ∷ []) site 0
+new n site = rights.New (used 0) (used 2) (expression_at 0 (f.Number (numbers.Int n)) ∷ []) site 0
 
 abbrev null : Right
 null = rights.Plain (expression_at 0 f.Null)
@@ -71,7 +73,7 @@ abbrev method : Method
 method = record {
   name = named (codes "m");
   parameters = 1;
-  locals = of sorts.Int (codes "s") 0 ∷ of a_class (codes "x") 0 ∷ of a_class (codes "y") 1 ∷ [];
+  locals = of (sorts.Number widths.Int) (codes "s") 0 ∷ of a_class (codes "x") 0 ∷ of a_class (codes "y") 1 ∷ [];
   returns = Some (record { sort = a_class; label = used 1 });
   begin = used 1;
   fails = false;

@@ -11,7 +11,7 @@ use crate::state::State;
 use fab_base::{Seq, Value};
 use fab_tree::Operator;
 use fab_tree::resolved::{Expression, Form, Method, Operand};
-use fab_values::{compares, holds, negated, operate, truth};
+use fab_values::{applied, compares, operate, truth};
 
 /// The value of an expression.
 #[cycle(value)]
@@ -26,7 +26,7 @@ pub(crate) fn value(
 {
     let seen = is_seen(setting, method, expression);
     match &expression.form {
-        Form::Number(n) => Ok(Value::Int(*n)),
+        Form::Number(number) => Ok(number.value()),
         Form::Null => Ok(Value::Null),
         Form::Local(x) => Ok(shown_if(seen, state.local(x.number))),
         Form::Read {
@@ -38,13 +38,9 @@ pub(crate) fn value(
             let v = read_shown(setting.sight, state, *site, *field, at)?;
             Ok(shown_if(seen, v))
         }
-        Form::Negative(operand) => {
+        Form::Unary { operator, operand } => {
             let v = value(setting, method, state, operand.get())?;
-            Ok(shown_if(seen, negated(v)))
-        }
-        Form::Not(operand) => {
-            let v = value(setting, method, state, operand.get())?;
-            Ok(shown_if(seen, truth(!holds(v))))
+            Ok(shown_if(seen, applied(*operator, v)))
         }
         Form::Chain { first, others } => {
             let v = value(setting, method, state, first.get())?;

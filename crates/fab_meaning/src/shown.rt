@@ -38,7 +38,7 @@ fn class_behind<'a>(setting: &Setting<'a>, method: &Method, local: Use) -> Optio
 {
     match method.locals.as_slice().get(usize::from(local.number)) {
         Some(found) => match found.sort {
-            Sort::Int => None,
+            Sort::Number(_) => None,
             Sort::Class(class) => setting
                 .program
                 .classes
@@ -69,7 +69,7 @@ pub(crate) fn is_seen(setting: &Setting<'_>, method: &Method, expression: &Expre
         Form::Number(_) | Form::Null => true,
         Form::Local(x) => sees_local(setting, method, x.number),
         Form::Read { object, .. } => sees_read(setting, method, *object),
-        Form::Negative(operand) | Form::Not(operand) => is_seen(setting, method, operand.get()),
+        Form::Unary { operand, .. } => is_seen(setting, method, operand.get()),
         Form::Chain { first, others } => {
             is_seen(setting, method, first.get()) && are_seen(setting, method, others.as_slice())
         }

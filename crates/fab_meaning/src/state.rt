@@ -21,7 +21,6 @@ use std::mem;
 /// objects, the touches, the values that were downgraded, and those that are given, with how many of
 /// them were taken. Contracts see it as the state that the meaning has, with the given values that are
 /// left.
-#[derive(Drop)]
 pub(crate) struct State<'a> {
     alloc: Global,
     fuel: u32,
@@ -31,6 +30,21 @@ pub(crate) struct State<'a> {
     downs: Vec<(u16, Value)>,
     given: Seq<Value>,
     taken: usize,
+}
+
+impl Drop for State<'_> {
+    fn drop(self) {
+        let State {
+            alloc,
+            fuel,
+            locals,
+            heap,
+            touches,
+            downs,
+            given,
+            taken,
+        } = self;
+    }
 }
 
 impl<'a> Model for State<'a> {
@@ -146,7 +160,7 @@ impl<'a> State<'a> {
         ensures gives { Gives result self.new (read site field at self.old) }
         ensures fuel { self.new.fuel ≡ self.old.fuel }
     {
-        let Value::Ref(oid) = at else {
+        let Some(oid) = at.referred() else {
             return Err(Halt::Ended(End::Failed));
         };
         let object = self.access(site, oid)?;
@@ -164,7 +178,7 @@ impl<'a> State<'a> {
         ensures gives { Gives result self.new (write site field value at self.old) }
         ensures fuel { self.new.fuel ≡ self.old.fuel }
     {
-        let Value::Ref(oid) = at else {
+        let Some(oid) = at.referred() else {
             return Err(Halt::Ended(End::Failed));
         };
         let object = self.access(site, oid)?;
@@ -272,8 +286,8 @@ impl<'a> State<'a> {
 fn with_field(object: Object, field: u16, value: Value) -> Object
     ensures { result ≡ with_field field value object }
 {
-    let Object { class, fields } = object;
-    let mut items = fields.into_vec();
+    let class = object.class;
+    let mut items = object.into_fields().into_vec();
     if (field as usize) < items.len() {
         items[field as usize] = value;
     }

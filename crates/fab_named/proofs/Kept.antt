@@ -1,5 +1,5 @@
 -- Whatever holds of each token of a list holds of each that the grammar leaves behind what it reads.
-use Rattle.std.proofs.Common.{ℕ, Bool, List, Option, ℤ}
+use Rattle.std.proofs.Common.{ℕ, Bool, List, Option}
 use Rattle.std.specs.List.{AllByRecursion}
 use Rattle.fab_base.specs.declared.token.Mark.{Mark}
 use Rattle.fab_base.specs.declared.token.Token.{Token}
@@ -17,6 +17,7 @@ use Rattle.fab_tree.specs.declared.expression.Level.{Level}
 use Rattle.fab_tree.specs.declared.expression.Operator.{Operator}
 use Rattle.fab_tree.specs.declared.expression.Comparison.{Comparison}
 use Rattle.fab_tree.specs.declared.expression.Expression.{Expression}
+use Rattle.fab_tree.specs.declared.expression.Number.{Number}
 use Rattle.fab_tree.specs.declared.expression.Operand.{Operand}
 use Rattle.fab_tree.specs.declared.statement.Downgrade.{Downgrade}
 use Rattle.fab_tree.specs.declared.statement.Right.{Right}
@@ -31,7 +32,7 @@ use Rattle.fab_tree.specs.declared.start.Given.{Given}
 use Rattle.fab_tree.specs.declared.start.Root.{Root}
 use Rattle.fab_tree.specs.declared.start.RequestText.{RequestText}
 use Rattle.fab_tree.specs.declared.start.Session.{Session}
-use Rattle.fab_tree.specs.Lists.{Is, is, IsName, name, IsNumeral, numeral, IsBytes, bytes, Repeated, no_more, one_more, Behind, behind, Perhaps, without, with_it, Separated, none, some}
+use Rattle.fab_tree.specs.Lists.{Is, is, IsName, name, IsNumeral, numeral, IsNumber, int, IsLeast, least_int, IsBytes, bytes, Repeated, no_more, one_more, Behind, behind, Perhaps, without, with_it, Separated, none, some}
 use Rattle.fab_tree.specs.Declarations.{IsMachine, IsRole, IsNode, IsDelegation, IsAspect, IsPolicy, IsLabel, IsSort, IsField, IsClass}
 use Rattle.fab_tree.specs.Declarations as declared
 use Rattle.fab_tree.specs.Expressions.{IsComparison, IsOperator, IsChain, IsOthers, IsOperand, IsCompared, IsUnary, IsPrimary}
@@ -62,6 +63,12 @@ module _ (W : Token → Type 0) where
 
   kept_numeral : {a : List Token} {t : ℕ} {b : List Token} → IsNumeral a t b → Each a → Each b
   kept_numeral (numeral e h) w = w.1
+
+  kept_number : {a : List Token} {t : Number} {b : List Token} → IsNumber a t b → Each a → Each b
+  kept_number (int p0) w = kept_numeral p0 w
+
+  kept_least : {a : List Token} {t : Number} {b : List Token} → IsLeast a t b → Each a → Each b
+  kept_least (least_int e) w = w.1
 
   pub kept_repeated : {A : Type 0} {P : List Token → A → List Token → Type 0} → Leaves P → {a : List Token} {t : List A} {b : List Token} → Repeated P a t b → Each a → Each b
   kept_repeated item no_more w = w
@@ -106,7 +113,7 @@ module _ (W : Token → Type 0) where
   kept_label (declared.label p0 p1 p2 p3 p4 p5 p6) w = kept_is p6 (kept_is p5 (kept_separated (λ x t y. kept_policy) p4 (kept_is p3 (kept_is p2 (kept_name p1 (kept_is p0 w))))))
 
   kept_sort : {a : List Token} {t : Sort} {b : List Token} → IsSort a t b → Each a → Each b
-  kept_sort (declared.int p0) w = kept_is p0 w
+  kept_sort (declared.number p0) w = kept_is p0 w
   kept_sort (declared.class p0) w = kept_name p0 w
 
   kept_field : {a : List Token} {t : Field} {b : List Token} → IsField a t b → Each a → Each b
@@ -154,12 +161,11 @@ module _ (W : Token → Type 0) where
 
     kept_unary : {a : List Token} {t : Expression} {b : List Token} → IsUnary a t b → Each a → Each b
     kept_unary (ex.primary p0) w = kept_primary p0 w
-    kept_unary (ex.negative p0 p1) w = kept_primary p1 (kept_is p0 w)
-    kept_unary (ex.contrary p0 p1) w = kept_primary p1 (kept_is p0 w)
-    kept_unary (ex.least p0 p1) w = (kept_is p0 w).1
+    kept_unary (ex.signed p0 p1) w = kept_primary p1 (kept_is p0 w)
+    kept_unary (ex.least p0 p1) w = kept_least p1 (kept_is p0 w)
 
     kept_primary : {a : List Token} {t : Expression} {b : List Token} → IsPrimary a t b → Each a → Each b
-    kept_primary (ex.number p0) w = kept_numeral p0 w
+    kept_primary (ex.number p0) w = kept_number p0 w
     kept_primary (ex.null p0) w = kept_is p0 w
     kept_primary (ex.local p0) w = kept_name p0 w
     kept_primary (ex.read p0 p1 p2) w = kept_name p2 (kept_is p1 (kept_name p0 w))
@@ -230,12 +236,12 @@ module _ (W : Token → Type 0) where
 
   -- ---- roots, sessions and posts
 
-  kept_negated : {a : List Token} {t : ℤ} {b : List Token} → IsNegated a t b → Each a → Each b
+  kept_negated : {a : List Token} {t : Number} {b : List Token} → IsNegated a t b → Each a → Each b
   kept_negated (ru.negative p0) w = kept_numeral p0 w
-  kept_negated (ru.least p0) w = w.1
+  kept_negated (ru.least p0) w = kept_least p0 w
 
   kept_literal : {a : List Token} {t : Literal} {b : List Token} → IsLiteral a t b → Each a → Each b
-  kept_literal (ru.number p0) w = kept_numeral p0 w
+  kept_literal (ru.number p0) w = kept_number p0 w
   kept_literal (ru.negated p0 p1) w = kept_negated p1 (kept_is p0 w)
   kept_literal (ru.null p0) w = kept_is p0 w
   kept_literal (ru.root p0) w = kept_name p0 w

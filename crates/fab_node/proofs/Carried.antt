@@ -4,7 +4,7 @@ use Rattle.std.proofs.lemmas.Bool.{true≢false}
 use Rattle.std.proofs.lemmas.Bool.Decides.{nat_tests}
 use Rattle.fab_base.specs.declared.entry.Entry.{Entry}
 use Rattle.fab_base.specs.declared.entry.Entry.TheVariants as e
-use Rattle.fab_base.specs.JournalSpelling.{header_bytes, journal_bytes, record_bytes, AreEntries, IsEntry}
+use Rattle.fab_base.specs.JournalSpelling.{header_bytes, journal_bytes, record_bytes, AreEntries, IsEntry, journal_version}
 use Rattle.fab_language.specs.Evaluation.{map_at_start}
 use Rattle.fab_net.specs.declared.note.Step.{Step}
 use Rattle.fab_protocol.specs.Stores.{shelf_at_start, shelf_of}
@@ -21,7 +21,7 @@ use Rattle.fab_node.specs.declared.role.Role.{Role}
 use Rattle.fab_node.specs.declared.role.Role.TheVariants as roles
 use Rattle.fab_node.specs.Standing.{GivenModel, IsJournalOf, IsTornPart, JournalModel, Lasts, NodeModel, RoleStands, Stands, node_at_start}
 use Rattle.fab_node.specs.Deeds.{CanDo, EndsAt, IsPlanFor, Writes, cut_at, done_by, down, entry_in, failed, readied_for}
-use Rattle.fab_node.proofs.Written.{readied_entries, readied_failed, readied_whole}
+use Rattle.fab_node.proofs.Written.{readied_entries, readied_failed, readied_first, readied_whole}
 
 -- a number that is at most another, and isn't it
 is_below : (a b : ℕ) → a ≤ b → (a == b) ≡ false → a < b
@@ -63,25 +63,25 @@ journal_at x n m content synced same h = subst (λ k. IsJournalOf k x content sy
 
 -- ---- one record more
 
-spelled_more : (entries : List Entry) (entry : Option Entry) → AreEntries 1 entries → ((one : Entry) → entry ≡ Some one → IsEntry 1 one)
-    → AreEntries 1 (entries ++ option_list entry)
-spelled_more entries None all one = subst (λ (es : List Entry). AreEntries 1 es) (sym (append-nil entries)) all
+spelled_more : (entries : List Entry) (entry : Option Entry) → AreEntries journal_version entries → ((one : Entry) → entry ≡ Some one → IsEntry journal_version one)
+    → AreEntries journal_version (entries ++ option_list entry)
+spelled_more entries None all one = subst (λ (es : List Entry). AreEntries journal_version es) (sym (append-nil entries)) all
 spelled_more entries (Some entry) all one =
-    AreEntries-push 1 entries entry all (subst (λ version. IsEntry version entry) (sym (version_stays 1 entries)) (one entry refl))
+    AreEntries-push journal_version entries entry all (subst (λ version. IsEntry version entry) (sym (version_stays journal_version entries)) (one entry refl))
 
 -- ---- what is known where a plan is carried out
 
 record CanWrite (g : GivenModel) (x : Node) (act : Act) (node : NodeModel) (plan : NodePlan) : Type 0 where
   unfailed : x.failed ≡ false
   ends : EndsAt node.number x plan
-  record_is : entry_in plan ≡ option_map (record_bytes 1) act.entry
+  record_is : entry_in plan ≡ option_map (record_bytes journal_version) act.entry
   woken_up : (readied_for plan x).up ≡ true
 
 module _ (g : GivenModel) (x : Node) (act : Act) (node : NodeModel) (s : Stands g x node) where
   can_write : (plan : NodePlan) → IsPlanFor g x act node plan → CanDo plan node → CanWrite g x act node plan
   can_write (plans.Begins notes) p can =
       let up : x.up ≡ true = sym s.up ∙ can in
-      record { unfailed = s.alive up; ends = s.whole up; record_is = sym (ap (λ (a : Act). option_map (record_bytes 1) a.entry) p.is.act_is); woken_up = up }
+      record { unfailed = s.alive up; ends = s.whole up; record_is = sym (ap (λ (a : Act). option_map (record_bytes journal_version) a.entry) p.is.act_is); woken_up = up }
   can_write (plans.Store plan) p can =
       let up : x.up ≡ true = sym s.up ∙ can in
       record { unfailed = s.alive up; ends = s.whole up; record_is = ap (λ (st : Step). st.entry) p.is.step; woken_up = up }
@@ -94,7 +94,7 @@ module _ (g : GivenModel) (x : Node) (act : Act) (node : NodeModel) (s : Stands 
   pub writes_plan : (plan : NodePlan) → IsPlanFor g x act node plan → CanDo plan node → Writes node.number x act node.journal.content node.journal.synced plan
   writes_plan plan p can =
       let c = can_write plan p can in
-      record { ready = record { stands = s.journal; unfailed = c.unfailed; ends = c.ends }; record_is = c.record_is }
+      record { ready = record { stands = s.journal; begun = s.begun; unfailed = c.unfailed; ends = c.ends }; record_is = c.record_is }
 
   -- the same over a journal that holds as much
   pub writes_here : (plan : NodePlan) → IsPlanFor g x act node plan → CanDo plan node → (content : List ℕ) (synced : ℕ) → content ≡ node.journal.content
@@ -104,17 +104,20 @@ module _ (g : GivenModel) (x : Node) (act : Act) (node : NodeModel) (s : Stands 
       (subst (λ k. Writes node.number x act node.journal.content k plan) (sym long) (writes_plan plan p can))
 
   module _ (plan : NodePlan) (p : IsPlanFor g x act node plan) (can : CanDo plan node) (new : NodeModel) (number : new.number ≡ node.number) (fails : new.failed ≡ node.failed) where
-    begun : CanWrite g x act node plan
-    begun = can_write plan p can
+    here : CanWrite g x act node plan
+    here = can_write plan p can
 
     abbrev at : Node
     at = readied_for plan x
 
     at_torn : at.torn ≡ []
-    at_torn = readied_whole node.number plan x begun.ends
+    at_torn = readied_whole node.number plan x here.ends
 
-    at_spelled : AreEntries 1 (at.entries ++ option_list act.entry)
-    at_spelled = spelled_more at.entries act.entry (subst (λ (es : List Entry). AreEntries 1 es) (sym (readied_entries plan x)) s.spelled) p.spelled
+    at_begun : at.first ≡ journal_version
+    at_begun = readied_first plan x ∙ s.begun
+
+    at_spelled : AreEntries journal_version (at.entries ++ option_list act.entry)
+    at_spelled = spelled_more at.entries act.entry (subst (λ (es : List Entry). AreEntries journal_version es) (sym (readied_entries plan x)) s.spelled) p.spelled
 
     at_failed : new.failed ≡ at.failed
     at_failed = fails ∙ s.failed ∙ sym (readied_failed plan x)
@@ -123,35 +126,37 @@ module _ (g : GivenModel) (x : Node) (act : Act) (node : NodeModel) (s : Stands 
     pub done_stands : new.up ≡ true → RoleStands g node.number (done_by act at) new.role
         → IsJournalOf node.number (done_by act at) new.journal.content new.journal.synced → Stands g (done_by act at) new
     done_stands up role journal = record {
-      up = up ∙ sym begun.woken_up;
+      up = up ∙ sym here.woken_up;
       failed = at_failed;
       role = role_at g (done_by act at) node.number new.number new.role number role;
+      begun = at_begun;
       spelled = at_spelled;
-      alive = λ _. readied_failed plan x ∙ begun.unfailed;
+      alive = λ _. readied_failed plan x ∙ here.unfailed;
       whole = λ _. at_torn;
       torn = subst IsTornPart (sym at_torn) nothing_torn;
       journal = journal_at (done_by act at) node.number new.number new.journal.content new.journal.synced number journal;
     }
 
     -- it is cut
-    module _ (keep : ℕ) (entry : Entry) (there : act.entry ≡ Some entry) (within : keep ≤ length (record_bytes 1 entry)) (low : new.up ≡ false) where
+    module _ (keep : ℕ) (entry : Entry) (there : act.entry ≡ Some entry) (within : keep ≤ length (record_bytes journal_version entry)) (low : new.up ≡ false) where
       abbrev cut_by : Bool → Node
-      cut_by b = down (if b then record at { entries = at.entries ++ entry ∷ [] } else record at { torn = take keep (record_bytes 1 entry) })
+      cut_by b = down (if b then record at { entries = at.entries ++ entry ∷ [] } else record at { torn = take keep (record_bytes journal_version entry) })
 
       abbrev RoleCut : Bool → Type 0
       RoleCut true = RoleStands g node.number (done_by act at) new.role
       RoleCut false = RoleStands g node.number x new.role
 
-      one_entry : AreEntries 1 (at.entries ++ entry ∷ [])
-      one_entry = subst (λ (o : Option Entry). AreEntries 1 (at.entries ++ option_list o)) there at_spelled
+      one_entry : AreEntries journal_version (at.entries ++ entry ∷ [])
+      one_entry = subst (λ (o : Option Entry). AreEntries journal_version (at.entries ++ option_list o)) there at_spelled
 
-      cut_by_stands : (b : Bool) → (keep == length (record_bytes 1 entry)) ≡ b → RoleCut b → IsJournalOf node.number (cut_by b) new.journal.content new.journal.synced
+      cut_by_stands : (b : Bool) → (keep == length (record_bytes journal_version entry)) ≡ b → RoleCut b → IsJournalOf node.number (cut_by b) new.journal.content new.journal.synced
           → Stands g (cut_by b) new
       cut_by_stands true all role journal = record {
         up = low;
         failed = at_failed;
         role = role_at g (cut_by true) node.number new.number new.role number
             (role_down g node.number (done_by act at) (cut_by true) new.role (ap (λ (o : Option Entry). at.entries ++ option_list o) (sym there)) refl refl role);
+        begun = at_begun;
         spelled = one_entry;
         alive = λ up. absurd (true≢false (sym up));
         whole = λ up. absurd (true≢false (sym up));
@@ -163,46 +168,47 @@ module _ (g : GivenModel) (x : Node) (act : Act) (node : NodeModel) (s : Stands 
         failed = at_failed;
         role = role_at g (cut_by false) node.number new.number new.role number
             (role_down g node.number x (cut_by false) new.role (readied_entries plan x) refl refl role);
-        spelled = subst (λ (es : List Entry). AreEntries 1 es) (sym (readied_entries plan x)) s.spelled;
+        begun = at_begun;
+        spelled = subst (λ (es : List Entry). AreEntries journal_version es) (sym (readied_entries plan x)) s.spelled;
         alive = λ up. absurd (true≢false (sym up));
         whole = λ up. absurd (true≢false (sym up));
-        torn = (entry, keep, p.spelled entry there, is_below keep (length (record_bytes 1 entry)) within some, refl);
+        torn = (entry, keep, p.spelled entry there, is_below keep (length (record_bytes journal_version entry)) within some, refl);
         journal = journal_at (cut_by false) node.number new.number new.journal.content new.journal.synced number journal;
       }
 
       -- as the machine says it
-      cut_as : cut_by (keep == length (record_bytes 1 entry)) ≡ cut_at g keep act at
+      cut_as : cut_by (keep == length (record_bytes journal_version entry)) ≡ cut_at g keep act at
       cut_as =
-          let spelled : record_bytes 1 entry ≡ record_behind at.entries (Some entry) = ap (λ version. record_bytes version entry) (sym (version_stays 1 at.entries)) in
+          let spelled : record_bytes journal_version entry ≡ record_behind at.first at.entries (Some entry) = ap (λ version. record_bytes version entry) (sym (version_stays at.first at.entries ∙ at_begun)) in
           ap (λ (r : List ℕ). down (if keep == length r then record at { entries = at.entries ++ entry ∷ [] } else record at { torn = take keep r })) spelled
           ∙ ap (λ (o : Option Entry). down (cut (setting_of g.program g.rights) keep o at)) (sym there)
 
-      pub cut_stands : RoleCut (keep == length (record_bytes 1 entry)) → IsJournalOf node.number (cut_at g keep act at) new.journal.content new.journal.synced
+      pub cut_stands : RoleCut (keep == length (record_bytes journal_version entry)) → IsJournalOf node.number (cut_at g keep act at) new.journal.content new.journal.synced
           → Stands g (cut_at g keep act at) new
       cut_stands role journal =
           subst (λ (y : Node). Stands g y new) cut_as
-          (cut_by_stands (keep == length (record_bytes 1 entry)) refl role
+          (cut_by_stands (keep == length (record_bytes journal_version entry)) refl role
           (subst (λ (y : Node). IsJournalOf node.number y new.journal.content new.journal.synced) (sym cut_as) journal))
 
     -- with what is known of it where it is cut
     module _ (keep : ℕ) (whole : Bool) (role : whole ≡ true → RoleStands g node.number (done_by act at) new.role) (same : whole ≡ false → RoleStands g node.number x new.role)
         (low : new.up ≡ false) (journal : IsJournalOf node.number (cut_at g keep act at) new.journal.content new.journal.synced) where
-      role_cut : (entry : Entry) (there : act.entry ≡ Some entry) (within : keep ≤ length (record_bytes 1 entry)) (b : Bool) → whole ≡ b
+      role_cut : (entry : Entry) (there : act.entry ≡ Some entry) (within : keep ≤ length (record_bytes journal_version entry)) (b : Bool) → whole ≡ b
           → RoleCut keep entry there within low b
       role_cut entry there within true h = role h
       role_cut entry there within false h = same h
 
-      cut_of : (o : Option Entry) → act.entry ≡ o → IsSome (option_map (record_bytes 1) o) → IfSome (option_map (record_bytes 1) o) (λ bytes. keep ≤ length bytes)
-          → IfSome (option_map (record_bytes 1) o) (λ bytes. whole ≡ (keep == length bytes)) → Stands g (cut_at g keep act at) new
+      cut_of : (o : Option Entry) → act.entry ≡ o → IsSome (option_map (record_bytes journal_version) o) → IfSome (option_map (record_bytes journal_version) o) (λ bytes. keep ≤ length bytes)
+          → IfSome (option_map (record_bytes journal_version) o) (λ bytes. whole ≡ (keep == length bytes)) → Stands g (cut_at g keep act at) new
       cut_of None there some within is = absurd (true≢false (sym some))
-      cut_of (Some entry) there some within is = cut_stands keep entry there within low (role_cut entry there within (keep == length (record_bytes 1 entry)) is) journal
+      cut_of (Some entry) there some within is = cut_stands keep entry there within low (role_cut entry there within (keep == length (record_bytes journal_version entry)) is) journal
 
       pub cut_all : IsSome (entry_in plan) → IfSome (entry_in plan) (λ bytes. keep ≤ length bytes) → IfSome (entry_in plan) (λ bytes. whole ≡ (keep == length bytes))
           → Stands g (cut_at g keep act at) new
       cut_all some within is =
-          cut_of act.entry refl (subst (λ (o : Option (List ℕ)). IsSome o) begun.record_is some)
-          (subst (λ (o : Option (List ℕ)). IfSome o (λ bytes. keep ≤ length bytes)) begun.record_is within)
-          (subst (λ (o : Option (List ℕ)). IfSome o (λ bytes. whole ≡ (keep == length bytes))) begun.record_is is)
+          cut_of act.entry refl (subst (λ (o : Option (List ℕ)). IsSome o) here.record_is some)
+          (subst (λ (o : Option (List ℕ)). IfSome o (λ bytes. keep ≤ length bytes)) here.record_is within)
+          (subst (λ (o : Option (List ℕ)). IfSome o (λ bytes. whole ≡ (keep == length bytes))) here.record_is is)
 
 -- ---- it goes down
 
@@ -218,6 +224,7 @@ module _ (g : GivenModel) (x : Node) (old new : NodeModel) (number : new.number 
     up = low;
     failed = fails;
     role = old_role (failed x) refl refl refl;
+    begun = s.begun;
     spelled = s.spelled;
     alive = λ up. absurd (true≢false (sym up));
     whole = λ up. absurd (true≢false (sym up));
@@ -232,6 +239,7 @@ module _ (g : GivenModel) (x : Node) (old new : NodeModel) (number : new.number 
     up = low;
     failed = fails ∙ s.failed;
     role = old_role (down x) refl refl refl;
+    begun = s.begun;
     spelled = s.spelled;
     alive = λ up. absurd (true≢false (sym up));
     whole = λ up. absurd (true≢false (sym up));
@@ -243,20 +251,21 @@ module _ (g : GivenModel) (x : Node) (old new : NodeModel) (number : new.number 
 -- ---- at the start
 
 pub start_stands : (g : GivenModel) (n : ℕ) (role : Role) (new : NodeModel) → new.number ≡ n → new.role ≡ role → new.up ≡ true → new.failed ≡ false
-    → new.journal.content ≡ header_bytes 1 n → new.journal.synced ≡ length new.journal.content → RoleStands g n node_at_start role → Stands g node_at_start new
+    → new.journal.content ≡ header_bytes journal_version n → new.journal.synced ≡ length new.journal.content → RoleStands g n node_at_start role → Stands g node_at_start new
 start_stands g n role new number same up fails content synced s =
-    let bare : new.journal.content ≡ journal_bytes 1 n [] = content ∙ sym (append-nil (header_bytes 1 n)) in
+    let bare : new.journal.content ≡ journal_bytes journal_version n [] = content ∙ sym (append-nil (header_bytes journal_version n)) in
     record {
       up = up;
       failed = fails;
       role = role_at g node_at_start n new.number new.role number (subst (λ (r : Role). RoleStands g n node_at_start r) (sym same) s);
+      begun = refl;
       spelled = tt;
       alive = λ _. refl;
       whole = λ _. refl;
       torn = nothing_torn;
       journal = journal_at node_at_start n new.number new.journal.content new.journal.synced number (record {
-        content_is = λ _. bare ∙ sym (append-nil (journal_bytes 1 n []));
+        content_is = λ _. bare ∙ sym (append-nil (journal_bytes journal_version n []));
         synced_is = λ _. synced ∙ ap length bare;
-        lasts = record { front = ([], bare ∙ sym (append-nil (journal_bytes 1 n []))); durable = omega (arith, synced ∙ ap length bare) };
+        lasts = record { front = ([], bare ∙ sym (append-nil (journal_bytes journal_version n []))); durable = omega (arith, synced ∙ ap length bare) };
       });
     }

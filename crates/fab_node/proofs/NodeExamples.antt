@@ -2,7 +2,7 @@
 use Rattle.std.proofs.Common.{◌≡◌, true, false, [], ◌∷◌, ◌++◌, length, Some, None, refl, ap, arith}
 use Rattle.std.proofs.lemmas.Bool.{true≢false}
 use Rattle.fab_base.specs.declared.entry.Entry.TheVariants as e
-use Rattle.fab_base.specs.JournalSpelling.{journal_bytes, record_bytes}
+use Rattle.fab_base.specs.JournalSpelling.{journal_bytes, record_bytes, journal_version}
 use Rattle.fab_net.specs.declared.event.Inner.TheVariants as i
 use Rattle.fab_world.specs.Machine.{Node}
 use Rattle.fab_world.specs.Workers.{Act, fresh, stays}
@@ -18,11 +18,11 @@ abbrev torn : Node
 torn = record booted { torn = 0 ∷ 0 ∷ []; up = false }
 
 -- the record of a boot: five bytes behind their length
-the_record : record_bytes 1 (e.Boot 2) ≡ 0 ∷ 0 ∷ 0 ∷ 5 ∷ 3 ∷ 0 ∷ 0 ∷ 0 ∷ 2 ∷ []
+the_record : record_bytes journal_version (e.Boot 2) ≡ 0 ∷ 0 ∷ 0 ∷ 5 ∷ 3 ∷ 0 ∷ 0 ∷ 0 ∷ 2 ∷ []
 the_record = refl
 
 -- and the journal of node 7 that holds it
-the_journal : journal_bytes 1 7 (e.Boot 2 ∷ []) ≡ 70 ∷ 65 ∷ 66 ∷ 74 ∷ 0 ∷ 1 ∷ 0 ∷ 7 ∷ 0 ∷ 0 ∷ 0 ∷ 5 ∷ 3 ∷ 0 ∷ 0 ∷ 0 ∷ 2 ∷ []
+the_journal : journal_bytes journal_version 7 (e.Boot 2 ∷ []) ≡ 70 ∷ 65 ∷ 66 ∷ 74 ∷ 0 ∷ 1 ∷ 0 ∷ 7 ∷ 0 ∷ 0 ∷ 0 ∷ 5 ∷ 3 ∷ 0 ∷ 0 ∷ 0 ∷ 2 ∷ []
 the_journal = refl
 
 -- two bytes of a record are a torn part
@@ -84,19 +84,19 @@ written = refl
 -- ---- journals
 
 -- that of a node which hasn't failed is exactly its records and what is torn
-torn_journal : IsJournalOf 7 torn (journal_bytes 1 7 (e.Boot 2 ∷ []) ++ 0 ∷ 0 ∷ []) 17
+torn_journal : IsJournalOf 7 torn (journal_bytes journal_version 7 (e.Boot 2 ∷ []) ++ 0 ∷ 0 ∷ []) 17
 torn_journal = record { content_is = λ _. refl; synced_is = λ _. refl; lasts = record { front = (0 ∷ 0 ∷ [], refl); durable = omega (arith) } }
 
 -- a byte more is none
-byte_more : IsJournalOf 7 torn (journal_bytes 1 7 (e.Boot 2 ∷ []) ++ 0 ∷ 0 ∷ 0 ∷ []) 17 → ⊥
+byte_more : IsJournalOf 7 torn (journal_bytes journal_version 7 (e.Boot 2 ∷ []) ++ 0 ∷ 0 ∷ 0 ∷ []) 17 → ⊥
 byte_more h = let same = ap length (h.content_is refl) in omega (arith, same)
 
 -- nor may what is torn be synced
-synced_too_far : IsJournalOf 7 torn (journal_bytes 1 7 (e.Boot 2 ∷ []) ++ 0 ∷ 0 ∷ []) 19 → ⊥
+synced_too_far : IsJournalOf 7 torn (journal_bytes journal_version 7 (e.Boot 2 ∷ []) ++ 0 ∷ 0 ∷ []) 19 → ⊥
 synced_too_far h = let same = h.synced_is refl in omega (arith, same)
 
 -- that of one which has failed may hold more
-more_behind : IsJournalOf 7 (failed booted) (journal_bytes 1 7 (e.Boot 2 ∷ []) ++ 9 ∷ 9 ∷ []) 17
+more_behind : IsJournalOf 7 (failed booted) (journal_bytes journal_version 7 (e.Boot 2 ∷ []) ++ 9 ∷ 9 ∷ []) 17
 more_behind = record {
   content_is = λ never. absurd (true≢false never);
   synced_is = λ never. absurd (true≢false never);
@@ -104,5 +104,5 @@ more_behind = record {
 }
 
 -- but what it has of its records is synced
-unsynced_record : IsJournalOf 7 (failed booted) (journal_bytes 1 7 (e.Boot 2 ∷ [])) 16 → ⊥
+unsynced_record : IsJournalOf 7 (failed booted) (journal_bytes journal_version 7 (e.Boot 2 ∷ [])) 16 → ⊥
 unsynced_record h = omega (arith, h.lasts.durable)

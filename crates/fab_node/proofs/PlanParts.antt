@@ -1,15 +1,14 @@
 -- What a plan writes and sends is what its act does, and it calls the journal where its event does.
-use Rattle.std.proofs.Common.{◌≡◌, ℕ, false, IsTrue, List, map, Option, Some, None, option_map, refl, sym, ap, ◌∙◌}
+use Rattle.std.proofs.Common.{◌≡◌, false, IsTrue, map, Option, Some, None, option_map, refl, sym, ap, ◌∙◌}
 use Rattle.std.specs.Prelude.{is_some}
 use Rattle.std.proofs.lemmas.Bool.{true≢false}
 use Rattle.fab_base.specs.declared.entry.Entry.{Entry}
-use Rattle.fab_base.specs.JournalSpelling.{record_bytes}
+use Rattle.fab_base.specs.JournalSpelling.{record_bytes, journal_version}
 use Rattle.fab_base.specs.MessageSpelling.{spelled}
-use Rattle.fab_journal.proofs.Journals.{version_stays}
 use Rattle.fab_net.specs.declared.event.Inner.{Inner}
 use Rattle.fab_net.specs.declared.event.Inner.TheVariants as i
 use Rattle.fab_net.specs.declared.note.Step.{Step}
-use Rattle.fab_world.specs.Machine.{World, Node, act, bytes_in, calls_journal, node_of, record_at, record_behind}
+use Rattle.fab_world.specs.Machine.{World, Node, act, bytes_in, calls_journal, node_of}
 use Rattle.fab_world.specs.Workers.{Act}
 use Rattle.fab_settings.specs.Settings.{setting_of}
 use Rattle.fab_node.specs.declared.plan.NodePlan.{NodePlan}
@@ -19,8 +18,8 @@ use Rattle.fab_node.specs.Deeds.{CallsJournal, IsPlanAt, IsPlanFor, deed, entry_
 use Rattle.fab_node.proofs.Acts.{is_deed}
 
 module _ (g : GivenModel) (x : Node) (does : Act) (node : NodeModel) where
-  pub record_of : (plan : NodePlan) → IsPlanFor g x does node plan → entry_in plan ≡ option_map (record_bytes 1) does.entry
-  record_of (plans.Begins notes) p = sym (ap (λ (a : Act). option_map (record_bytes 1) a.entry) p.is.act_is)
+  pub record_of : (plan : NodePlan) → IsPlanFor g x does node plan → entry_in plan ≡ option_map (record_bytes journal_version) does.entry
+  record_of (plans.Begins notes) p = sym (ap (λ (a : Act). option_map (record_bytes journal_version) a.entry) p.is.act_is)
   record_of (plans.Store plan) p = ap (λ (st : Step). st.entry) p.is.step
   record_of (plans.Worker plan) p = ap (λ (st : Step). st.entry) p.is.plan_is.step
   record_of (plans.Wakes role keep step) p = ap (λ (st : Step). st.entry) p.is.step_is
@@ -31,16 +30,9 @@ module _ (g : GivenModel) (x : Node) (does : Act) (node : NodeModel) where
   sends_of (plans.Worker plan) p = ap (λ (st : Step). st.sends) p.is.plan_is.step
   sends_of (plans.Wakes role keep step) p = ap (λ (st : Step). st.sends) p.is.step_is
 
-some_of : (entry : Option Entry) → is_some (option_map (record_bytes 1) entry) ≡ is_some entry
+some_of : (entry : Option Entry) → is_some (option_map (record_bytes journal_version) entry) ≡ is_some entry
 some_of None = refl
 some_of (Some entry) = refl
-
--- the bytes of an act's record behind these
-behind_as : (entries : List Entry) (entry : Option Entry) (bytes : List ℕ) → option_map (record_bytes 1) entry ≡ Some bytes → record_behind entries entry ≡ bytes
-behind_as entries None bytes h = absurd (cc)
-behind_as entries (Some entry) bytes h =
-    let same : record_bytes 1 entry ≡ bytes = cc in
-    ap (λ version. record_bytes version entry) (version_stays 1 entries) ∙ same
 
 -- in a world
 module _ (g : GivenModel) (w : World) (e : Inner) (node : NodeModel) (plan : NodePlan)
@@ -48,15 +40,12 @@ module _ (g : GivenModel) (w : World) (e : Inner) (node : NodeModel) (plan : Nod
   abbrev does : Act
   does = act (setting_of g.program g.rights) w e
 
-  record_here : entry_in plan ≡ option_map (record_bytes 1) does.entry
+  record_here : entry_in plan ≡ option_map (record_bytes journal_version) does.entry
   record_here =
       record_of g (w.node (node_of e)) (deed g (w.node (node_of e)) e (bytes_in (setting_of g.program g.rights) w e)) node plan p.is
-      ∙ ap (λ (a : Act). option_map (record_bytes 1) a.entry) (sym (is_deed g w e))
+      ∙ ap (λ (a : Act). option_map (record_bytes journal_version) a.entry) (sym (is_deed g w e))
 
-  -- the record of the event is that of the plan, and there is one exactly where the plan has one
-  pub record_is_at : (bytes : List ℕ) → entry_in plan ≡ Some bytes → record_at (setting_of g.program g.rights) w e ≡ bytes
-  record_is_at bytes there = behind_as (w.node (node_of e)).entries does.entry bytes (sym record_here ∙ there)
-
+  -- there is a record exactly where the plan has one
   pub has_record : is_some does.entry ≡ is_some (entry_in plan)
   has_record = sym (some_of does.entry) ∙ ap is_some (sym record_here)
 

@@ -2,7 +2,7 @@
 use Rattle.std.proofs.Common.{◌≡◌, ℕ, ◌<◌, true, false, List, [], ◌++◌, length, Option, Some, None, IfSome, refl, sym, ap, ◌∙◌, subst, if◌then◌else◌, suc, ◌^◌, arith}
 use Rattle.fab_base.specs.declared.entry.Entry.{Entry}
 use Rattle.fab_base.specs.declared.entry.Entry.TheVariants as e
-use Rattle.fab_base.specs.JournalSpelling.{journal_bytes, IsEntry}
+use Rattle.fab_base.specs.JournalSpelling.{journal_bytes, IsEntry, journal_version}
 use Rattle.fab_base.specs.FlatMap.{FlatMap}
 use Rattle.fab_eval.specs.declared.done.Done.{Done}
 use Rattle.fab_eval.specs.Outcomes as outcomes
@@ -35,15 +35,15 @@ use Rattle.fab_node.proofs.Asked.{answers_as, handles_as, resumes_as, said, sile
 
 -- ---- records that can be spelled
 
-spelled_as : (act : Act) (first second : Option Entry) → first ≡ act.entry → act.entry ≡ second → IfSome first (IsEntry 1)
-    → (entry : Entry) → second ≡ Some entry → IsEntry 1 entry
-spelled_as act first second same other h entry there = subst (λ (o : Option Entry). IfSome o (IsEntry 1)) (same ∙ other ∙ there) h
+spelled_as : (act : Act) (first second : Option Entry) → first ≡ act.entry → act.entry ≡ second → IfSome first (IsEntry journal_version)
+    → (entry : Entry) → second ≡ Some entry → IsEntry journal_version entry
+spelled_as act first second same other h entry there = subst (λ (o : Option Entry). IfSome o (IsEntry journal_version)) (same ∙ other ∙ there) h
 
 -- ---- a worker
 
 module _ (g : GivenModel) (n : ℕ) (x : Node) (e : Inner) (bytes : List ℕ) (old new : WorkerModel) (act : Act) (p : workers.Plan) (plan : NodePlan)
     (gains : models.OnlyGainsRoom old new) (is : workers.IsPlanOf act old.attempt p) (fits : workers.Fits new p) (same : plan ≡ plans.Worker p)
-    (spelled : IfSome p.entry (IsEntry 1)) (does : act ≡ deed g x e bytes) where
+    (spelled : IfSome p.entry (IsEntry journal_version)) (does : act ≡ deed g x e bytes) where
   its_plan : workers.IsPlanOf (deed g x e bytes) new.attempt p
   its_plan =
       subst (λ (a : Attempt). workers.IsPlanOf (deed g x e bytes) a p) (sym gains.attempt)
@@ -61,7 +61,7 @@ module _ (g : GivenModel) (n : ℕ) (x : Node) (e : Inner) (bytes : List ℕ) (o
 
 module _ (g : GivenModel) (n : ℕ) (x : Node) (role : Role) (old new : WorkerModel) (here : role ≡ roles.Worker old) (s : RoleStands g n x role) (up : x.up ≡ true)
     (p : workers.Plan) (plan : NodePlan) (gains : models.OnlyGainsRoom old new) (fits : workers.Fits new p) (same : plan ≡ plans.Worker p)
-    (spelled : IfSome p.entry (IsEntry 1)) where
+    (spelled : IfSome p.entry (IsEntry journal_version)) where
   stands : WorkerStands g n x old
   stands = subst (λ (r : Role). RoleStands g n x r) here s
 
@@ -91,7 +91,7 @@ module _ (g : GivenModel) (n : ℕ) (x : Node) (role : Role) (old new : WorkerMo
 
 pub store_plan : (g : GivenModel) (n : ℕ) (x : Node) (role : Role) (old new : stores.Stock) (a : ℕ) (bytes : List ℕ) (p : stores.Plan) → role ≡ roles.Store old
     → RoleStands g n x role → stores.OnlyGainsRoom old new → p ≡ stores.plan_of (protocol.hears old.rights old.node a (read_message bytes) old.shelf)
-    → IfSome p.entry (IsEntry 1) → stores.HasRoom p.entry new → stores.CanKeepSaid new.rights new.node p.entry new.shelf
+    → IfSome p.entry (IsEntry journal_version) → stores.HasRoom p.entry new → stores.CanKeepSaid new.rights new.node p.entry new.shelf
     → IsRolePlan g x (i.Deliver a n) bytes n (roles.Store new) (plans.Store p)
 store_plan g n x role old new a bytes p here s gains is spelled room can =
     let stands : StoreStands g n x old = subst (λ (r : Role). RoleStands g n x r) here s in
@@ -174,7 +174,7 @@ worker_wakes g n x role old new step entries here s same few node rights program
       };
       spelled = λ entry is.
           let one : record_is ≡ entry = let both : Some record_is ≡ Some entry = there ∙ is in cc in
-          subst (λ (en : Entry). IsEntry 1 en) one (record { known = refl; body = bound });
+          subst (λ (en : Entry). IsEntry journal_version en) one (record { known = refl; body = bound });
     }
 
 -- a store asks what became of what is prepared
@@ -210,7 +210,7 @@ store_wakes g n x role old new step roots entries here s first same node rights 
     }
 
 pub wakes_at : (g : GivenModel) (x : Node) (n : ℕ) (role : Role) (keep : ℕ) (step : Step) (new : NodeModel) → IsWaking g n x role step
-    → keep ≡ length (journal_bytes 1 n x.entries) → new.number ≡ n → new.up ≡ false → new.failed ≡ false
+    → keep ≡ length (journal_bytes journal_version n x.entries) → new.number ≡ n → new.up ≡ false → new.failed ≡ false
     → IsPlanAt g x (i.Recover n) [] new (plans.Wakes role keep step)
 wakes_at g x n role keep step new w whole number low unfailed = record {
   is = record {

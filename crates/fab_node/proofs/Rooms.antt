@@ -41,6 +41,7 @@ stands_as g x old new number role content synced up failed s = record {
   up = up ∙ s.up;
   failed = failed ∙ s.failed;
   role = subst (λ k. RoleStands g k x new.role) (sym number) role;
+  begun = s.begun;
   spelled = s.spelled;
   alive = s.alive;
   whole = s.whole;

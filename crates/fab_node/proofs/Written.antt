@@ -3,7 +3,7 @@ use Rattle.std.proofs.Common.{◌≡◌, ℕ, ◌+◌, ◌-◌, ◌≤◌, ◌==
 use Rattle.std.proofs.Math.Seq.{take-append_seam, take-append-add, take-length}
 use Rattle.std.proofs.lemmas.Bool.{eqb-true}
 use Rattle.fab_base.specs.declared.entry.Entry.{Entry}
-use Rattle.fab_base.specs.JournalSpelling.{journal_bytes, record_bytes}
+use Rattle.fab_base.specs.JournalSpelling.{journal_bytes, record_bytes, journal_version}
 use Rattle.fab_device.specs.Devices.{IsFrontFrom}
 use Rattle.fab_journal.proofs.Appending.{journal-push}
 use Rattle.fab_journal.proofs.Journals.{version_stays}
@@ -23,6 +23,12 @@ readied_entries (plans.Store plan) x = refl
 readied_entries (plans.Worker plan) x = refl
 readied_entries (plans.Wakes role keep step) x = refl
 
+pub readied_first : (plan : NodePlan) (x : Node) → (readied_for plan x).first ≡ x.first
+readied_first (plans.Begins notes) x = refl
+readied_first (plans.Store plan) x = refl
+readied_first (plans.Worker plan) x = refl
+readied_first (plans.Wakes role keep step) x = refl
+
 pub readied_failed : (plan : NodePlan) (x : Node) → (readied_for plan x).failed ≡ x.failed
 readied_failed (plans.Begins notes) x = refl
 readied_failed (plans.Store plan) x = refl
@@ -39,36 +45,36 @@ readied_whole n (plans.Wakes role keep step) x ends = refl
 
 module _ (n : ℕ) (x : Node) (content : List ℕ) (synced : ℕ) where
   -- the whole records are so long
-  pub is_whole_length : (plan : NodePlan) (keep : ℕ) → keep_in plan ≡ Some keep → EndsAt n x plan → keep ≡ length (journal_bytes 1 n x.entries)
+  pub is_whole_length : (plan : NodePlan) (keep : ℕ) → keep_in plan ≡ Some keep → EndsAt n x plan → keep ≡ length (journal_bytes journal_version n x.entries)
   is_whole_length (plans.Begins notes) keep there ends = cc
   is_whole_length (plans.Store plan) keep there ends = cc
   is_whole_length (plans.Worker plan) keep there ends = cc
   is_whole_length (plans.Wakes role k step) keep there ends = let same : k ≡ keep = cc in sym same ∙ ends
 
   module _ (plan : NodePlan) (keep : ℕ) (there : keep_in plan ≡ Some keep) (h : IsReady n x content synced plan) where
-    so_long : keep ≡ length (journal_bytes 1 n x.entries)
+    so_long : keep ≡ length (journal_bytes journal_version n x.entries)
     so_long = is_whole_length plan keep there h.ends
 
     pub synced_within : synced ≤ keep
     synced_within = omega (arith, so_long, h.stands.synced_is h.unfailed)
 
     pub keep_within : keep ≤ length content
-    keep_within = omega (arith, so_long, ap length (h.stands.content_is h.unfailed), length-append (journal_bytes 1 n x.entries) x.torn)
+    keep_within = omega (arith, so_long, ap length (h.stands.content_is h.unfailed), length-append (journal_bytes journal_version n x.entries) x.torn)
 
-    kept_front : take keep content ≡ journal_bytes 1 n x.entries
+    kept_front : take keep content ≡ journal_bytes journal_version n x.entries
     kept_front =
-        ap (λ k. take k content) so_long ∙ ap (take (length (journal_bytes 1 n x.entries))) (h.stands.content_is h.unfailed)
-        ∙ take-append_seam (journal_bytes 1 n x.entries) x.torn
+        ap (λ k. take k content) so_long ∙ ap (take (length (journal_bytes journal_version n x.entries))) (h.stands.content_is h.unfailed)
+        ∙ take-append_seam (journal_bytes journal_version n x.entries) x.torn
 
-    woken_journal : (plan : NodePlan) → keep_in plan ≡ Some keep → (new : List ℕ) (now : ℕ) → new ≡ journal_bytes 1 n x.entries → now ≡ length (journal_bytes 1 n x.entries)
+    woken_journal : (plan : NodePlan) → keep_in plan ≡ Some keep → (new : List ℕ) (now : ℕ) → new ≡ journal_bytes journal_version n x.entries → now ≡ length (journal_bytes journal_version n x.entries)
         → IsJournalOf n (readied_for plan x) new now
     woken_journal (plans.Begins notes) cuts new now same length_same = absurd (cc)
     woken_journal (plans.Store plan) cuts new now same length_same = absurd (cc)
     woken_journal (plans.Worker plan) cuts new now same length_same = absurd (cc)
     woken_journal (plans.Wakes role k step) cuts new now same length_same = record {
-      content_is = λ _. same ∙ sym (append-nil (journal_bytes 1 n x.entries));
+      content_is = λ _. same ∙ sym (append-nil (journal_bytes journal_version n x.entries));
       synced_is = λ _. length_same;
-      lasts = record { front = ([], same ∙ sym (append-nil (journal_bytes 1 n x.entries))); durable = omega (arith, length_same) };
+      lasts = record { front = ([], same ∙ sym (append-nil (journal_bytes journal_version n x.entries))); durable = omega (arith, length_same) };
     }
 
     pub restarted : (new : List ℕ) (now : ℕ) → new ≡ take keep content → now ≡ keep → IsJournalOf n (readied_for plan x) new now
@@ -77,7 +83,7 @@ module _ (n : ℕ) (x : Node) (content : List ℕ) (synced : ℕ) where
     -- a call that failed has left a front with all of them
     pub front_left : (new : List ℕ) (now : ℕ) → IsFrontFrom keep content new → now ≡ synced → Lasts n x.entries new now
     front_left new now left same =
-        let whole = journal_bytes 1 n x.entries in
+        let whole = journal_bytes journal_version n x.entries in
         let more : ℕ = length new - length whole in
         let long : length new ≡ length whole + more = omega (arith, left.longer, so_long) in
         record {
@@ -98,24 +104,24 @@ module _ (n : ℕ) (x : Node) (content : List ℕ) (synced : ℕ) where
 
 -- ---- the record
 
-pub some_record : (entry : Option Entry) (bytes : List ℕ) → Some bytes ≡ option_map (record_bytes 1) entry
-    → (one : Entry) × (entry ≡ Some one) × (bytes ≡ record_bytes 1 one)
+pub some_record : (entry : Option Entry) (bytes : List ℕ) → Some bytes ≡ option_map (record_bytes journal_version) entry
+    → (one : Entry) × (entry ≡ Some one) × (bytes ≡ record_bytes journal_version one)
 some_record None bytes h = absurd (cc)
 some_record (Some entry) bytes h = (entry, refl, cc)
 
-pub no_record : (entry : Option Entry) → None ≡ option_map (record_bytes 1) entry → entry ≡ None
+pub no_record : (entry : Option Entry) → None ≡ option_map (record_bytes journal_version) entry → entry ≡ None
 no_record None h = refl
 no_record (Some entry) h = absurd (cc)
 
 module _ (n : ℕ) (y : Node) (content : List ℕ) (synced : ℕ) (h : IsJournalOf n y content synced) (unfailed : y.failed ≡ false) (whole : y.torn ≡ []) where
   abbrev bytes : List ℕ
-  bytes = journal_bytes 1 n y.entries
+  bytes = journal_bytes journal_version n y.entries
 
   all_whole : content ≡ bytes
   all_whole = h.content_is unfailed ∙ ap (λ torn. bytes ++ torn) whole ∙ append-nil bytes
 
-  one_more : (entry : Entry) → journal_bytes 1 n (y.entries ++ entry ∷ []) ≡ bytes ++ record_bytes 1 entry
-  one_more entry = journal-push n y.entries entry ∙ ap (λ version. bytes ++ record_bytes version entry) (version_stays 1 y.entries)
+  one_more : (entry : Entry) → journal_bytes journal_version n (y.entries ++ entry ∷ []) ≡ bytes ++ record_bytes journal_version entry
+  one_more entry = journal-push n y.entries entry ∙ ap (λ version. bytes ++ record_bytes version entry) (version_stays journal_version y.entries)
 
   -- nothing is written
   pub done_without : (act : Act) → act.entry ≡ None → IsJournalOf n (done_by act y) content synced
@@ -123,19 +129,19 @@ module _ (n : ℕ) (y : Node) (content : List ℕ) (synced : ℕ) (h : IsJournal
       subst (λ (entry : Option Entry). JournalStands n (y.entries ++ option_list entry) y.torn y.failed content synced) (sym none)
       (subst (λ (es : List Entry). JournalStands n es y.torn y.failed content synced) (sym (append-nil y.entries)) h)
 
-  grown : (entry : Entry) (new : List ℕ) (now : ℕ) → new ≡ content ++ record_bytes 1 entry → now ≡ length new
+  grown : (entry : Entry) (new : List ℕ) (now : ℕ) → new ≡ content ++ record_bytes journal_version entry → now ≡ length new
       → JournalStands n (y.entries ++ entry ∷ []) y.torn y.failed new now
   grown entry new now added all =
-      let same : new ≡ journal_bytes 1 n (y.entries ++ entry ∷ []) = added ∙ ap (λ (c : List ℕ). c ++ record_bytes 1 entry) all_whole ∙ sym (one_more entry) in
-      let bare : new ≡ journal_bytes 1 n (y.entries ++ entry ∷ []) ++ [] = same ∙ sym (append-nil (journal_bytes 1 n (y.entries ++ entry ∷ []))) in
+      let same : new ≡ journal_bytes journal_version n (y.entries ++ entry ∷ []) = added ∙ ap (λ (c : List ℕ). c ++ record_bytes journal_version entry) all_whole ∙ sym (one_more entry) in
+      let bare : new ≡ journal_bytes journal_version n (y.entries ++ entry ∷ []) ++ [] = same ∙ sym (append-nil (journal_bytes journal_version n (y.entries ++ entry ∷ []))) in
       record {
-        content_is = λ _. bare ∙ ap (λ (torn : List ℕ). journal_bytes 1 n (y.entries ++ entry ∷ []) ++ torn) (sym whole);
+        content_is = λ _. bare ∙ ap (λ (torn : List ℕ). journal_bytes journal_version n (y.entries ++ entry ∷ []) ++ torn) (sym whole);
         synced_is = λ _. all ∙ ap length same;
         lasts = record { front = ([], bare); durable = omega (arith, all, ap length same) };
       }
 
   -- the record is written and synced
-  pub done_with : (act : Act) (entry : Entry) (new : List ℕ) (now : ℕ) → act.entry ≡ Some entry → new ≡ content ++ record_bytes 1 entry → now ≡ length new
+  pub done_with : (act : Act) (entry : Entry) (new : List ℕ) (now : ℕ) → act.entry ≡ Some entry → new ≡ content ++ record_bytes journal_version entry → now ≡ length new
       → IsJournalOf n (done_by act y) new now
   done_with act entry new now there added all =
       subst (λ (o : Option Entry). JournalStands n (y.entries ++ option_list o) y.torn y.failed new now) (sym there) (grown entry new now added all)
@@ -147,31 +153,31 @@ module _ (n : ℕ) (y : Node) (content : List ℕ) (synced : ℕ) (h : IsJournal
     durable = omega (arith, same, h.lasts.durable);
   }
 
-  module _ (keep : ℕ) (entry : Entry) (new : List ℕ) (now : ℕ) (added : new ≡ content ++ take keep (record_bytes 1 entry)) where
+  module _ (keep : ℕ) (entry : Entry) (new : List ℕ) (now : ℕ) (added : new ≡ content ++ take keep (record_bytes journal_version entry)) where
     abbrev cut_by : List ℕ → Bool → Node
     cut_by record_is b = down (if b then record y { entries = y.entries ++ entry ∷ [] } else record y { torn = take keep record_is })
 
-    cut_holds : (b : Bool) → (keep == length (record_bytes 1 entry)) ≡ b → now ≡ (if b then length new else synced)
-        → IsJournalOf n (cut_by (record_bytes 1 entry) b) new now
+    cut_holds : (b : Bool) → (keep == length (record_bytes journal_version entry)) ≡ b → now ≡ (if b then length new else synced)
+        → IsJournalOf n (cut_by (record_bytes journal_version entry) b) new now
     cut_holds true all long =
-        let same : keep ≡ length (record_bytes 1 entry) = eqb-true keep (length (record_bytes 1 entry)) all in
+        let same : keep ≡ length (record_bytes journal_version entry) = eqb-true keep (length (record_bytes journal_version entry)) all in
         grown entry new now
-        (added ∙ ap (λ (r : List ℕ). content ++ r) (ap (λ k. take k (record_bytes 1 entry)) same ∙ take-length (record_bytes 1 entry))) long
+        (added ∙ ap (λ (r : List ℕ). content ++ r) (ap (λ k. take k (record_bytes journal_version entry)) same ∙ take-length (record_bytes journal_version entry))) long
     cut_holds false some long =
-        let same : new ≡ bytes ++ take keep (record_bytes 1 entry) = added ∙ ap (λ (c : List ℕ). c ++ take keep (record_bytes 1 entry)) all_whole in
+        let same : new ≡ bytes ++ take keep (record_bytes journal_version entry) = added ∙ ap (λ (c : List ℕ). c ++ take keep (record_bytes journal_version entry)) all_whole in
         record {
           content_is = λ _. same;
           synced_is = λ _. long ∙ h.synced_is unfailed;
-          lasts = record { front = (take keep (record_bytes 1 entry), same); durable = omega (arith, long, h.lasts.durable) };
+          lasts = record { front = (take keep (record_bytes journal_version entry), same); durable = omega (arith, long, h.lasts.durable) };
         }
 
-    pub cut_with : (g : GivenModel) (act : Act) → act.entry ≡ Some entry → now ≡ (if keep == length (record_bytes 1 entry) then length new else synced)
+    pub cut_with : (g : GivenModel) (act : Act) → y.first ≡ journal_version → act.entry ≡ Some entry → now ≡ (if keep == length (record_bytes journal_version entry) then length new else synced)
         → IsJournalOf n (cut_at g keep act y) new now
-    cut_with g act there long =
-        let spelled : record_bytes 1 entry ≡ record_behind y.entries (Some entry) = ap (λ version. record_bytes version entry) (sym (version_stays 1 y.entries)) in
+    cut_with g act begun there long =
+        let spelled : record_bytes journal_version entry ≡ record_behind y.first y.entries (Some entry) = ap (λ version. record_bytes version entry) (sym (version_stays y.first y.entries ∙ begun)) in
         subst (λ (o : Option Entry). IsJournalOf n (down (cut (setting_of g.program g.rights) keep o y)) new now) (sym there)
         (subst (λ (r : List ℕ). IsJournalOf n (cut_by r (keep == length r)) new now) spelled
-        (cut_holds (keep == length (record_bytes 1 entry)) refl long))
+        (cut_holds (keep == length (record_bytes journal_version entry)) refl long))
 
 -- ---- the record of a plan
 
@@ -179,6 +185,9 @@ module _ (n : ℕ) (x : Node) (act : Act) (plan : NodePlan) (first : List ℕ) (
     (ready : List ℕ) (now : ℕ) (is : IsJournalOf n (readied_for plan x) ready now) where
   abbrev at : Node
   at = readied_for plan x
+
+  at_begun : at.first ≡ journal_version
+  at_begun = readied_first plan x ∙ h.ready.begun
 
   at_unfailed : at.failed ≡ false
   at_unfailed = readied_failed plan x ∙ h.ready.unfailed
@@ -190,7 +199,7 @@ module _ (n : ℕ) (x : Node) (act : Act) (plan : NodePlan) (first : List ℕ) (
   written_none none = done_without n at ready now is at_unfailed at_whole act (no_record act.entry (none ∙ h.record_is))
 
   module _ (record_of bytes : List ℕ) (there : Some record_of ≡ entry_in plan) (same : bytes ≡ record_of) where
-    one : (entry : Entry) × (act.entry ≡ Some entry) × (record_of ≡ record_bytes 1 entry)
+    one : (entry : Entry) × (act.entry ≡ Some entry) × (record_of ≡ record_bytes journal_version entry)
     one = some_record act.entry record_of (there ∙ h.record_is)
 
     pub written : (new : List ℕ) (all : ℕ) → new ≡ ready ++ bytes → all ≡ length new → IsJournalOf n (done_by act at) new all
@@ -205,8 +214,8 @@ module _ (n : ℕ) (x : Node) (act : Act) (plan : NodePlan) (first : List ℕ) (
     pub written_part : (g : GivenModel) (keep : ℕ) (new : List ℕ) (all : ℕ) → new ≡ ready ++ take keep bytes
         → all ≡ (if keep == length bytes then length new else now) → IsJournalOf n (cut_at g keep act at) new all
     written_part g keep new all added long =
-        let spelled : bytes ≡ record_bytes 1 one.0 = same ∙ one.2 in
-        cut_with n at ready now is at_unfailed at_whole keep one.0 new all (added ∙ ap (λ (b : List ℕ). ready ++ take keep b) spelled) g act one.1
+        let spelled : bytes ≡ record_bytes journal_version one.0 = same ∙ one.2 in
+        cut_with n at ready now is at_unfailed at_whole keep one.0 new all (added ∙ ap (λ (b : List ℕ). ready ++ take keep b) spelled) g act at_begun one.1
         (long ∙ ap (λ (b : List ℕ). if keep == length b then length new else now) spelled)
 
 -- ---- the journal is called

@@ -1,7 +1,7 @@
 -- What one node does at an event, by itself: its records, its attempt, and the bytes that reach it.
 use Rattle.std.specs.Prelude.{◌≡◌, ℕ, ◌<◌, ◌≤◌, Bool, true, false, IsTrue, List, [], ◌∷◌, ◌++◌, map, length, Option, Some, None, option_map, unwrap_or, IsSome, vec_len, vec_capacity}
 use Rattle.fab_base.specs.declared.entry.Entry.{Entry}
-use Rattle.fab_base.specs.JournalSpelling.{record_bytes, journal_bytes, AreEntries, IsEntry}
+use Rattle.fab_base.specs.JournalSpelling.{record_bytes, journal_bytes, AreEntries, IsEntry, journal_version}
 use Rattle.fab_base.specs.MessageSpelling.{spelled}
 use Rattle.fab_net.specs.declared.event.Inner.{Inner}
 use Rattle.fab_net.specs.declared.event.Inner.TheVariants as i
@@ -31,7 +31,7 @@ deed g x e bytes = act (setting_of g.program g.rights) (alone x bytes) e
 
 -- the same as bytes: the record, the messages that it sends, the notes
 abbrev pub step_of : Act → Step
-step_of act = record { entry = option_map (record_bytes 1) act.entry; sends = map (λ x. (x.0, spelled x.1)) act.sends; notes = act.notes }
+step_of act = record { entry = option_map (record_bytes journal_version) act.entry; sends = map (λ x. (x.0, spelled x.1)) act.sends; notes = act.notes }
 
 -- ---- when it may be done
 
@@ -113,7 +113,7 @@ pub record IsWorkerPlan (act : Act) (role : Role) (plan : workers.Plan) : Type 0
 -- what a node is when it comes back behind its whole records, which are so long, and what it does then
 pub record WakesAs (g : GivenModel) (x : Node) (act : Act) (n : ℕ) (role : Role) (keep : ℕ) (step : Step) : Type 0 where
   pub stands : RoleStands g n (done_by act (woken x)) role
-  pub whole : keep ≡ length (journal_bytes 1 n x.entries)
+  pub whole : keep ≡ length (journal_bytes journal_version n x.entries)
   pub step_is : step ≡ step_of act
 
 -- the plan is of this act, and can be carried out by node n in this role
@@ -131,12 +131,12 @@ IsAwake _ = Unit {0}
 -- the plan of what the machine's node x, which is up, does at this event, in the role of node n, with a record that can be spelled
 pub record IsRolePlan (g : GivenModel) (x : Node) (e : Inner) (bytes : List ℕ) (n : ℕ) (role : Role) (plan : NodePlan) : Type 0 where
   pub is : IsPlanOf g x (deed g x e bytes) n role plan
-  pub spelled : (entry : Entry) → (deed g x e bytes).entry ≡ Some entry → IsEntry 1 entry
+  pub spelled : (entry : Entry) → (deed g x e bytes).entry ≡ Some entry → IsEntry journal_version entry
   pub awake : IsAwake plan
 
 pub record IsPlanFor (g : GivenModel) (x : Node) (act : Act) (node : NodeModel) (plan : NodePlan) : Type 0 where
   pub is : IsPlanOf g x act node.number node.role plan
-  pub spelled : (entry : Entry) → act.entry ≡ Some entry → IsEntry 1 entry
+  pub spelled : (entry : Entry) → act.entry ≡ Some entry → IsEntry journal_version entry
 
 -- how the node is when it begins to do what is planned
 abbrev pub readied_for : NodePlan → Node → Node
@@ -166,8 +166,8 @@ pub record IsPlanAt (g : GivenModel) (x : Node) (e : Inner) (bytes : List ℕ) (
 
 -- what node n is when it comes back, and what it does then, with a record that can be spelled
 pub record IsWaking (g : GivenModel) (n : ℕ) (x : Node) (role : Role) (step : Step) : Type 0 where
-  pub wakes : WakesAs g x (deed g x (i.Recover n) []) n role (length (journal_bytes 1 n x.entries)) step
-  pub spelled : (entry : Entry) → (deed g x (i.Recover n) []).entry ≡ Some entry → IsEntry 1 entry
+  pub wakes : WakesAs g x (deed g x (i.Recover n) []) n role (length (journal_bytes journal_version n x.entries)) step
+  pub spelled : (entry : Entry) → (deed g x (i.Recover n) []).entry ≡ Some entry → IsEntry journal_version entry
 
 -- the record of a plan, if it writes one
 abbrev pub entry_in : NodePlan → Option (List ℕ)
@@ -203,33 +203,34 @@ keep_in _ = None
 
 -- the whole records end where the record of a plan goes: behind the journal, but for what is cut off as the node comes back
 abbrev pub EndsAt : ℕ → Node → NodePlan → Type 0
-EndsAt n x (plans.Wakes role keep step) = keep ≡ length (journal_bytes 1 n x.entries)
+EndsAt n x (plans.Wakes role keep step) = keep ≡ length (journal_bytes journal_version n x.entries)
 EndsAt n x _ = x.torn ≡ []
 
 -- the journal is that of the machine's node n, which hasn't failed
 pub record IsReady (n : ℕ) (x : Node) (content : List ℕ) (synced : ℕ) (plan : NodePlan) : Type 0 where
   pub stands : IsJournalOf n x content synced
+  pub begun : x.first ≡ journal_version
   pub unfailed : x.failed ≡ false
   pub ends : EndsAt n x plan
 
 -- and the record of the plan is that of the act
 pub record Writes (n : ℕ) (x : Node) (act : Act) (content : List ℕ) (synced : ℕ) (plan : NodePlan) : Type 0 where
   pub ready : IsReady n x content synced plan
-  pub record_is : entry_in plan ≡ option_map (record_bytes 1) act.entry
+  pub record_is : entry_in plan ≡ option_map (record_bytes journal_version) act.entry
 
 -- ---- reading
 
 -- the bytes are a journal of these records, and of what is torn behind them
 pub record HoldsRecords (n : ℕ) (entries : List Entry) (torn : List ℕ) (bytes : List ℕ) : Type 0 where
-  pub spelled : AreEntries 1 entries
+  pub spelled : AreEntries journal_version entries
   pub cut_off : IsTornPart torn
-  pub is : bytes ≡ journal_bytes 1 n entries ++ torn
+  pub is : bytes ≡ journal_bytes journal_version n entries ++ torn
 
 -- ---- a record that is cut
 
 -- the bytes of the record of an act, if it has one
 abbrev pub record_in : Act → List ℕ
-record_in act = unwrap_or (option_map (record_bytes 1) act.entry) []
+record_in act = unwrap_or (option_map (record_bytes journal_version) act.entry) []
 
 -- the step of what was done in whole
 abbrev pub step_if : Bool → Act → Option Step

@@ -2,7 +2,7 @@
 use Rattle.std.specs.Prelude.{◌≡◌, ℕ, ◌<◌, ◌≤◌, Bool, true, false, IsTrue, List, [], ◌++◌, length, take}
 use Rattle.fab_base.specs.declared.entry.Entry.{Entry}
 use Rattle.fab_base.specs.FlatMap.{FlatMap}
-use Rattle.fab_base.specs.JournalSpelling.{journal_bytes, record_bytes, AreEntries, IsEntry}
+use Rattle.fab_base.specs.JournalSpelling.{journal_bytes, record_bytes, AreEntries, IsEntry, journal_version}
 use Rattle.fab_tree.specs.declared.start.Start.{Start}
 use Rattle.fab_tree.specs.declared.resolved.Resolved.{Resolved}
 use Rattle.fab_language.specs.Evaluation.{map_at_start}
@@ -75,34 +75,36 @@ RoleStands g n x (roles.Worker worker) = WorkerStands g n x worker
 
 -- bytes behind the whole records: a front of a record that isn't the whole of it
 abbrev pub IsTornPart : List ℕ → Type 0
-IsTornPart bytes = (entry : Entry) × (n : ℕ) × IsEntry 1 entry × (n < length (record_bytes 1 entry)) × (bytes ≡ take n (record_bytes 1 entry))
+IsTornPart bytes = (entry : Entry) × (n : ℕ) × IsEntry journal_version entry × (n < length (record_bytes journal_version entry)) × (bytes ≡ take n (record_bytes journal_version entry))
 
 -- the whole records stand at the front
 abbrev pub BeginsWith : ℕ → List Entry → List ℕ → Type 0
-BeginsWith n entries content = (more : List ℕ) × (content ≡ journal_bytes 1 n entries ++ more)
+BeginsWith n entries content = (more : List ℕ) × (content ≡ journal_bytes journal_version n entries ++ more)
 
 -- and all of them are synced
 pub record Lasts (n : ℕ) (entries : List Entry) (content : List ℕ) (synced : ℕ) : Type 0 where
   pub front : BeginsWith n entries content
-  pub durable : length (journal_bytes 1 n entries) ≤ synced
+  pub durable : length (journal_bytes journal_version n entries) ≤ synced
 
 -- The journal of a node that hasn't failed holds the header, the whole records, and what is torn, and all but what is torn is synced; that
 -- of one that has begins with the header and the whole records, and these are synced.
 pub record JournalStands (n : ℕ) (entries : List Entry) (torn : List ℕ) (failed : Bool) (content : List ℕ) (synced : ℕ) : Type 0 where
-  pub content_is : failed ≡ false → content ≡ journal_bytes 1 n entries ++ torn
-  pub synced_is : failed ≡ false → synced ≡ length (journal_bytes 1 n entries)
+  pub content_is : failed ≡ false → content ≡ journal_bytes journal_version n entries ++ torn
+  pub synced_is : failed ≡ false → synced ≡ length (journal_bytes journal_version n entries)
   pub lasts : Lasts n entries content synced
 
 -- so many bytes are synced of this content, which is that of the machine's node of this number
 abbrev pub IsJournalOf : ℕ → Node → List ℕ → ℕ → Type 0
 IsJournalOf n x content synced = JournalStands n x.entries x.torn x.failed content synced
 
--- The node in code stands for this one of the machine; one that is up hasn't failed, and nothing of it is torn.
+-- The node in code stands for this one of the machine, whose journal begins in the version that code writes; one that is up hasn't failed, and
+-- nothing of it is torn.
 pub record Stands (g : GivenModel) (x : Node) (node : NodeModel) : Type 0 where
   pub up : node.up ≡ x.up
   pub failed : node.failed ≡ x.failed
   pub role : RoleStands g node.number x node.role
-  pub spelled : AreEntries 1 x.entries
+  pub begun : x.first ≡ journal_version
+  pub spelled : AreEntries journal_version x.entries
   pub alive : x.up ≡ true → x.failed ≡ false
   pub whole : x.up ≡ true → x.torn ≡ []
   pub torn : IsTornPart x.torn
@@ -150,4 +152,4 @@ pub record RereadAs (old new : NodeModel) : Type 0 where
 
 -- the node of the machine at the start of a run
 abbrev pub node_at_start : Node
-node_at_start = record { entries = []; torn = []; attempt = fresh; up = true; failed = false }
+node_at_start = record { first = journal_version; entries = []; torn = []; attempt = fresh; up = true; failed = false }

@@ -15,7 +15,7 @@ use fab_worker::WorkerPlan;
 use std::alloc::Global;
 
 /// A worker begins its next attempt, with the note of it, for which there is room.
-fn begin(alloc: Global, role: &mut Role, notes: Vec<Note>) -> Step
+pub(crate) fn begin(alloc: Global, role: &mut Role, notes: Vec<Note>) -> Step
     requires plan { (act : Act) × IsBegin act role.old notes.items (vec_len notes) (vec_capacity notes) }
     ensures step { (act : Act) → IsBegin act role.old notes.items (vec_len notes) (vec_capacity notes) → result ≡ step_of act }
     ensures role { (g : GivenModel) (n : ℕ) (x : Standing) (act : Act) → RoleStands g n x role.old → IsBegin act role.old notes.items (vec_len notes) (vec_capacity notes)
@@ -40,7 +40,7 @@ fn begin(alloc: Global, role: &mut Role, notes: Vec<Note>) -> Step
 }
 
 /// A store's plan is carried out.
-fn accept_store(role: &mut Role, plan: StorePlan) -> Step
+pub(crate) fn accept_store(role: &mut Role, plan: StorePlan) -> Step
     requires plan { (act : Act) × IsStorePlan act role.old plan }
     ensures step { (act : Act) → IsStorePlan act role.old plan → result ≡ step_of act }
     ensures role { (g : GivenModel) (n : ℕ) (x : Standing) (act : Act) → RoleStands g n x role.old → IsStorePlan act role.old plan
@@ -53,7 +53,7 @@ fn accept_store(role: &mut Role, plan: StorePlan) -> Step
 }
 
 /// A worker's plan is carried out.
-fn accept_worker(role: &mut Role, plan: WorkerPlan) -> Step
+pub(crate) fn accept_worker(role: &mut Role, plan: WorkerPlan) -> Step
     requires plan { (act : Act) × IsWorkerPlan act role.old plan }
     ensures step { (act : Act) → IsWorkerPlan act role.old plan → result ≡ step_of act }
     ensures role { (g : GivenModel) (n : ℕ) (x : Standing) (act : Act) → RoleStands g n x role.old → IsWorkerPlan act role.old plan
@@ -62,28 +62,6 @@ fn accept_worker(role: &mut Role, plan: WorkerPlan) -> Step
     match role {
         Role::Worker(worker) => worker.accept(plan),
         Role::Store(_) => unreachable!(),
-    }
-}
-
-/// Makes the change that is planned, and answers its step. It takes no memory.
-pub fn accept(alloc: Global, role: &mut Role, plan: NodePlan) -> Step
-    requires plan { (g : GivenModel) × (x : Standing) × (act : Act) × (n : ℕ) × IsPlanOf g x act n role.old plan }
-    ensures step { (g : GivenModel) (x : Standing) (act : Act) (n : ℕ) → IsPlanOf g x act n role.old plan → result ≡ step_of act }
-    ensures role { (g : GivenModel) (x : Standing) (act : Act) (n : ℕ) → RoleStands g n x role.old → IsPlanOf g x act n role.old plan
-        → RoleStands g n (done_by act (readied_for plan x)) role.new }
-{
-    match plan {
-        NodePlan::Begins(notes) => begin(alloc, role, notes),
-        NodePlan::Store(plan) => accept_store(role, plan),
-        NodePlan::Worker(plan) => accept_worker(role, plan),
-        NodePlan::Wakes {
-            role: new,
-            step,
-            ..
-        } => {
-            *role = new;
-            step
-        }
     }
 }
 
@@ -96,7 +74,7 @@ pub fn accept_whole(alloc: Global, role: &mut Role, plan: NodePlan, whole: bool)
     ensures step { (g : GivenModel) (x : Standing) (act : Act) (n : ℕ) → IsPlanOf g x act n role.old plan → result ≡ step_if whole act }
 {
     if whole {
-        Some(accept(alloc, role, plan))
+        Some(plan.accept(alloc, role))
     } else {
         None
     }

@@ -8,7 +8,7 @@ ghost use Rattle.fab_world.specs.Workers.{Act};
 ghost use Rattle.fab_node.specs.Deeds.{record_in, step_if, CallsJournal, CanDo, HasRoomFor, IsPlanFor, cut_at, done_by, entry_in, failed, readied_for, step_of};
 ghost use Rattle.fab_node.specs.Standing.{GivenModel, Stands};
 
-use crate::accepting::{accept, accept_whole};
+use crate::accepting::accept_whole;
 use crate::node::{Node, fail};
 use crate::plan::NodePlan;
 use crate::writing::{write, write_front};
@@ -36,7 +36,7 @@ impl<J: Journal> Node<J> {
     {
         match write(&mut self.journal, &plan) {
             Ok(()) => {
-                let step = accept(self.alloc, &mut self.role, plan);
+                let step = plan.accept(self.alloc, &mut self.role);
                 self.up = true;
                 Ok(step)
             }

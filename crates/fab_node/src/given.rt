@@ -18,11 +18,20 @@ use std::sync::Arc;
 
 /// An accepted bundle with numbers for names, its rights, and the objects that there are from the
 /// start, in the order of their names.
-#[derive(Drop)]
 pub struct Given {
     pub(crate) program: Arc<Resolved>,
     pub(crate) rights: Rights,
     pub(crate) roots: ObjectMap,
+}
+
+impl Drop for Given {
+    fn drop(self) {
+        let Given {
+            program,
+            rights,
+            roots,
+        } = self;
+    }
 }
 
 impl Model for Given {

@@ -1,7 +1,7 @@
 //! An honest node at the start of a run.
 
 ghost use Rattle.std.specs.Prelude.{◌≡◌, IsTrue, IfOk, length};
-ghost use Rattle.fab_base.specs.JournalSpelling.{header_bytes};
+ghost use Rattle.fab_base.specs.JournalSpelling.{header_bytes, journal_version};
 ghost use Rattle.fab_rights.specs.Computed.{is_node};
 ghost use Rattle.fab_node.specs.Standing.{GivenModel, RoleStands, Stands, node_at_start};
 
@@ -33,7 +33,7 @@ pub fn role_at_start(alloc: Global, given: &Given, number: u16) -> Result<Role, 
 impl<J: Journal> Node<J> {
     /// A node that is up, with a journal that holds its header.
     pub fn make(alloc: Global, number: u16, role: Role, journal: J) -> Node<J>
-        requires content { J.content journal ≡ header_bytes 1 number }
+        requires content { J.content journal ≡ header_bytes journal_version number }
         requires synced { J.synced journal ≡ length (J.content journal) }
         ensures stands { (g : GivenModel) → RoleStands g number node_at_start role → Stands g node_at_start result }
         ensures number { result.number ≡ number }

@@ -11,7 +11,6 @@ use std::alloc::Global;
 use std::marker::Model;
 
 /// An honest node. A node that is down keeps what it was, and one that has failed for good stays down.
-#[derive(Drop)]
 pub struct Node<J: Journal> {
     pub(crate) alloc: Global,
     pub(crate) number: u16,
@@ -19,6 +18,19 @@ pub struct Node<J: Journal> {
     pub(crate) journal: J,
     pub(crate) up: bool,
     pub(crate) failed: bool,
+}
+
+impl<J: Journal + Drop> Drop for Node<J> {
+    fn drop(self) {
+        let Node {
+            alloc,
+            number,
+            role,
+            journal,
+            up,
+            failed,
+        } = self;
+    }
 }
 
 impl<J: Journal> Model for Node<J> {
@@ -82,7 +94,14 @@ impl<J: Journal> Node<J> {
     pub fn into_journal(self) -> J
         ensures { self.journal ≡ record { content = J.content result; synced = J.synced result; room = J.room result; faults = J.faults result; sure = J.sure result } }
     {
-        let Node { journal, .. } = self;
+        let Node {
+            alloc: _,
+            number: _,
+            role: _,
+            journal,
+            up: _,
+            failed: _,
+        } = self;
         journal
     }
 

@@ -1,7 +1,7 @@
 //! A node plans what it does at an event of its own. Nothing but room changes.
 
 ghost use Rattle.std.specs.Prelude.{◌≡◌, ℕ, [], true, IfOk, IfSome, OnOk};
-ghost use Rattle.fab_base.specs.JournalSpelling.{IsEntry};
+ghost use Rattle.fab_base.specs.JournalSpelling.{IsEntry, journal_version};
 ghost use Rattle.fab_net.specs.declared.event.Inner.TheVariants.{Begin, Resume, Deliver, Idle};
 ghost use Rattle.fab_world.specs.Machine.{Node as Standing};
 ghost use Rattle.fab_node.specs.Deeds.{HasRoomFor, IsPlanAt, IsRolePlan, MayBegin, MayGiveUp, MayResume, entry_in};
@@ -19,7 +19,7 @@ use fab_worker::WorkerPlan;
 /// A worker's plan, of a record that has a spelling.
 fn of_worker(plan: WorkerPlan) -> NodePlan
     ensures plan { result ≡ plans.Worker plan }
-    ensures spelled { IfSome plan.entry (IsEntry 1) }
+    ensures spelled { IfSome plan.entry (IsEntry journal_version) }
 {
     let _ = plan.step();
     NodePlan::Worker(plan)

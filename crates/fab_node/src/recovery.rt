@@ -2,7 +2,7 @@
 
 ghost use Rattle.std.specs.Prelude.{◌≡◌, ℕ, ◌<◌, List, [], false, length, IfOk, IsErrOf};
 ghost use Rattle.fab_base.specs.declared.entry.Entry.{Entry as AnyEntry};
-ghost use Rattle.fab_base.specs.JournalSpelling.{journal_bytes};
+ghost use Rattle.fab_base.specs.JournalSpelling.{journal_bytes, journal_version};
 ghost use Rattle.fab_device.specs.Devices.{JournalCause, KeepsSure};
 ghost use Rattle.fab_device.specs.declared.traits.JournalError.TheVariants.{Failed};
 ghost use Rattle.fab_net.specs.declared.event.Inner.TheVariants.{Recover};
@@ -27,7 +27,7 @@ use std::alloc::{AllocError, Global};
 fn whole_records(alloc: Global, _number: u16, bytes: &[u8]) -> Result<(Seq<Entry>, u64), NoMemory>
     requires { (entries : List AnyEntry) × (torn : List ℕ) × HoldsRecords _number entries torn bytes.now }
     ensures { IfOk result (λ both. (entries : List AnyEntry) (torn : List ℕ) → HoldsRecords _number entries torn bytes.now
-        → (both.0 ≡ entries) × (both.1 ≡ length (journal_bytes 1 _number entries))) }
+        → (both.0 ≡ entries) × (both.1 ≡ length (journal_bytes journal_version _number entries))) }
 {
     match read_records(alloc, bytes) {
         Ok(read) => Ok(read),

@@ -3,9 +3,9 @@
 
 ghost use Rattle.std.specs.Prelude.{◌≤◌, length, IfOk};
 
-use fab_base::{Answer, Message, NoMemory, Object, Oid, Seq, Tid, Value};
+use fab_base::{Answer, Message, NoMemory, Object, Oid, Seq, Tid, Value, Width};
 use fab_net::Step;
-use fab_rights::{ClassRights, Rights};
+use fab_rights::{ClassRights, Rights, Shape};
 use fab_store::Store;
 use fab_wire::{decode, put_oid, put_tid, put_u16, put_u32};
 use std::alloc::Global;
@@ -20,7 +20,7 @@ fn rights(alloc: Global) -> Result<Rights, NoMemory> {
             fetchers,
             writers,
             holders: 2,
-            fields: Seq::from_slice(alloc, &[None])?,
+            fields: Seq::from_slice(alloc, &[Shape::Number(Width::Int)])?,
         })?;
     }
     Ok(Rights::make(5, 2, classes))
@@ -190,7 +190,7 @@ fn a_hostile_worker_posts(rt: HostRuntime) -> Result<(), Fail> {
         fetchers: 0,
         writers: 0,
         holders: 2,
-        fields: Seq::from_slice(rt.alloc(), &[None])?,
+        fields: Seq::from_slice(rt.alloc(), &[Shape::Number(Width::Int)])?,
     })?;
     let roots = [(FIRST, holding(rt.alloc(), 0, 100)?)];
     let mut store = Store::make(rt.alloc(), 1, &Rights::make(1, 2, classes), &roots)?;

@@ -100,8 +100,7 @@ module _ (F E O : Type 0) (form : F → Form) (expression : E → Expression) (o
   form_layer f.Null = refl
   form_layer (f.Local x) = refl
   form_layer (f.Read x field site) = refl
-  form_layer (f.Negative e) = of_e e
-  form_layer (f.Not e) = of_e e
+  form_layer (f.Unary o e) = of_e e
   form_layer (f.Chain e others) =
       in_two (of_expression (expression e)) (all_of (map of_operand (map operand others))) (sites_in (expression e)) (all_sites (map in_operand (map operand others))) (of_e e) (parts_same of_operand in_operand operand of_o others)
   form_layer (f.Compared e c g) = in_two (of_expression (expression e)) (of_expression (expression g)) (sites_in (expression e)) (sites_in (expression g)) (of_e e) (of_e g)

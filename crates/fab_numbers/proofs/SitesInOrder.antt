@@ -163,12 +163,8 @@ module _ (start : Start) (locals : List Parameter) where
       order = λ k. part_is (nf.Read (local_use locals x) (field_number start locals x y) k) (nfo.Read (local_use locals x) (field_number start locals x y) k) (sym (nf.rolls-Read (local_use locals x) (field_number start locals x y) k));
       takes = λ k. omega arith;
     }
-    form_layer (f.Negative e) = record {
-      order = λ k. let v = (expression_of start locals (expression e) k).0 in part_is (nf.Negative v) (nfo.Negative v) (sym (nf.rolls-Negative v)) ∙ (of_e e).order k;
-      takes = λ k. (of_e e).takes k;
-    }
-    form_layer (f.Not e) = record {
-      order = λ k. let v = (expression_of start locals (expression e) k).0 in part_is (nf.Not v) (nfo.Not v) (sym (nf.rolls-Not v)) ∙ (of_e e).order k;
+    form_layer (f.Unary o e) = record {
+      order = λ k. let v = (expression_of start locals (expression e) k).0 in part_is (nf.Unary o v) (nfo.Unary o v) (sym (nf.rolls-Unary o v)) ∙ (of_e e).order k;
       takes = λ k. (of_e e).takes k;
     }
     form_layer (f.Chain e others) =

@@ -78,8 +78,7 @@ module _ (start : Start) (locals : List Parameter) where
     form_layer f.Null = record { takes = λ m. omega arith }
     form_layer (f.Local x) = record { takes = λ m. omega arith }
     form_layer (f.Read x y) = record { takes = λ m. omega arith }
-    form_layer (f.Negative k) = record { takes = λ m. (of_expression k).takes m }
-    form_layer (f.Not k) = record { takes = λ m. (of_expression k).takes m }
+    form_layer (f.Unary o k) = record { takes = λ m. (of_expression k).takes m }
     form_layer (f.Chain k others) = record {
       takes = λ m.
           let here = (of_expression k).takes m in

@@ -22,8 +22,7 @@ of_form (f.Number n) = []
 of_form f.Null = []
 of_form (f.Local x) = []
 of_form (f.Read x field site) = (site, x.at) ∷ []
-of_form (f.Negative e) = e
-of_form (f.Not e) = e
+of_form (f.Unary o e) = e
 of_form (f.Chain e others) = e ++ all_of others
 of_form (f.Compared e c g) = e ++ g
 

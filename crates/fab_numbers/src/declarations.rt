@@ -167,7 +167,7 @@ pub(crate) fn numbered_sort(tables: &Tables<'_>, sort: &Sort) -> NumberedSort
     ensures { result ≡ sort_of tables.now sort.now }
 {
     match sort {
-        Sort::Int => NumberedSort::Int,
+        Sort::Number(width) => NumberedSort::Number(*width),
         Sort::Class(name) => NumberedSort::Class(class_use(tables, name)),
     }
 }

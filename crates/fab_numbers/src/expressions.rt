@@ -63,13 +63,12 @@ fn numbered_form(
             field: scope.field_number(object, field),
             site: next_site(sites)?,
         }),
-        Form::Negative(operand) => {
-            let inner = numbered_boxed(alloc, scope, sites, operand)?;
-            Ok(NumberedForm::Negative(inner))
-        }
-        Form::Not(operand) => {
-            let inner = numbered_boxed(alloc, scope, sites, operand)?;
-            Ok(NumberedForm::Not(inner))
+        Form::Unary { operator, operand } => {
+            let operand = numbered_boxed(alloc, scope, sites, operand)?;
+            Ok(NumberedForm::Unary {
+                operator: *operator,
+                operand,
+            })
         }
         Form::Chain { first, others } => Ok(NumberedForm::Chain {
             first: numbered_boxed(alloc, scope, sites, first)?,

@@ -52,10 +52,18 @@ impl<'a> Declaration<'a> {
 }
 
 /// The locals of a method, with a table of their names. Contracts see them as a list.
-#[derive(Drop)]
 pub(crate) struct Locals<'a> {
     declarations: Vec<Declaration<'a>>,
     table: NameTable<'a>,
+}
+
+impl Drop for Locals<'_> {
+    fn drop(self) {
+        let Locals {
+            declarations,
+            table,
+        } = self;
+    }
 }
 
 impl<'a> Model for Locals<'a> {

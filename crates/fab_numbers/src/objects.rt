@@ -74,7 +74,7 @@ fn value(tables: &Tables<'_>, literal: &Literal) -> Value
     ensures { result ≡ value_of tables.now literal.now }
 {
     match literal {
-        Literal::Int(number) => Value::Int(*number),
+        Literal::Number(number) => number.value(),
         Literal::Null => Value::Null,
         Literal::Root(name) => reference(tables, name),
     }

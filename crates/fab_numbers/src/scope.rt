@@ -10,11 +10,16 @@ use fab_tree::{Name, Sort};
 
 /// The tables of a bundle, whose classes have so few fields that their numbers fit, and the locals of
 /// one of its methods.
-#[derive(Drop)]
 pub(crate) struct Scope<'t, 'a> {
     pub(crate) tables: &'t Tables<'a>,
     pub(crate) locals: Locals<'a>,
     ghost fields: { greatest (map (λ c. length c.fields) tables.now.program.classes) ≤ 16 },
+}
+
+impl<'t, 'a> Drop for Scope<'t, 'a> {
+    fn drop(self) {
+        let Scope { tables, locals } = self;
+    }
 }
 
 impl Scope<'_, '_> {
@@ -32,7 +37,7 @@ impl Scope<'_, '_> {
         ensures { result ≡ number_of field_name (fields_of_sort self.now.tables.now sort.now) field.now }
     {
         match sort {
-            Sort::Int => 0,
+            Sort::Number(_) => 0,
             Sort::Class(class) => self.field_in(class, field),
         }
     }

@@ -107,8 +107,8 @@ module _ (S : Setting) where
 
   cut_failed : (keep : ℕ) (entry : Option Entry) (node : Node) → failed (cut S keep entry node) ≡ failed node
   cut_failed keep entry node =
-      elim (keep == length (record_behind node.entries entry)) as (λ b. failed (cond b (record node { entries = node.entries ++ option_list entry })
-      (record node { torn = take keep (record_behind node.entries entry) })) ≡ failed node) [ true ↦ refl | false ↦ refl ]
+      elim (keep == length (record_behind node.first node.entries entry)) as (λ b. failed (cond b (record node { entries = node.entries ++ option_list entry })
+      (record node { torn = take keep (record_behind node.first node.entries entry) })) ≡ failed node) [ true ↦ refl | false ↦ refl ]
 
   -- a journal call failed before, or it fails in the move
   pub failed_steps : (w : World) (form : Form) (n : ℕ) → failed ((steps S w form).node n) ≡ failed (w.node n) || fails n form

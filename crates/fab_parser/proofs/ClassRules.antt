@@ -1,5 +1,6 @@
 -- Classes and their fields, part by part.
 use Rattle.std.proofs.Common.{◌≡◌, ℕ, List, refl}
+use Rattle.fab_base.specs.declared.object.Width.TheVariants as widths
 use Rattle.fab_base.specs.declared.token.Mark.TheVariants as m
 use Rattle.fab_base.specs.declared.token.Token.{Token}
 use Rattle.fab_tree.specs.declared.name.Name.{Name}
@@ -8,7 +9,7 @@ use Rattle.fab_tree.specs.declared.declaration.Sort.TheVariants as sorts
 use Rattle.fab_tree.specs.declared.declaration.Field.{Field}
 use Rattle.fab_tree.specs.declared.declaration.Class.{Class}
 use Rattle.fab_tree.specs.Lists.{Is, IsName, name, Repeated}
-use Rattle.fab_tree.specs.Declarations.{IsSort, int, class, IsField, field, IsClass}
+use Rattle.fab_tree.specs.Declarations.{IsSort, number, class, IsField, field, IsClass}
 use Rattle.fab_reading.specs.Reading.{Lacks, BeginsWith, Read, any}
 use Rattle.fab_reading.proofs.Rules.{Then, Sign, Going, followed, lacks_too, start, turn}
 use Rattle.fab_reading.proofs.TokenRules.{mark_read}
@@ -16,15 +17,15 @@ use Rattle.fab_parser.proofs.Chains.{chain}
 
 -- ---- sort = "int" | name
 
-sort_int : {a : List Token} {v : Sort} {b : List Token} → BeginsWith m.Int a → IsSort a v b → (v ≡ sorts.Int) × Is m.Int a b
-sort_int e (int i) = (refl, i)
+sort_int : {a : List Token} {v : Sort} {b : List Token} → BeginsWith m.Int a → IsSort a v b → (v ≡ sorts.Number widths.Int) × Is m.Int a b
+sort_int e (number {w = widths.Int} i) = (refl, i)
 sort_int e (class (name g)) = absurd (cc)
 
-pub int_read : {room : ℕ} {a b : List Token} → Is m.Int a b → Read IsSort any room a sorts.Int b
-int_read i = mark_read m.Int i refl (λ x y. int) (λ x v y. sort_int)
+pub int_read : {room : ℕ} {a b : List Token} → Is m.Int a b → Read IsSort any room a (sorts.Number widths.Int) b
+int_read i = mark_read m.Int i refl (λ x y. number {w = widths.Int}) (λ x v y. sort_int)
 
 named_back : {a : List Token} {v : Sort} {b : List Token} → Lacks m.Int a → IsSort a v b → (x : Name) × (v ≡ sorts.Class x) × IsName a x b
-named_back h (int i) = absurd (h _ i)
+named_back h (number {w = widths.Int} i) = absurd (h _ i)
 named_back h (class {x = x} i) = (x, refl, i)
 
 pub named_start : {room : ℕ} (a : List Token) → Lacks m.Int a → Going IsSort any room a IsName sorts.Class room a

@@ -16,6 +16,7 @@ use Rattle.fab_tree.specs.declared.expression.Level.{Level}
 use Rattle.fab_tree.specs.declared.expression.Operator.{Operator}
 use Rattle.fab_tree.specs.declared.expression.Comparison.{Comparison}
 use Rattle.fab_tree.specs.declared.expression.Expression.{Expression}
+use Rattle.fab_tree.specs.declared.expression.Number.{Number}
 use Rattle.fab_tree.specs.declared.expression.Operand.{Operand}
 use Rattle.fab_tree.specs.declared.statement.Downgrade.{Downgrade}
 use Rattle.fab_tree.specs.declared.statement.Right.{Right}
@@ -24,7 +25,7 @@ use Rattle.fab_tree.specs.declared.program.Parameter.{Parameter}
 use Rattle.fab_tree.specs.declared.program.Returns.{Returns}
 use Rattle.fab_tree.specs.declared.program.Return.{Return}
 use Rattle.fab_tree.specs.declared.program.Method.{Method}
-use Rattle.fab_tree.specs.Lists.{Is, is, IsName, name, IsNumeral, numeral, Repeated, no_more, one_more, Behind, behind, Perhaps, without, with_it, Separated, none, some}
+use Rattle.fab_tree.specs.Lists.{Is, is, IsName, name, IsNumeral, numeral, IsNumber, int, IsLeast, least_int, Repeated, no_more, one_more, Behind, behind, Perhaps, without, with_it, Separated, none, some}
 use Rattle.fab_tree.specs.Declarations.{IsMachine, IsRole, IsNode, IsDelegation, IsAspect, IsPolicy, IsLabel, IsSort, IsField, IsClass}
 use Rattle.fab_tree.specs.Declarations as declared
 use Rattle.fab_tree.specs.Expressions.{IsComparison, IsOperator, IsChain, IsOthers, IsOperand, IsCompared, IsUnary, IsPrimary}
@@ -43,6 +44,12 @@ module _ (c : List Token) where
 
   longer_numeral : {a : List Token} {t : ℕ} {b : List Token} → IsNumeral a t b → IsNumeral (a ++ c) t (b ++ c)
   longer_numeral (numeral e h) = numeral e h
+
+  longer_number : {a : List Token} {t : Number} {b : List Token} → IsNumber a t b → IsNumber (a ++ c) t (b ++ c)
+  longer_number (int p0) = int (longer_numeral p0)
+
+  longer_least : {a : List Token} {t : Number} {b : List Token} → IsLeast a t b → IsLeast (a ++ c) t (b ++ c)
+  longer_least (least_int e) = least_int e
 
   pub longer_repeated : {A : Type 0} {P : List Token → A → List Token → Type 0} → ((a : List Token) (t : A) (b : List Token) → P a t b → P (a ++ c) t (b ++ c)) → {a : List Token} {t : List A} {b : List Token} → Repeated P a t b → Repeated P (a ++ c) t (b ++ c)
   longer_repeated item no_more = no_more
@@ -85,7 +92,7 @@ module _ (c : List Token) where
   longer_label (declared.label p0 p1 p2 p3 p4 p5 p6) = declared.label (longer_is p0) (longer_name p1) (longer_is p2) (longer_is p3) (longer_separated (λ x t y. longer_policy) p4) (longer_is p5) (longer_is p6)
 
   longer_sort : {a : List Token} {t : Sort} {b : List Token} → IsSort a t b → IsSort (a ++ c) t (b ++ c)
-  longer_sort (declared.int p0) = declared.int (longer_is p0)
+  longer_sort (declared.number {w = w} p0) = declared.number {w = w} (longer_is p0)
   longer_sort (declared.class p0) = declared.class (longer_name p0)
 
   longer_field : {a : List Token} {t : Field} {b : List Token} → IsField a t b → IsField (a ++ c) t (b ++ c)
@@ -130,12 +137,11 @@ module _ (c : List Token) where
 
     longer_unary : {a : List Token} {t : Expression} {b : List Token} → IsUnary a t b → IsUnary (a ++ c) t (b ++ c)
     longer_unary (ex.primary p0) = ex.primary (longer_primary p0)
-    longer_unary (ex.negative p0 p1) = ex.negative (longer_is p0) (longer_primary p1)
-    longer_unary (ex.contrary p0 p1) = ex.contrary (longer_is p0) (longer_primary p1)
-    longer_unary (ex.least p0 p1) = ex.least (longer_is p0) p1
+    longer_unary (ex.signed {x = x} p0 p1) = ex.signed {x = x} (longer_is p0) (longer_primary p1)
+    longer_unary (ex.least p0 p1) = ex.least (longer_is p0) (longer_least p1)
 
     longer_primary : {a : List Token} {t : Expression} {b : List Token} → IsPrimary a t b → IsPrimary (a ++ c) t (b ++ c)
-    longer_primary (ex.number p0) = ex.number (longer_numeral p0)
+    longer_primary (ex.number p0) = ex.number (longer_number p0)
     longer_primary (ex.null p0) = ex.null (longer_is p0)
     longer_primary (ex.local p0) = ex.local (longer_name p0)
     longer_primary (ex.read p0 p1 p2) = ex.read (longer_name p0) (longer_is p1) (longer_name p2)

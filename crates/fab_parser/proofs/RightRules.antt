@@ -1,6 +1,5 @@
 -- What is assigned, part by part.
 use Rattle.std.proofs.Common.{IsTrue, List, [], ap, refl, subst, sym, ℕ, ◌∙◌, ◌∷◌, ◌≡◌}
-use Rattle.std.proofs.lemmas.Bool.{lt-ltb}
 use Rattle.fab_base.specs.declared.token.Kind.{Kind}
 use Rattle.fab_base.specs.declared.token.Kind.TheVariants as k
 use Rattle.fab_base.specs.declared.token.Mark.{Mark}
@@ -20,7 +19,7 @@ use Rattle.fab_tree.specs.declared.statement.Right.{Right}
 use Rattle.fab_tree.specs.declared.statement.Right.TheVariants as rights
 use Rattle.fab_tree.specs.Expressions.{IsArguments, IsExpression, expression_at}
 use Rattle.fab_tree.specs.Expressions as fex
-use Rattle.fab_tree.specs.Lists.{Is, IsName, is, name, none, numeral}
+use Rattle.fab_tree.specs.Lists.{Is, IsName, int, is, name, none, numeral}
 use Rattle.fab_tree.specs.Statements.{IsDowngrade, IsRight, call, declassify, downgrade, endorse, new, plain}
 use Rattle.fab_reading.specs.Reading.{BeginsWith, Follows, Lacks, Read, SameHead, Starts, Stops, any, begins_name, first_place}
 use Rattle.fab_reading.specs.declared.refusal.Refusal.{Refusal}
@@ -28,7 +27,8 @@ use Rattle.fab_reading.specs.declared.refusal.Refusal.TheVariants as refusal
 use Rattle.fab_reading.proofs.ListRules.{weaker}
 use Rattle.fab_reading.proofs.Rules.{Going, HasText, SameTwo, Sign, Then, begins_at, begins_too, followed, lacks_too, never, starts_too, token_of}
 use Rattle.fab_reading.proofs.TokenRules.{name_only}
-use Rattle.fab_expressions.specs.Pieces.{after_expression, begins_expression, begins_primary}
+use Rattle.fab_expressions.specs.Firsts.{expression_begins}
+use Rattle.fab_expressions.specs.Pieces.{after_expression, begins_expression}
 use Rattle.fab_parser.specs.Pieces.{BeginsCall, Bracketed, IsCalled, IsCreated, IsLowered, after_right, begins_arguments, begins_downgrade, bracketed, called, created, lowered}
 use Rattle.fab_parser.proofs.Chains.{chain}
 use Rattle.fab_parser.proofs.PartRules.{behind_part, behind_word, chosen, chosen_deep, chosen_refused, read_here, two_heads}
@@ -50,44 +50,6 @@ expression_text = (any_name ∷ [], local_at 0 [], name_expression refl)
 
 pub given_text : HasText (Bracketed IsArguments)
 given_text = (token_of m.LeftParen ∷ token_of m.RightParen ∷ [], [], λ after. bracketed (is refl) none (is refl))
-
-primary_begins : {a : List Token} {t : Expression} {b : List Token} → fex.IsPrimary a t b → Starts begins_primary a
-primary_begins (fex.number (numeral {n = n} e h)) = subst (λ x. IsTrue (begins_primary x)) (sym e) (lt-ltb n 2147483648 h)
-primary_begins (fex.null (is e)) = subst (λ x. IsTrue (begins_primary x)) (sym e) refl
-primary_begins (fex.local (name e)) = subst (λ x. IsTrue (begins_primary x)) (sym e) refl
-primary_begins (fex.read (name e) i p) = subst (λ x. IsTrue (begins_primary x)) (sym e) refl
-primary_begins (fex.brackets (is e) p i) = subst (λ x. IsTrue (begins_primary x)) (sym e) refl
-
-primary_first : (x : Kind) → IsTrue (begins_primary x) → IsTrue (begins_expression x)
-primary_first (k.Fixed m.Minus) h = refl
-primary_first (k.Fixed m.Bang) h = refl
-primary_first x h = h
-
-primary_starts : (a : List Token) → Starts begins_primary a → Starts begins_expression a
-primary_starts [] s = s
-primary_starts (t ∷ ts) s = primary_first t.kind s
-
-unary_begins : {a : List Token} {t : Expression} {b : List Token} → fex.IsUnary a t b → Starts begins_expression a
-unary_begins {a = a} (fex.primary p) = primary_starts a (primary_begins p)
-unary_begins (fex.negative (is e) p) = subst (λ x. IsTrue (begins_expression x)) (sym e) refl
-unary_begins (fex.contrary (is e) p) = subst (λ x. IsTrue (begins_expression x)) (sym e) refl
-unary_begins (fex.least (is e) h) = subst (λ x. IsTrue (begins_expression x)) (sym e) refl
-
-product_begins : {a : List Token} {t : Expression} {b : List Token} → fex.IsChain level.Product a t b → Starts begins_expression a
-product_begins (fex.chain (fex.of_product p) q) = unary_begins p
-
-sum_begins : {a : List Token} {t : Expression} {b : List Token} → fex.IsChain level.Sum a t b → Starts begins_expression a
-sum_begins (fex.chain (fex.of_sum p) q) = product_begins p
-
-compared_begins : {a : List Token} {t : Expression} {b : List Token} → fex.IsCompared a t b → Starts begins_expression a
-compared_begins (fex.alone p) = sum_begins p
-compared_begins (fex.compared p i q) = sum_begins p
-
-and_begins : {a : List Token} {t : Expression} {b : List Token} → fex.IsChain level.And a t b → Starts begins_expression a
-and_begins (fex.chain (fex.of_and p) q) = compared_begins p
-
-expression_begins : (a : List Token) (t : Expression) (b : List Token) → IsExpression a t b → Starts begins_expression a
-expression_begins a t b (fex.chain (fex.of_or p) q) = and_begins p
 
 -- ---- a name before an opening bracket is an expression by itself
 
@@ -115,7 +77,7 @@ no_others h e fex.no_other = e
 no_others h e (fex.one_other i p q) = absurd (no_operator (subst (λ x. BeginsWith m.LeftParen x) (sym e) h) i)
 
 primary_alone : {t : Token} {x : List ℕ} {more : List Token} {u : Expression} {b : List Token} → t.kind ≡ k.Name x → BeginsWith m.LeftParen more → fex.IsPrimary (t ∷ more) u b → b ≡ more
-primary_alone e h (fex.number (numeral g i)) = absurd (cc)
+primary_alone e h (fex.number (int (numeral g i))) = absurd (cc)
 primary_alone e h (fex.null (is g)) = absurd (cc)
 primary_alone e h (fex.local (name g)) = refl
 primary_alone e h (fex.read (name g) i p) = absurd (no_dot h i)
@@ -123,9 +85,8 @@ primary_alone e h (fex.brackets (is g) p i) = absurd (cc)
 
 unary_alone : {t : Token} {x : List ℕ} {more : List Token} {u : Expression} {b : List Token} → t.kind ≡ k.Name x → BeginsWith m.LeftParen more → fex.IsUnary (t ∷ more) u b → b ≡ more
 unary_alone e h (fex.primary p) = primary_alone e h p
-unary_alone e h (fex.negative (is g) p) = absurd (cc)
-unary_alone e h (fex.contrary (is g) p) = absurd (cc)
-unary_alone e h (fex.least (is g) i) = absurd (cc)
+unary_alone e h (fex.signed (is g) p) = absurd (cc)
+unary_alone e h (fex.least (is g) p) = absurd (cc)
 
 product_alone : {t : Token} {x : List ℕ} {more : List Token} {u : Expression} {b : List Token} → t.kind ≡ k.Name x → BeginsWith m.LeftParen more → fex.IsChain level.Product (t ∷ more) u b → b ≡ more
 product_alone e h (fex.chain (fex.of_product p) q) = no_others h (unary_alone e h p) q

@@ -2,6 +2,7 @@
 use Rattle.std.proofs.Common.{Bool, IsTrue, List, Some, [], length, refl, subst, sym, ℕ, ◌∷◌, ◌≡◌}
 use Rattle.fab_base.specs.declared.token.Kind.{Kind}
 use Rattle.fab_base.specs.declared.token.Kind.TheVariants as k
+use Rattle.fab_base.specs.declared.object.Width.TheVariants as widths
 use Rattle.fab_base.specs.declared.token.Mark.{Mark}
 use Rattle.fab_base.specs.declared.token.Mark.TheVariants as m
 use Rattle.fab_base.specs.declared.token.Token.{Token}
@@ -9,7 +10,7 @@ use Rattle.fab_tree.specs.declared.declaration.Sort.TheVariants as sorts
 use Rattle.fab_tree.specs.declared.name.Name.{Name}
 use Rattle.fab_tree.specs.declared.statement.Statement.{Statement}
 use Rattle.fab_tree.specs.declared.statement.Statement.TheVariants as forms
-use Rattle.fab_tree.specs.Declarations.{class, int}
+use Rattle.fab_tree.specs.Declarations.{class, number}
 use Rattle.fab_tree.specs.Depth.{room_by}
 use Rattle.fab_tree.specs.Lists.{Is, IsName, Repeated, ended, is, name}
 use Rattle.fab_tree.specs.Statements.{IsStatement, assign, atomic, call, choice, declare, fail, loop, write}
@@ -31,7 +32,7 @@ pub data Tail (x : Name) : List Token → Statement → List Token → Type 0 wh
 -- What stands behind the first token of a statement, which stands at a place.
 data Begun : Kind → ℕ → List Token → Statement → List Token → Type 0 where
   by_name : {x : List ℕ} {at : ℕ} {a b : List Token} {u : Statement} → Tail (record { text = x; at = at }) a u b → Begun (k.Name x) at a u b
-  by_int : {at : ℕ} {a b : List Token} {u : Statement} → IsDeclared sorts.Int at a u b → Begun (k.Fixed m.Int) at a u b
+  by_int : {at : ℕ} {a b : List Token} {u : Statement} → IsDeclared (sorts.Number widths.Int) at a u b → Begun (k.Fixed m.Int) at a u b
   by_if : {at : ℕ} {a b : List Token} {u : Statement} → IsChoice a u b → Begun (k.Fixed m.If) at a u b
   by_while : {at : ℕ} {a b : List Token} {u : Statement} → IsLoop a u b → Begun (k.Fixed m.While) at a u b
   by_atomic : {at : ℕ} {a b : List Token} {u : Statement} → IsAttempt at a u b → Begun (k.Fixed m.Atomic) at a u b
@@ -41,7 +42,7 @@ begun_at : (t : Token) {more b : List Token} {u : Statement} (x : Kind) → t.ki
 begun_at t {more = more} {b = b} {u = u} x e d = subst (λ y. Begun y t.at more u b) (sym e) d
 
 begun : {t : Token} {more b : List Token} {u : Statement} → IsStatement (t ∷ more) u b → Begun t.kind t.at more u b
-begun {t = t} (declare (int (is e)) p i q j r l) = begun_at t (k.Fixed m.Int) e (by_int (declared p i q j (ended r l)))
+begun {t = t} (declare (number {w = widths.Int} (is e)) p i q j r l) = begun_at t (k.Fixed m.Int) e (by_int (declared p i q j (ended r l)))
 begun {t = t} (declare (class (name {x = x} e)) p i q j r l) = begun_at t (k.Name x) e (by_name (declares (declared p i q j (ended r l))))
 begun {t = t} (assign (name {x = x} e) i p j) = begun_at t (k.Name x) e (by_name (assigns i (assigned p j)))
 begun {t = t} (write (name {x = x} e) i p j q l) = begun_at t (k.Name x) e (by_name (writes i (written p j (ended q l))))
@@ -113,10 +114,10 @@ module _ {A : Type 0} {R : List Token → A → List Token → Type 0} {may : Ki
 
 -- ---- statements that begin with a word
 
-int_made : {t : Token} {more b : List Token} {u : Statement} → t.kind ≡ k.Fixed m.Int → IsDeclared sorts.Int t.at more u b → IsStatement (t ∷ more) u b
-int_made e (declared p i q j (ended r l)) = declare (int (is e)) p i q j r l
+int_made : {t : Token} {more b : List Token} {u : Statement} → t.kind ≡ k.Fixed m.Int → IsDeclared (sorts.Number widths.Int) t.at more u b → IsStatement (t ∷ more) u b
+int_made e (declared p i q j (ended r l)) = declare (number {w = widths.Int} (is e)) p i q j r l
 
-only_int : {at : ℕ} {a b : List Token} {u : Statement} → Begun (k.Fixed m.Int) at a u b → IsDeclared sorts.Int at a u b
+only_int : {at : ℕ} {a b : List Token} {u : Statement} → Begun (k.Fixed m.Int) at a u b → IsDeclared (sorts.Number widths.Int) at a u b
 only_int (by_int d) = d
 
 if_made : {t : Token} {more b : List Token} {u : Statement} → t.kind ≡ k.Fixed m.If → IsChoice more u b → IsStatement (t ∷ more) u b
@@ -150,8 +151,8 @@ module _ {room at : ℕ} {a c : List Token} where
       → Going IsStatement after_statement room a (S at) (λ v. v) room c
   word_start S mark level made only e i = behind_word S e i level (λ t g more v after. made t more after v g) (λ t g more u after d. only t.at more after u (begun_as (k.Fixed mark) g d))
 
-  pub int_start : at ≡ first_place a → Is m.Int a c → Going IsStatement after_statement room a (IsDeclared sorts.Int at) (λ v. v) room c
-  int_start = word_start (λ at. IsDeclared sorts.Int at) m.Int refl (λ t more b u. int_made) (λ at x b u. only_int)
+  pub int_start : at ≡ first_place a → Is m.Int a c → Going IsStatement after_statement room a (IsDeclared (sorts.Number widths.Int) at) (λ v. v) room c
+  int_start = word_start (λ at. IsDeclared (sorts.Number widths.Int) at) m.Int refl (λ t more b u. int_made) (λ at x b u. only_int)
 
   pub if_start : at ≡ first_place a → Is m.If a c → Going IsStatement after_statement room a IsChoice (λ v. v) room c
   if_start = word_start (λ at. IsChoice) m.If refl (λ t more b u. if_made) (λ at x b u. only_if)
@@ -168,7 +169,7 @@ module _ {room at : ℕ} {a c : List Token} where
 -- ---- what a statement begins with, and what may follow one
 
 pub statement_begins : (a : List Token) (t : Statement) (b : List Token) → IsStatement a t b → Starts begins_statement a
-statement_begins a t b (declare (int (is e)) p i q j r l) = subst (λ x. IsTrue (begins_statement x)) (sym e) refl
+statement_begins a t b (declare (number {w = widths.Int} (is e)) p i q j r l) = subst (λ x. IsTrue (begins_statement x)) (sym e) refl
 statement_begins a t b (declare (class (name e)) p i q j r l) = subst (λ x. IsTrue (begins_statement x)) (sym e) refl
 statement_begins a t b (assign (name e) i p j) = subst (λ x. IsTrue (begins_statement x)) (sym e) refl
 statement_begins a t b (write (name e) i p j q l) = subst (λ x. IsTrue (begins_statement x)) (sym e) refl

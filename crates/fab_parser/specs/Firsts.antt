@@ -1,5 +1,6 @@
 -- What each rule that can be repeated begins with.
 use Rattle.std.proofs.Common.{IsTrue, List, refl, sym, subst}
+use Rattle.fab_base.specs.declared.object.Width.TheVariants as widths
 use Rattle.fab_base.specs.declared.token.Token.{Token}
 use Rattle.fab_tree.specs.declared.declaration.Delegation.{Delegation}
 use Rattle.fab_tree.specs.declared.declaration.LabelText.{LabelText}
@@ -11,7 +12,7 @@ use Rattle.fab_tree.specs.declared.declaration.Class.{Class}
 use Rattle.fab_tree.specs.declared.program.Parameter.{Parameter}
 use Rattle.fab_tree.specs.declared.program.Method.{Method}
 use Rattle.fab_tree.specs.Lists.{is, name}
-use Rattle.fab_tree.specs.Declarations.{worker, store, principal, honest, hostile, IsNode, node, IsDelegation, delegation, IsPolicy, policy, IsLabel, label, IsSort, int, class, IsField, field, IsClass}
+use Rattle.fab_tree.specs.Declarations.{worker, store, principal, honest, hostile, IsNode, node, IsDelegation, delegation, IsPolicy, policy, IsLabel, label, IsSort, number, class, IsField, field, IsClass}
 use Rattle.fab_tree.specs.Programs.{IsParameter, parameter, IsMethod, method}
 use Rattle.fab_reading.specs.Reading.{Starts, begins_node, begins_name, begins_label, begins_class, begins_method, begins_sort}
 
@@ -31,7 +32,7 @@ pub label_begins : (a : List Token) (v : LabelText) (b : List Token) → IsLabel
 label_begins a v b (label (is e) p q r s t u) = subst (λ x. IsTrue (begins_label x)) (sym e) refl
 
 pub sort_begins : (a : List Token) (v : Sort) (b : List Token) → IsSort a v b → Starts begins_sort a
-sort_begins a v b (int (is e)) = subst (λ x. IsTrue (begins_sort x)) (sym e) refl
+sort_begins a v b (number {w = widths.Int} (is e)) = subst (λ x. IsTrue (begins_sort x)) (sym e) refl
 sort_begins a v b (class (name e)) = subst (λ x. IsTrue (begins_sort x)) (sym e) refl
 
 pub field_begins : (a : List Token) (v : Field) (b : List Token) → IsField a v b → Starts begins_sort a

@@ -3,7 +3,7 @@ ghost use Rattle.std.specs.Prelude.{◌≡◌, ◌↔◌, IsTrue, MatchResult};
 ghost use Rattle.fab_tree.specs.Declarations.{IsSort, IsField, IsClass};
 ghost use Rattle.fab_reading.specs.Reading.{Read, Stops, Starts, any, begins_sort, begins_class};
 
-use fab_base::{Kind, Mark, Token};
+use fab_base::{Kind, Mark, Token, Width};
 use fab_reading::{Refusal, Rule, behind, name, next, open, repeated, sign};
 use fab_tree::{Class, Field, Sort};
 use std::alloc::Global;
@@ -13,7 +13,7 @@ pub fn sort(alloc: Global, tokens: &[Token], room: u8) -> Result<(Sort, &[Token]
     ensures { MatchResult result (λ x. Read IsSort any room tokens.now x.0 x.1.now) (λ e. Stops IsSort any room tokens.now e) }
 {
     match behind(tokens, Mark::Int) {
-        Some(rest) => Ok((Sort::Int, rest)),
+        Some(rest) => Ok((Sort::Number(Width::Int), rest)),
         None => {
             let (class, rest) = name(alloc, tokens, room)?;
             Ok((Sort::Class(class), rest))

@@ -6,7 +6,7 @@ ghost use Rattle.fab_reading.specs.Reading.{Read, Stops, Starts, any, begins_nam
 ghost use Rattle.fab_parser.specs.Pieces.{IsValue, IsDeclared, IsAssigned, IsWritten, IsRequested, IsChoice, IsLoop, IsAttempt, IsFailure, begins_statement, after_statement, behind_statements};
 
 use crate::rights::{condition, given, right};
-use fab_base::{Kind, Mark, Seq, Token};
+use fab_base::{Kind, Mark, Seq, Token, Width};
 use fab_expressions::expression;
 use fab_reading::{Refusal, added, behind, fitted, name, next, open, place, sign, starts_name};
 use fab_tree::{Expression, Name, Sort, Statement};
@@ -145,7 +145,7 @@ fn statement(alloc: Global, tokens: &[Token], room: u8) -> Result<(Statement, &[
         return named(alloc, tokens, room);
     }
     if let Some(rest) = behind(tokens, Mark::Int) {
-        return declared(alloc, rest, room, Sort::Int, at);
+        return declared(alloc, rest, room, Sort::Number(Width::Int), at);
     }
     if let Some(rest) = behind(tokens, Mark::If) {
         return choice(alloc, rest, room);

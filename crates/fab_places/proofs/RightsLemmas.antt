@@ -18,8 +18,9 @@ use Rattle.fab_labelling.specs.Readers.{IsReader, IsWriter, IsNode, label_at, pr
 use Rattle.fab_labelling.specs.Placement.{IsWorker, IsStore, FetchesClass, WritesClass, HoldsClass, MayHoldNumber}
 use Rattle.fab_rights.specs.declared.rights.ClassRights.{ClassRights}
 use Rattle.fab_rights.specs.declared.rights.Rights.{Rights}
+use Rattle.fab_rights.specs.declared.rights.Shape.{Shape}
 use Rattle.fab_rights.specs.Rights.{FitsField}
-use Rattle.fab_places.specs.Places.{AreRights, HasNumbers, kind_of, kind_of_sort, MayContain}
+use Rattle.fab_places.specs.Places.{AreRights, HasNumbers, shape_of, shape_of_sort, MayContain}
 use Rattle.fab_places.specs.ClassRights.{IsClassRights}
 use Rattle.fab_places.proofs.Bits.{in_both}
 use Rattle.fab_places.proofs.NodeLemmas.{numbered, role_is_node}
@@ -81,7 +82,7 @@ module _ (r : Resolved) (class : Class) (numbers : HasNumbers r)
         ),
   )
 
-  pub class_rights_are : (fields : List (Option ℕ)) → fields ≡ map kind_of class.fields
+  pub class_rights_are : (fields : List Shape) → fields ≡ map shape_of class.fields
       → IsClassRights r class (record { fetchers = bit_and workers readers; writers = bit_and (bit_and workers readers) writers; holders = bit_and (bit_and (bit_and stores readers) learners) writers; fields = fields })
   class_rights_are fields kinds = record { fetchers = fetching; writers = writing; holders = holding; fields = kinds }
 
@@ -95,14 +96,14 @@ at_number R P Q same (x ∷ xs) [] all k = absurd all
 at_number R P Q same (x ∷ xs) (y ∷ ys) all zero = same x y all.0
 at_number R P Q same (x ∷ xs) (y ∷ ys) all (suc k) = at_number R P Q same xs ys all.1 k
 
--- each class has its fields' kinds
-all_kinds : (r : Resolved) (cs : List Class) (xs : List ClassRights) → AllZip (IsClassRights r) cs xs → map (λ x. x.fields) xs ≡ map (λ c. map kind_of c.fields) cs
-all_kinds r [] [] all = refl
-all_kinds r [] (x ∷ xs) all = absurd all
-all_kinds r (c ∷ cs) [] all = absurd all
-all_kinds r (c ∷ cs) (x ∷ xs) all =
-    let here : x.fields ≡ map kind_of c.fields = all.0.fields in
-    let rest : map (λ (y : ClassRights). y.fields) xs ≡ map (λ (k : Class). map kind_of k.fields) cs = all_kinds r cs xs all.1 in
+-- each class has its fields' shapes
+all_shapes : (r : Resolved) (cs : List Class) (xs : List ClassRights) → AllZip (IsClassRights r) cs xs → map (λ x. x.fields) xs ≡ map (λ c. map shape_of c.fields) cs
+all_shapes r [] [] all = refl
+all_shapes r [] (x ∷ xs) all = absurd all
+all_shapes r (c ∷ cs) [] all = absurd all
+all_shapes r (c ∷ cs) (x ∷ xs) all =
+    let here : x.fields ≡ map shape_of c.fields = all.0.fields in
+    let rest : map (λ (y : ClassRights). y.fields) xs ≡ map (λ (k : Class). map shape_of k.fields) cs = all_shapes r cs xs all.1 in
     cc
 
 -- what doesn't speak of the element
@@ -115,16 +116,14 @@ both_iff one two = (λ a. two.0 (one.0 a), λ c. one.1 (two.1 c))
 
 -- a field of rights holds what one of the class may contain
 fits_field : (r : Resolved) (rights : Rights) → ((n c : ℕ) → IsSomeAnd (slice_get rights.classes c) (λ x. IsBitSet x.holders n) ↔ MayHoldNumber r (delegations_of r) n c) → (s : Sort) (v : Value)
-    → FitsField rights (kind_of_sort s) v ↔ MayContain r s v
-fits_field r rights held sorts.Int (Int n) = (λ h. h, λ h. h)
-fits_field r rights held sorts.Int Null = (λ h. h, λ h. h)
-fits_field r rights held sorts.Int (Ref o) = (λ h. h, λ h. h)
+    → FitsField rights (shape_of_sort s) v ↔ MayContain r s v
+fits_field r rights held (sorts.Number w) v = (λ h. h, λ h. h)
 fits_field r rights held (sorts.Class x) (Int n) = (λ h. h, λ h. h)
 fits_field r rights held (sorts.Class x) Null = (λ h. h, λ h. h)
 fits_field r rights held (sorts.Class x) (Ref o) = (λ h. (h.0, (held o.store o.class).0 h.1), λ h. (h.0, (held o.store o.class).1 h.1))
 
 fit_fields : (r : Resolved) (rights : Rights) → ((n c : ℕ) → IsSomeAnd (slice_get rights.classes c) (λ x. IsBitSet x.holders n) ↔ MayHoldNumber r (delegations_of r) n c) → (fs : List Field) (vs : List Value)
-    → AllZip (FitsField rights) (map kind_of fs) vs ↔ AllZip (λ f v. MayContain r f.sort v) fs vs
+    → AllZip (FitsField rights) (map shape_of fs) vs ↔ AllZip (λ f v. MayContain r f.sort v) fs vs
 fit_fields r rights held [] [] = (λ h. h, λ h. h)
 fit_fields r rights held [] (v ∷ vs) = (λ h. h, λ h. h)
 fit_fields r rights held (f ∷ fs) [] = (λ h. h, λ h. h)
@@ -152,7 +151,7 @@ module _ (r : Resolved) (rights : Rights) (numbers : HasNumbers r)
 
   formed : (x : Object) → IsSomeAnd (slice_get rights.classes x.class) (λ c. AllZip (FitsField rights) c.fields x.fields) ↔ IsSomeAnd (slice_get r.classes x.class) (λ c. AllZip (λ f v. MayContain r f.sort v) c.fields x.fields)
   formed x = at_number (IsClassRights r) (λ c. AllZip (FitsField rights) c.fields x.fields) (λ c. AllZip (λ f v. MayContain r f.sort v) c.fields x.fields)
-      (λ k c is. subst (λ (fs : List (Option ℕ)). AllZip (FitsField rights) fs x.fields ↔ AllZip (λ f v. MayContain r f.sort v) k.fields x.fields) (sym is.fields) (fit_fields r rights held k.fields x.fields))
+      (λ k c is. subst (λ (fs : List Shape). AllZip (FitsField rights) fs x.fields ↔ AllZip (λ f v. MayContain r f.sort v) k.fields x.fields) (sym is.fields) (fit_fields r rights held k.fields x.fields))
       r.classes rights.classes all x.class
 
   pub rights_are : AreRights r rights
@@ -162,7 +161,7 @@ module _ (r : Resolved) (rights : Rights) (numbers : HasNumbers r)
         workers = λ n. (λ bit. ((is_workers n).0 bit).1, λ worker. (is_workers n).1 (numbered r n numbers (role_is_node r n (λ x. is_worker x ≡ true) worker), worker));
         stores = λ n. (λ bit. ((is_stores n).0 bit).1, λ store. (is_stores n).1 (numbered r n numbers (role_is_node r n (λ x. is_store x ≡ true) store), store));
         classes = λ c. (λ known. omega (arith, long, known), λ known. omega (arith, long, known));
-        kinds = all_kinds r r.classes rights.classes all;
+        shapes = all_shapes r r.classes rights.classes all;
         fetched = fetched;
         written = written;
         held = held;

@@ -2,34 +2,34 @@
 
 ghost use Rattle.std.specs.Prelude.{◌≡◌, ℕ, ◌<◌, ◌≤◌, IfOk, IfSome, All, length, map};
 ghost use Rattle.fab_language.specs.Flows.{delegations_of};
-ghost use Rattle.fab_places.specs.Places.{AreRights, HasNumbers, kind_of};
+ghost use Rattle.fab_places.specs.Places.{AreRights, HasNumbers, shape_of};
 ghost use Rattle.fab_places.specs.ClassRights.{IsClassRights};
 
 use crate::nodes::{influencing, reading, stores, workers};
 use fab_base::{NoMemory, Seq};
 use fab_principals::Acts;
-use fab_rights::{ClassRights, Rights};
+use fab_rights::{ClassRights, Rights, Shape};
 use fab_tree::resolved::{Class, Field, Resolved, Sort};
 use std::alloc::Global;
 
-/// The number of the class that a field refers to, if it is none of numbers.
-fn kind_of(field: &Field) -> Option<u16>
-    ensures { result ≡ kind_of field.now }
+/// What a field holds.
+fn shape_of(field: &Field) -> Shape
+    ensures { result ≡ shape_of field.now }
 {
     match field.sort {
-        Sort::Int => None,
-        Sort::Class(class) => Some(class.number),
+        Sort::Number(width) => Shape::Number(width),
+        Sort::Class(class) => Shape::Class(class.number),
     }
 }
 
-fn kinds_of(alloc: Global, fields: &[Field]) -> Result<Seq<Option<u16>>, NoMemory>
-    ensures { IfOk result (λ kinds. kinds ≡ map kind_of fields.now) }
+fn shapes_of(alloc: Global, fields: &[Field]) -> Result<Seq<Shape>, NoMemory>
+    ensures { IfOk result (λ shapes. shapes ≡ map shape_of fields.now) }
 {
-    let mut kinds = Seq::new(alloc);
+    let mut shapes = Seq::new(alloc);
     for field in fields {
-        kinds.push(kind_of(field))?;
+        shapes.push(shape_of(field))?;
     }
-    Ok(kinds)
+    Ok(shapes)
 }
 
 /// The rights over a class.
@@ -52,7 +52,7 @@ fn class_rights(
         fetchers,
         writers: fetchers & writers,
         holders: stores(start) & readers & learners & writers,
-        fields: kinds_of(alloc, class.fields.as_slice())?,
+        fields: shapes_of(alloc, class.fields.as_slice())?,
     })
 }
 

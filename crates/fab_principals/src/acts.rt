@@ -9,12 +9,23 @@ use std::alloc::Global;
 use std::marker::Model;
 
 /// The declared delegations of at most 64 principals, with their closure.
-#[derive(Debug, Drop)]
+#[derive(Debug)]
 pub struct Acts {
     count: u16,
     pairs: Seq<(u16, u16)>,
     direct: Vec<u64>,
     closed: Vec<u64>,
+}
+
+impl Drop for Acts {
+    fn drop(self) {
+        let Acts {
+            count,
+            pairs,
+            direct,
+            closed,
+        } = self;
+    }
 }
 
 impl Model for Acts {

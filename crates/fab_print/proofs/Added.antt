@@ -6,6 +6,7 @@ use Rattle.std.proofs.lemmas.Fmt.{decimal_digit, decimal_step}
 use Rattle.fab_base.specs.declared.token.Mark.TheVariants as m
 use Rattle.fab_base.specs.declared.token.Kind.TheVariants as k
 use Rattle.fab_tree.specs.declared.name.Name.{Name}
+use Rattle.fab_tree.specs.declared.expression.Number.TheVariants as numbers
 use Rattle.fab_tree.specs.declared.event.Event.{Event}
 use Rattle.fab_tree.specs.declared.statement.Statement.{Statement}
 use Rattle.fab_tree.specs.Print.{Ink, Inks, ◌>>◌, text_of, kind_text, indent, number, integer, statement, spaced_names, authority, schedule, space, mark, name, line_end, separated, all, line, cache, nothing}
@@ -55,7 +56,7 @@ least_spelled n false h = refl
 pub number_spelled : (n : ℕ) → IsSpelled (number n) (decimal n)
 number_spelled n = record { is = λ more. ap (λ z. z ++ text_of more) (least_spelled n (n == 2147483648) (eqb-true n 2147483648)) }
 
-pub integer_spelled : (z : ℤ) → IsSpelled (integer z) (signed_decimal z)
+pub integer_spelled : (z : ℤ) → IsSpelled (integer (numbers.Int z)) (signed_decimal z)
 integer_spelled (pos n) = number_spelled n
 integer_spelled (negsuc n) = record { is = λ more. ap (λ z. 45 ∷ z) ((number_spelled (n + 1)).is more ∙ ap (λ i. decimal i ++ text_of more) (add-one n)) }
 

@@ -1,5 +1,6 @@
 -- What is printed for declarations is read again.
 use Rattle.std.proofs.Common.{List, refl}
+use Rattle.fab_base.specs.declared.object.Width.TheVariants as widths
 use Rattle.fab_base.specs.declared.token.Mark.TheVariants as m
 use Rattle.fab_base.specs.declared.token.Token.{Token}
 use Rattle.fab_tree.specs.declared.declaration.Role.{Role}
@@ -118,10 +119,10 @@ label_again a b x (d.label h p i j q k l) w =
     }
 
 pub sort_again : {a b : List Token} {x : Sort} → IsSort a x b → Wells a → Printed IsSort unplaced.sort free word print.sort x b
-sort_again (d.int h) w = record {
+sort_again (d.number {w = widths.Int} h) w = record {
   rest = behind_it h w;
   clean = λ more c. (tt, tt, c);
-  again = λ n more. record { tree = _; reads = d.int (is refl); same = refl };
+  again = λ n more. record { tree = _; reads = d.number {w = widths.Int} (is refl); same = refl };
   steady = refl;
 }
 sort_again (d.class p) w = record {

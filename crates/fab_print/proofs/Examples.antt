@@ -1,5 +1,5 @@
 -- Worked examples of canonical texts.
-use Rattle.std.proofs.Common.{◌≡◌, ℕ, true, false, List, [], ◌∷◌, Some, None, refl, ap, ◌∙◌, codes, ℤ, pos, negsuc, arith}
+use Rattle.std.proofs.Common.{◌≡◌, ℕ, true, false, List, [], ◌∷◌, Some, None, refl, ap, ◌∙◌, codes, pos, negsuc, arith}
 use Rattle.std.proofs.lemmas.Fmt.{decimal_digit}
 use Rattle.fab_tree.specs.declared.name.Name.{Name}
 use Rattle.fab_tree.specs.declared.declaration.Role.TheVariants as roles
@@ -8,8 +8,11 @@ use Rattle.fab_tree.specs.declared.declaration.Sort.TheVariants as sorts
 use Rattle.fab_tree.specs.declared.expression.Expression.{Expression}
 use Rattle.fab_tree.specs.declared.expression.Form.TheVariants as f
 use Rattle.fab_tree.specs.declared.expression.Form.TheOpen as o
+use Rattle.fab_tree.specs.declared.expression.Number.{Number}
+use Rattle.fab_tree.specs.declared.expression.Number.TheVariants as numbers
 use Rattle.fab_tree.specs.declared.expression.Operator.{Operator}
 use Rattle.fab_tree.specs.declared.expression.Operator.TheVariants as operators
+use Rattle.fab_tree.specs.declared.expression.UnaryOperator.TheVariants as unary
 use Rattle.fab_tree.specs.declared.statement.Statement.TheVariants as s
 use Rattle.fab_tree.specs.declared.event.Step.TheVariants as steps
 use Rattle.fab_tree.specs.declared.event.Event.TheVariants as events
@@ -17,6 +20,7 @@ use Rattle.fab_tree.specs.declared.start.Literal.{Literal}
 use Rattle.fab_tree.specs.declared.start.Literal.TheVariants as literals
 use Rattle.fab_tree.specs.declared.start.Given.{Given}
 use Rattle.fab_tree.specs.declared.start.Start.{Start}
+use Rattle.fab_base.specs.declared.object.Width.TheVariants as widths
 use Rattle.fab_base.specs.declared.token.Mark.TheVariants as m
 use Rattle.fab_base.specs.declared.token.Kind.TheVariants as k
 use Rattle.fab_base.specs.declared.token.Token.{Token}
@@ -28,7 +32,7 @@ use Rattle.fab_tree.specs.Syntax.{IsText, start}
 use Rattle.fab_tree.specs.Expressions.{expression_at, operand_at}
 use Rattle.fab_tree.specs.Print.{text_of, canonical}
 use Rattle.fab_tree.specs.Print as print
-use Rattle.fab_print.proofs.Forms.{shown_at, beside_at, local_shape, number_shape, chain_shape, negative_shape}
+use Rattle.fab_print.proofs.Forms.{shown_at, beside_at, local_shape, number_shape, chain_shape, unary_shape}
 use Rattle.fab_print.proofs.StatementsAgain.{if_shown, write_shown}
 
 abbrev named : List ℕ → Name
@@ -38,12 +42,12 @@ abbrev local : List ℕ → Expression
 local text = expression_at 0 (f.Local (named text))
 
 abbrev number : ℕ → Expression
-number n = expression_at 0 (f.Number (pos n))
+number n = expression_at 0 (f.Number (numbers.Int (pos n)))
 
 local_shown : (text : List ℕ) → print.shown (local text) ≡ record { level = 6; inks = print.name (named text) }
 local_shown text = shown_at 0 (f.Local (named text)) ∙ local_shape (named text)
 
-number_shown : (n : ℤ) → print.shown (expression_at 0 (f.Number n)) ≡ print.shown_number n
+number_shown : (n : Number) → print.shown (expression_at 0 (f.Number n)) ≡ print.shown_number n
 number_shown n = shown_at 0 (f.Number n) ∙ number_shape n
 
 -- ---- expressions
@@ -58,8 +62,8 @@ pair x e g = expression_at 0 (f.Chain e (operand_at 0 x g ∷ []))
 pair_shown : (x : Operator) (e g : Expression) → print.shown (pair x e g) ≡ print.shown_chain (print.shown e) (record { operator = x; operand = print.shown g } ∷ [])
 pair_shown x e g = shown_at 0 (f.Chain e (operand_at 0 x g ∷ [])) ∙ chain_shape e (operand_at 0 x g ∷ []) ∙ ap (λ u. print.shown_chain (print.shown e) (u ∷ [])) (beside_at 0 x g)
 
-negative_shown : (e : Expression) → print.shown (expression_at 0 (f.Negative e)) ≡ print.shown_form (o.Negative (print.shown e))
-negative_shown e = shown_at 0 (f.Negative e) ∙ negative_shape e
+negative_shown : (e : Expression) → print.shown (expression_at 0 (f.Unary unary.Negative e)) ≡ print.shown_form (o.Unary unary.Negative (print.shown e))
+negative_shown e = shown_at 0 (f.Unary unary.Negative e) ∙ unary_shape unary.Negative e
 
 -- brackets where a part stands no higher than the whole
 difference : printed_as (pair operators.Subtract (local (codes "a")) (pair operators.Subtract (local (codes "b")) (local (codes "c")))) (codes "a - (b - c)")
@@ -94,8 +98,8 @@ sum =
     ) refl
 
 -- the least number is no operand of a further sign
-least : printed_as (expression_at 0 (f.Negative (expression_at 0 (f.Number (negsuc 2147483647))))) (codes "-(-2147483648)")
-least = rw (negative_shown (expression_at 0 (f.Number (negsuc 2147483647))), number_shown (negsuc 2147483647)) refl
+least : printed_as (expression_at 0 (f.Unary unary.Negative (expression_at 0 (f.Number (numbers.Int (negsuc 2147483647)))))) (codes "-(-2147483648)")
+least = rw (negative_shown (expression_at 0 (f.Number (numbers.Int (negsuc 2147483647)))), number_shown (numbers.Int (negsuc 2147483647))) refl
 
 -- ---- bundles
 
@@ -109,15 +113,15 @@ bundle = record {
     delegations = [];
     labels = record { name = named (codes "S"); policies = record { owner = named (codes "A"); aspect = aspects.Confidentiality; others = [] } ∷ [] }
         ∷ record { name = named (codes "P"); policies = [] } ∷ [];
-    classes = record { name = named (codes "C"); label = named (codes "P"); access = named (codes "P"); fields = record { sort = sorts.Int; name = named (codes "f") } ∷ [] } ∷ [];
+    classes = record { name = named (codes "C"); label = named (codes "P"); access = named (codes "P"); fields = record { sort = sorts.Number widths.Int; name = named (codes "f") } ∷ [] } ∷ [];
     methods = record {
       name = named (codes "m");
-      parameters = record { sort = sorts.Class (named (codes "C")); name = named (codes "c"); label = named (codes "P") } ∷ record { sort = sorts.Int; name = named (codes "s"); label = named (codes "S") } ∷ [];
+      parameters = record { sort = sorts.Class (named (codes "C")); name = named (codes "c"); label = named (codes "P") } ∷ record { sort = sorts.Number widths.Int; name = named (codes "s"); label = named (codes "S") } ∷ [];
       returns = None;
       begin = named (codes "P");
       fails = true;
       authority = [];
-      body = s.If (local (codes "s")) (s.Write (named (codes "c")) (named (codes "f")) (expression_at 0 (f.Number (pos 1))) ∷ []) None ∷ [];
+      body = s.If (local (codes "s")) (s.Write (named (codes "c")) (named (codes "f")) (expression_at 0 (f.Number (numbers.Int (pos 1)))) ∷ []) None ∷ [];
       result = None;
     } ∷ [];
   };
@@ -135,7 +139,7 @@ printed =
       if_shown (local (codes "s")) (s.Write (named (codes "c")) (named (codes "f")) (number 1) ∷ []) None,
       write_shown (named (codes "c")) (named (codes "f")) (number 1),
       local_shown (codes "s"),
-      number_shown (pos 1),
+      number_shown (numbers.Int (pos 1)),
       decimal_digit 1 (omega arith),
     ) refl
 
@@ -149,8 +153,8 @@ told = record {
     classes = record { name = named (codes "C"); label = named (codes "L"); access = named (codes "L"); fields = [] } ∷ [];
     methods = [];
   };
-  roots = record { name = named (codes "r"); class = named (codes "C"); store = named (codes "a"); values = given literals.Null ∷ given (literals.Int (negsuc 6)) ∷ [] } ∷ [];
-  sessions = record { worker = named (codes "w"); requests = record { method = named (codes "m"); arguments = given (literals.Int (negsuc 2147483647)) ∷ given (literals.Root (named (codes "r"))) ∷ [] } ∷ [] } ∷ [];
+  roots = record { name = named (codes "r"); class = named (codes "C"); store = named (codes "a"); values = given literals.Null ∷ given (literals.Number (numbers.Int (negsuc 6))) ∷ [] } ∷ [];
+  sessions = record { worker = named (codes "w"); requests = record { method = named (codes "m"); arguments = given (literals.Number (numbers.Int (negsuc 2147483647))) ∷ given (literals.Root (named (codes "r"))) ∷ [] } ∷ [] } ∷ [];
   posts = record { sender = named (codes "h"); receiver = named (codes "w"); bytes = 10 ∷ 255 ∷ [] } ∷ [];
   crashes = record { node = named (codes "w"); after = 3; keep = Some 5 } ∷ record { node = named (codes "a"); after = 3; keep = None } ∷ [];
   cache = 2;

@@ -14,8 +14,13 @@ use Rattle.fab_tree.specs.declared.expression.Comparison.{Comparison}
 use Rattle.fab_tree.specs.declared.expression.Comparison.TheVariants as comparisons
 use Rattle.fab_tree.specs.declared.expression.Expression.{Expression}
 use Rattle.fab_tree.specs.declared.expression.Form.TheVariants as f
+use Rattle.fab_tree.specs.declared.expression.Number.{Number}
+use Rattle.fab_tree.specs.declared.expression.Number.TheVariants as numbers
 use Rattle.fab_tree.specs.declared.expression.Operand.{Operand}
-use Rattle.fab_tree.specs.Lists.{Is, is, IsName, name, IsNumeral, numeral, minus}
+use Rattle.fab_tree.specs.declared.expression.UnaryOperator.{UnaryOperator}
+use Rattle.fab_tree.specs.declared.expression.UnaryOperator.TheVariants as unary
+use Rattle.fab_tree.specs.Lists.{Is, is, IsName, name, IsNumber, int, IsLeast, least_int, numeral, minus}
+use Rattle.fab_tree.specs.Marks.{unary_mark}
 use Rattle.fab_tree.specs.Expressions.{expression_at, operand_at, placed, place_of, chain_of, IsComparison, IsOperator, IsChain, IsOthers, IsOperand, IsCompared, IsUnary, IsPrimary, IsExpression, IsArguments}
 use Rattle.fab_tree.specs.Expressions as e
 use Rattle.fab_tree.specs.Print.{Ink, Inks, ◌>>◌, mark, space, Shown, ShownOperand, at_level, level_of, shown, in_brackets}
@@ -23,8 +28,8 @@ use Rattle.fab_tree.specs.Print as print
 use Rattle.fab_tree.specs.Unplaced as unplaced
 use Rattle.fab_print.proofs.Inks.{Edge, free, word, sign, Clean, Holds, fits, freed, Wells, Printed, Again, tokens, behind_it, well_name, behind_name, few, number_clean}
 use Rattle.fab_print.proofs.ListsAgain.{separated_again}
-use Rattle.fab_print.proofs.Forms.{beside, shown_at, shown_placed, beside_at, number_shape, null_shape, local_shape, read_shape, negative_shape, not_shape, chain_shape, compared_shape}
-use Rattle.fab_print.proofs.Forms.{stripped_operand, unplaced_at, unplaced_placed, stripped_at, number_stripped, null_stripped, local_stripped, read_stripped, negative_stripped, not_stripped, chain_stripped, compared_stripped}
+use Rattle.fab_print.proofs.Forms.{beside, shown_at, shown_placed, beside_at, number_shape, null_shape, local_shape, read_shape, unary_shape, chain_shape, compared_shape}
+use Rattle.fab_print.proofs.Forms.{stripped_operand, unplaced_at, unplaced_placed, stripped_at, number_stripped, null_stripped, local_stripped, read_stripped, unary_stripped, chain_stripped, compared_stripped}
 
 -- ---- levels
 
@@ -328,77 +333,65 @@ compared_bare t u x b d v o w =
           ∙ sym (shown_at _ _ ∙ compared_shape t x u);
     }
 
-negative_bare : (at : ℕ) (t : Expression) (b : List Token) → Bare t b → Bare (expression_at at (f.Negative t)) b
-negative_bare at t b v =
+-- a sign touches only what may stand behind it
+sign_clean : (x : UnaryOperator) (more : List Ink) → Clean sign more → Clean free (mark (unary_mark x) more)
+sign_clean unary.Negative more c = (tt, tt, c)
+sign_clean unary.Not more c = (tt, tt, c)
+
+signed_bare : (at : ℕ) (x : UnaryOperator) (t : Expression) (b : List Token) → Bare t b → Bare (expression_at at (f.Unary x t)) b
+signed_bare at x t b v =
     let one = placed_again 6 (omega arith) t b v in
     record {
-      form = record { level = 5; inks = mark m.Minus >> at_level 6 (shown t) };
-      is_form = shown_at _ _ ∙ negative_shape t;
+      form = record { level = 5; inks = mark (unary_mark x) >> at_level 6 (shown t) };
+      is_form = shown_at _ _ ∙ unary_shape x t;
       low = omega arith;
       rest = v.rest;
-      clean = λ more c. (tt, tt, one.clean more c);
+      clean = λ more c. sign_clean x (at_level 6 (shown t) more) (one.clean more c);
       again = λ n more.
           let p = one.again n more in
           record {
             tree = _;
-            reads = e.negative (is refl) p.reads;
-            same = unplaced_at _ (f.Negative p.tree) ∙ ap (expression_at 0) (negative_stripped p.tree ∙ ap f.Negative p.same ∙ sym (negative_stripped t)) ∙ sym (unplaced_at at (f.Negative t));
+            reads = e.signed {x = x} (is refl) p.reads;
+            same = unplaced_at _ (f.Unary x p.tree) ∙ ap (expression_at 0) (unary_stripped x p.tree ∙ ap (f.Unary x) p.same ∙ sym (unary_stripped x t)) ∙ sym (unplaced_at at (f.Unary x t));
           };
       steady =
-          ap shown (unplaced_at _ _ ∙ ap (expression_at 0) (negative_stripped t)) ∙ shown_at _ _ ∙ negative_shape (unplaced.expression t)
-          ∙ (λ i. record { level = 5; inks = mark m.Minus >> at_level 6 (v.steady i) }) ∙ sym (shown_at _ _ ∙ negative_shape t);
+          ap shown (unplaced_at _ _ ∙ ap (expression_at 0) (unary_stripped x t)) ∙ shown_at _ _ ∙ unary_shape x (unplaced.expression t)
+          ∙ (λ i. record { level = 5; inks = mark (unary_mark x) >> at_level 6 (v.steady i) }) ∙ sym (shown_at _ _ ∙ unary_shape x t);
     }
 
-contrary_bare : (at : ℕ) (t : Expression) (b : List Token) → Bare t b → Bare (expression_at at (f.Not t)) b
-contrary_bare at t b v =
-    let one = placed_again 6 (omega arith) t b v in
+least_bare : (at : ℕ) {a b : List Token} {n : Number} → IsLeast a n b → Wells a → Bare (expression_at at (f.Number n)) b
+least_bare at (least_int h) w =
+    let n : Number = numbers.Int (minus 2147483648) in
     record {
-      form = record { level = 5; inks = mark m.Bang >> at_level 6 (shown t) };
-      is_form = shown_at _ _ ∙ not_shape t;
+      form = print.shown_number n;
+      is_form = shown_at _ _ ∙ number_shape n;
       low = omega arith;
-      rest = v.rest;
-      clean = λ more c. (tt, tt, one.clean more c);
-      again = λ n more.
-          let p = one.again n more in
-          record {
-            tree = _;
-            reads = e.contrary (is refl) p.reads;
-            same = unplaced_at _ (f.Not p.tree) ∙ ap (expression_at 0) (not_stripped p.tree ∙ ap f.Not p.same ∙ sym (not_stripped t)) ∙ sym (unplaced_at at (f.Not t));
-          };
-      steady =
-          ap shown (unplaced_at _ _ ∙ ap (expression_at 0) (not_stripped t)) ∙ shown_at _ _ ∙ not_shape (unplaced.expression t)
-          ∙ (λ i. record { level = 5; inks = mark m.Bang >> at_level 6 (v.steady i) }) ∙ sym (shown_at _ _ ∙ not_shape t);
+      rest = w.1;
+      clean = λ more c. (tt, tt, (tt, tt, c));
+      again = λ n0 more. record {
+        tree = _;
+        reads = e.least (is refl) (least_int refl);
+        same = unplaced_at _ (f.Number n) ∙ sym (unplaced_at at (f.Number n));
+      };
+      steady = ap shown (unplaced_at _ _ ∙ ap (expression_at 0) (number_stripped n)) ∙ shown_at _ _ ∙ sym (shown_at _ _);
     }
 
-least_bare : (at : ℕ) (b : List Token) → Wells b → Bare (expression_at at (f.Number (minus 2147483648))) b
-least_bare at b w = record {
-  form = print.shown_number (minus 2147483648);
-  is_form = shown_at _ _ ∙ number_shape (minus 2147483648);
-  low = omega arith;
-  rest = w;
-  clean = λ more c. (tt, tt, (tt, tt, c));
-  again = λ n more. record {
-    tree = _;
-    reads = e.least (is refl) refl;
-    same = unplaced_at _ (f.Number (minus 2147483648)) ∙ sym (unplaced_at at (f.Number (minus 2147483648)));
-  };
-  steady = ap shown (unplaced_at _ _ ∙ ap (expression_at 0) (number_stripped (minus 2147483648))) ∙ shown_at _ _ ∙ sym (shown_at _ _);
-}
-
-number_bare : (at : ℕ) {a b : List Token} {n : ℕ} → IsNumeral a n b → Wells a → Bare (expression_at at (f.Number (pos n))) b
-number_bare at (numeral {n} i h) w = record {
-  form = print.shown_number (pos n);
-  is_form = shown_at _ _ ∙ number_shape (pos n);
-  low = omega arith;
-  rest = w.1;
-  clean = λ more c. number_clean sign more n h tt c;
-  again = λ n0 more. record {
-    tree = _;
-    reads = e.number (numeral (few n h) h);
-    same = unplaced_at _ (f.Number (pos n)) ∙ sym (unplaced_at at (f.Number (pos n)));
-  };
-  steady = ap shown (unplaced_at _ _ ∙ ap (expression_at 0) (number_stripped (pos n))) ∙ shown_at _ _ ∙ sym (shown_at _ _);
-}
+number_bare : (at : ℕ) {a b : List Token} {n : Number} → IsNumber a n b → Wells a → Bare (expression_at at (f.Number n)) b
+number_bare at (int (numeral {n} i h)) w =
+    let z : Number = numbers.Int (pos n) in
+    record {
+      form = print.shown_number z;
+      is_form = shown_at _ _ ∙ number_shape z;
+      low = omega arith;
+      rest = w.1;
+      clean = λ more c. number_clean sign more n h tt c;
+      again = λ n0 more. record {
+        tree = _;
+        reads = e.number (int (numeral (few n h) h));
+        same = unplaced_at _ (f.Number z) ∙ sym (unplaced_at at (f.Number z));
+      };
+      steady = ap shown (unplaced_at _ _ ∙ ap (expression_at 0) (number_stripped z)) ∙ shown_at _ _ ∙ sym (shown_at _ _);
+    }
 
 null_bare : (at : ℕ) (b : List Token) → Wells b → Bare (expression_at at f.Null) b
 null_bare at b w = record {
@@ -488,9 +481,8 @@ mutual
 
   bare_unary : {a b : List Token} {t : Expression} → IsUnary a t b → Wells a → Bare t b
   bare_unary (e.primary p) w = bare_primary p w
-  bare_unary (e.negative {u} {t = t} h p) w = negative_bare u.at t _ (bare_primary p (behind_it h w))
-  bare_unary (e.contrary {u} {t = t} h p) w = contrary_bare u.at t _ (bare_primary p (behind_it h w))
-  bare_unary (e.least {u} h i) w = least_bare u.at _ (behind_it h w).1
+  bare_unary (e.signed {u} {x = x} {t = t} h p) w = signed_bare u.at x t _ (bare_primary p (behind_it h w))
+  bare_unary (e.least {u} h p) w = least_bare u.at p (behind_it h w)
 
   bare_primary : {a b : List Token} {t : Expression} → IsPrimary a t b → Wells a → Bare t b
   bare_primary (e.number {u} p) w = number_bare u.at p w

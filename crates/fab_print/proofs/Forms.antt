@@ -1,5 +1,5 @@
 -- What is shown of each form of an expression, and the form without places.
-use Rattle.std.proofs.Common.{◌≡◌, ℕ, ℤ, List, map, sym, ap, ◌∙◌}
+use Rattle.std.proofs.Common.{◌≡◌, ℕ, List, map, sym, ap, ◌∙◌}
 use Rattle.fab_tree.specs.declared.name.Name.{Name}
 use Rattle.fab_tree.specs.declared.expression.Operator.{Operator}
 use Rattle.fab_tree.specs.declared.expression.Comparison.{Comparison}
@@ -11,6 +11,8 @@ use Rattle.fab_tree.specs.declared.expression.Operand.{Operand, fold-Operand, fo
 use Rattle.fab_tree.specs.Expressions.{expression_at, operand_at, placed}
 use Rattle.fab_tree.specs.Print.{Shown, ShownOperand, shown, shown_form, shown_chain, shown_number}
 use Rattle.fab_tree.specs.Unplaced as unplaced
+use Rattle.fab_tree.specs.declared.expression.Number.{Number}
+use Rattle.fab_tree.specs.declared.expression.UnaryOperator.{UnaryOperator}
 
 -- ---- shown
 
@@ -40,7 +42,7 @@ shape_of d x e =
     ap shape (sym e)
     ∙ fold-roll-Form Shown Shown ShownOperand shown_form (λ e. e.form) (λ u. record { operator = u.operator; operand = u.operand }) d
 
-pub number_shape : (n : ℤ) → shape (f.Number n) ≡ shown_number n
+pub number_shape : (n : Number) → shape (f.Number n) ≡ shown_number n
 number_shape n = shape_of (o.Number n) _ (f.rolls-Number n)
 
 pub null_shape : shape f.Null ≡ shown_form o.Null
@@ -52,11 +54,8 @@ local_shape x = shape_of (o.Local x) _ (f.rolls-Local x)
 pub read_shape : (x y : Name) → shape (f.Read x y) ≡ shown_form (o.Read x y)
 read_shape x y = shape_of (o.Read x y) _ (f.rolls-Read x y)
 
-pub negative_shape : (t : Expression) → shape (f.Negative t) ≡ shown_form (o.Negative (shown t))
-negative_shape t = shape_of (o.Negative t) _ (f.rolls-Negative t)
-
-pub not_shape : (t : Expression) → shape (f.Not t) ≡ shown_form (o.Not (shown t))
-not_shape t = shape_of (o.Not t) _ (f.rolls-Not t)
+pub unary_shape : (x : UnaryOperator) (t : Expression) → shape (f.Unary x t) ≡ shown_form (o.Unary x (shown t))
+unary_shape x t = shape_of (o.Unary x t) _ (f.rolls-Unary x t)
 
 pub chain_shape : (t : Expression) (us : List Operand) → shape (f.Chain t us) ≡ shown_chain (shown t) (map beside us)
 chain_shape t us = shape_of (o.Chain t us) _ (f.rolls-Chain t us)
@@ -92,7 +91,7 @@ stripped_of d x e =
     ap stripped (sym e)
     ∙ fold-roll-Form Form Expression Operand unplaced.form_step (λ e. expression_at 0 e.form) (λ u. operand_at 0 u.operator u.operand) d
 
-pub number_stripped : (n : ℤ) → stripped (f.Number n) ≡ f.Number n
+pub number_stripped : (n : Number) → stripped (f.Number n) ≡ f.Number n
 number_stripped n = stripped_of (o.Number n) _ (f.rolls-Number n)
 
 pub null_stripped : stripped f.Null ≡ f.Null
@@ -104,11 +103,8 @@ local_stripped x = stripped_of (o.Local x) _ (f.rolls-Local x)
 pub read_stripped : (x y : Name) → stripped (f.Read x y) ≡ f.Read (unplaced.name x) (unplaced.name y)
 read_stripped x y = stripped_of (o.Read x y) _ (f.rolls-Read x y)
 
-pub negative_stripped : (t : Expression) → stripped (f.Negative t) ≡ f.Negative (unplaced.expression t)
-negative_stripped t = stripped_of (o.Negative t) _ (f.rolls-Negative t)
-
-pub not_stripped : (t : Expression) → stripped (f.Not t) ≡ f.Not (unplaced.expression t)
-not_stripped t = stripped_of (o.Not t) _ (f.rolls-Not t)
+pub unary_stripped : (x : UnaryOperator) (t : Expression) → stripped (f.Unary x t) ≡ f.Unary x (unplaced.expression t)
+unary_stripped x t = stripped_of (o.Unary x t) _ (f.rolls-Unary x t)
 
 pub chain_stripped : (t : Expression) (us : List Operand) → stripped (f.Chain t us) ≡ f.Chain (unplaced.expression t) (map stripped_operand us)
 chain_stripped t us = stripped_of (o.Chain t us) _ (f.rolls-Chain t us)

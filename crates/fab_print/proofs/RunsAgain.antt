@@ -13,7 +13,7 @@ use Rattle.fab_tree.specs.declared.start.Given.{Given}
 use Rattle.fab_tree.specs.declared.start.Root.{Root}
 use Rattle.fab_tree.specs.declared.start.RequestText.{RequestText}
 use Rattle.fab_tree.specs.declared.start.Session.{Session}
-use Rattle.fab_tree.specs.Lists.{Is, is, name, IsNumeral, numeral, IsBytes, bytes, Repeated, Ended, ended, Perhaps, without, with_it}
+use Rattle.fab_tree.specs.Lists.{Is, is, name, IsNumeral, numeral, int, least_int, IsBytes, bytes, Repeated, Ended, ended, Perhaps, without, with_it}
 use Rattle.fab_tree.specs.Runs.{IsNegated, IsLiteral, IsGiven, IsRoot, IsRequest, IsSession, IsPost, IsCrash, IsCache, IsStep, IsEvent, IsSchedule}
 use Rattle.fab_tree.specs.Runs as r
 use Rattle.fab_tree.specs.Print.{Ink, Inks, ◌>>◌, mark, space, line, indent, line_end}
@@ -23,16 +23,16 @@ use Rattle.fab_print.proofs.Inks.{free, word, sign, Clean, Well, Wells, Printed,
 use Rattle.fab_print.proofs.ListsAgain.{repeated_again, separated_again}
 
 pub given_again : (a b : List Token) (x : Given) → IsGiven a x b → Wells a → Printed IsGiven unplaced.given free word (λ y. print.literal y.literal) x b
-given_again a b x (r.given (r.number (numeral {n} e h))) w = record {
+given_again a b x (r.given (r.number (int (numeral {n} e h)))) w = record {
   rest = w.1;
   clean = λ more c. number_clean free more n h tt c;
-  again = λ n0 more. record { tree = _; reads = r.given (r.number (numeral (few n h) h)); same = refl };
+  again = λ n0 more. record { tree = _; reads = r.given (r.number (int (numeral (few n h) h))); same = refl };
   steady = refl;
 }
 given_again a b x (r.given (r.negated i (r.negative (numeral {n = zero} e h)))) w = record {
   rest = (behind_it i w).1;
   clean = λ more c. (tt, omega arith, c);
-  again = λ n0 more. record { tree = _; reads = r.given (r.number (numeral refl (omega arith))); same = refl };
+  again = λ n0 more. record { tree = _; reads = r.given (r.number (int (numeral refl (omega arith)))); same = refl };
   steady = refl;
 }
 given_again a b x (r.given (r.negated i (r.negative (numeral {n = suc n} e h)))) w = record {
@@ -45,10 +45,10 @@ given_again a b x (r.given (r.negated i (r.negative (numeral {n = suc n} e h))))
   };
   steady = refl;
 }
-given_again a b x (r.given (r.negated i (r.least e))) w = record {
+given_again a b x (r.given (r.negated i (r.least (least_int e)))) w = record {
   rest = (behind_it i w).1;
   clean = λ more c. (tt, tt, (tt, tt, c));
-  again = λ n0 more. record { tree = _; reads = r.given (r.negated (is refl) (r.least refl)); same = refl };
+  again = λ n0 more. record { tree = _; reads = r.given (r.negated (is refl) (r.least (least_int refl))); same = refl };
   steady = refl;
 }
 given_again a b x (r.given (r.null h)) w = record {

@@ -1,6 +1,7 @@
 -- What is printed for statements is read again.
 use Rattle.std.proofs.Common.{◌≡◌, ℕ, ◌+◌, List, [], ◌∷◌, map, refl, sym, ap, ◌∙◌, subst, Option, Some, None}
 use Rattle.std.specs.Prelude.{option_map}
+use Rattle.fab_base.specs.declared.object.Width.TheVariants as widths
 use Rattle.fab_base.specs.declared.token.Mark.TheVariants as m
 use Rattle.fab_base.specs.declared.token.Token.{Token}
 use Rattle.fab_tree.specs.declared.name.Name.{Name}
@@ -190,25 +191,25 @@ Blocks us b = (at : ℕ) → Printed IsBlock (map unplaced.statement) free free 
 
 int_stated : {a b c d f g h i : List Token} {y z : Name} {e : Expression} (place : ℕ)
     → Is m.Int a b → IsName b y c → Is m.Colon c d → IsName d z f → Is m.Equal f g → IsExpression g e h → Is m.Semicolon h i → Wells a
-    → Stated (s.Declare sorts.Int y z e place) i
+    → Stated (s.Declare (sorts.Number widths.Int) y z e place) i
 int_stated {y} {z} {e} place h p i q j r k w =
     let w1 = behind_it h w in
     let w2 = behind_it i (behind_name p w1) in
     let one = expression_again _ _ _ r (behind_it j (behind_name q w2)) in
     record {
-      shown = print.statement_step (o.Declare sorts.Int y z e place);
-      is_shown = declare_shown sorts.Int y z e place;
+      shown = print.statement_step (o.Declare (sorts.Number widths.Int) y z e place);
+      is_shown = declare_shown (sorts.Number widths.Int) y z e place;
       rest = behind_it k one.rest;
       clean = λ at more c. indent_clean at _ (tt, tt, (tt, (tt, well_name p w1, (tt, (tt, tt, (tt, (tt, well_name q w2, (tt, (tt, tt, (tt, one.clean _ (tt, tt, (tt, c))))))))))));
       again = λ at n more.
           let two = one.again n _ in
           record {
             tree = _;
-            reads = t.declare (d.int (is refl)) (name refl) (is refl) (name refl) (is refl) two.reads (is refl);
-            same = declare_unplaced _ _ _ two.tree _ ∙ (λ i. s.Declare sorts.Int (unplaced.name y) (unplaced.name z) (two.same i) 0) ∙ sym (declare_unplaced sorts.Int y z e place);
+            reads = t.declare (d.number {w = widths.Int} (is refl)) (name refl) (is refl) (name refl) (is refl) two.reads (is refl);
+            same = declare_unplaced _ _ _ two.tree _ ∙ (λ i. s.Declare (sorts.Number widths.Int) (unplaced.name y) (unplaced.name z) (two.same i) 0) ∙ sym (declare_unplaced (sorts.Number widths.Int) y z e place);
           };
       steady =
-          ap print.statement (declare_unplaced sorts.Int y z e place) ∙ declare_shown sorts.Int (unplaced.name y) (unplaced.name z) (unplaced.expression e) 0
+          ap print.statement (declare_unplaced (sorts.Number widths.Int) y z e place) ∙ declare_shown (sorts.Number widths.Int) (unplaced.name y) (unplaced.name z) (unplaced.expression e) 0
           ∙ (λ i at. line at (mark m.Int >> space >> print.name y >> space >> mark m.Colon >> space >> print.name z >> space
           >> mark m.Equal >> space >> one.steady i >> mark m.Semicolon));
     }
@@ -381,7 +382,7 @@ Rows us b = (at : ℕ) → Printed IsStatements (map unplaced.statement) free fr
 
 mutual
   statement_stated : {a b : List Token} {u : Statement} → IsStatement a u b → Wells a → Stated u b
-  statement_stated (t.declare {o} (d.int h) p i q j r k) w = int_stated o.at h p i q j r k w
+  statement_stated (t.declare {o} (d.number {w = widths.Int} h) p i q j r k) w = int_stated o.at h p i q j r k w
   statement_stated (t.declare {o} (d.class h) p i q j r k) w = class_stated o.at h p i q j r k w
   statement_stated (t.assign p h q i) w = assign_stated p h q i w
   statement_stated (t.write p h q i r j) w = write_stated p h q i r j w

@@ -1,11 +1,12 @@
 //! Declarations: nodes, delegations, labels and classes.
 ghost use Rattle.std.specs.Prelude.{◌≡◌, OnOk};
+ghost use Rattle.fab_tree.specs.Marks.{width_mark};
 ghost use Rattle.fab_tree.specs.Print as print;
 ghost use Rattle.fab_print.specs.Adding.{Adds, IsSpelled};
 
 use crate::list::{print_all, print_separated, put_spaced_names};
 use crate::piece::{Print, put_name};
-use fab_base::{NoMemory, Seq};
+use fab_base::{NoMemory, Seq, Width};
 use fab_tree::{Aspect, Class, Delegation, Field, LabelText, Node, PolicyText, Role, Sort};
 use std::alloc::Global;
 
@@ -89,13 +90,22 @@ impl Print for LabelText {
     }
 }
 
+/// How the type of numbers of a width is written.
+fn width_text(width: Width) -> &'static str
+    ensures { IsSpelled (print.mark (width_mark width)) result.now }
+{
+    match width {
+        Width::Int => "int",
+    }
+}
+
 /// The type of a value.
 pub(crate) fn put_sort(out: &mut Seq<u8>, sort: &Sort) -> Result<(), NoMemory>
     ensures { OnOk result (Adds (print.sort sort.now) out.old out.new) }
 {
     match sort {
-        Sort::Int => {
-            out.extend(b"int")?;
+        Sort::Number(width) => {
+            out.extend(width_text(*width).as_bytes())?;
             Ok(())
         }
         Sort::Class(class) => {

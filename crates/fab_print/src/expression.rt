@@ -1,13 +1,14 @@
 //! Expressions, with brackets exactly where they are needed.
 ghost use Rattle.std.specs.Prelude.{◌≡◌, OnOk, map};
 ghost use Rattle.fab_base.specs.declared.token.Mark.TheVariants as m;
+ghost use Rattle.fab_tree.specs.Marks.{unary_mark};
 ghost use Rattle.fab_tree.specs.Print as print;
 ghost use Rattle.fab_print.specs.Adding.{Adds, IsSpelled, beside, field_of, spaced};
 
 use crate::list::print_in_brackets;
 use crate::piece::{Print, put_integer, put_name};
 use fab_base::{NoMemory, Seq};
-use fab_tree::{Comparison, Expression, Form, Name, Operand, Operator};
+use fab_tree::{Comparison, Expression, Form, Name, Number, Operand, Operator, UnaryOperator};
 use std::alloc::Global;
 
 /// How an operator is written.
@@ -50,14 +51,41 @@ fn level_of(operator: Operator) -> u8
     }
 }
 
+/// The level of a number in the grammar.
+fn number_level(number: Number) -> u8
+    ensures { result ≡ print.number_level number }
+{
+    match number {
+        Number::Int(n) => { if n < 0 { 5 } else { 6 } }
+    }
+}
+
+/// How an operator in front of its operand is written.
+fn sign_text(operator: UnaryOperator) -> &'static str
+    ensures { IsSpelled (print.mark (unary_mark operator)) result.now }
+{
+    match operator {
+        UnaryOperator::Negative => "-",
+        UnaryOperator::Not => "!",
+    }
+}
+
+/// The sign of an operator in front of its operand.
+fn put_sign(out: &mut Seq<u8>, operator: UnaryOperator) -> Result<(), NoMemory>
+    ensures { OnOk result (Adds (print.mark (unary_mark operator)) out.old out.new) }
+{
+    out.extend(sign_text(operator).as_bytes())?;
+    Ok(())
+}
+
 /// The level of an expression in the grammar, without brackets round it.
 fn level(expression: &Expression) -> u8
     ensures { result ≡ (print.shown expression.now).level }
 {
     match &expression.form {
-        Form::Number(number) => { if *number < 0 { 5 } else { 6 } }
+        Form::Number(number) => number_level(*number),
         Form::Null | Form::Local(_) | Form::Read { .. } => 6,
-        Form::Negative(_) | Form::Not(_) => 5,
+        Form::Unary { .. } => 5,
         Form::Chain { first, others } => match others.as_slice().split_first() {
             None => level(first.get()),
             Some((operand, _)) => level_of(operand.operator),
@@ -98,13 +126,8 @@ fn put_form(alloc: Global, out: &mut Seq<u8>, expression: &Expression) -> Result
         Form::Null => put_null(out),
         Form::Local(x) => put_name(out, x),
         Form::Read { object, field } => put_read(out, object, field),
-        Form::Negative(operand) => {
-            out.push(b'-')?;
-            put_at_level(alloc, out, 6, operand.get())?;
-            Ok(())
-        }
-        Form::Not(operand) => {
-            out.push(b'!')?;
+        Form::Unary { operator, operand } => {
+            put_sign(out, *operator)?;
             put_at_level(alloc, out, 6, operand.get())?;
             Ok(())
         }

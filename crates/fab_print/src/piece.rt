@@ -5,7 +5,7 @@ ghost use Rattle.fab_tree.specs.Print as print;
 ghost use Rattle.fab_print.specs.Adding.{Adds};
 
 use fab_base::{NoMemory, Seq};
-use fab_tree::Name;
+use fab_tree::{Name, Number};
 use std::alloc::{AllocError, Global};
 
 /// What has a canonical text of its own, wherever it stands.
@@ -48,13 +48,22 @@ pub(crate) fn put_number(alloc: Global, out: &mut Seq<u8>, number: u32) -> Resul
     Ok(())
 }
 
-/// A number with its sign.
-pub(crate) fn put_integer(alloc: Global, out: &mut Seq<u8>, number: i32) -> Result<(), NoMemory>
-    ensures { OnOk result (Adds (print.integer number) out.old out.new) }
+/// A number of 32 bits with its sign.
+fn put_signed(alloc: Global, out: &mut Seq<u8>, number: i32) -> Result<(), NoMemory>
+    ensures { OnOk result (Adds (print.integer (Number.Int number)) out.old out.new) }
 {
     let text = format!(in alloc; "{number}")?;
     out.extend(text.as_str().as_bytes())?;
     Ok(())
+}
+
+/// A number with its sign.
+pub(crate) fn put_integer(alloc: Global, out: &mut Seq<u8>, number: Number) -> Result<(), NoMemory>
+    ensures { OnOk result (Adds (print.integer number) out.old out.new) }
+{
+    match number {
+        Number::Int(n) => put_signed(alloc, out, n),
+    }
 }
 
 /// A digit to the base 16.

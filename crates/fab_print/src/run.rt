@@ -17,7 +17,7 @@ impl Print for Given {
 
     fn print(&self, alloc: Global, out: &mut Seq<u8>) -> Result<(), NoMemory> {
         match &self.literal {
-            Literal::Int(number) => put_integer(alloc, out, *number),
+            Literal::Number(number) => put_integer(alloc, out, *number),
             Literal::Null => put_null(out),
             Literal::Root(root) => put_name(out, root),
         }

@@ -1,11 +1,13 @@
 -- A small setting, made by hand: workers, stores, and accounts.
-use Rattle.std.proofs.Common.{ℕ, [], ◌∷◌, ℤ, Some, None}
+use Rattle.std.proofs.Common.{ℕ, [], ◌∷◌, ℤ}
 use Rattle.fab_base.specs.declared.object.Oid.{Oid}
 use Rattle.fab_base.specs.declared.object.Object.{Object as Thing}
 use Rattle.fab_base.specs.declared.object.Tid.{Tid}
 use Rattle.fab_base.specs.declared.object.Value.TheVariants.{Int}
 use Rattle.fab_base.specs.FlatMap.{FlatMap}
+use Rattle.fab_base.specs.declared.object.Width.TheVariants as widths
 use Rattle.fab_rights.specs.declared.rights.Rights.{Rights}
+use Rattle.fab_rights.specs.declared.rights.Shape.TheVariants as shapes
 
 -- accounts 0 and 1, at store 1
 abbrev pub account : ℕ → Oid
@@ -33,9 +35,9 @@ rights = record {
   workers = 13;
   stores = 18;
   classes =
-      record { fetchers = 9; writers = 9; holders = 2; fields = None ∷ [] }
-      ∷ record { fetchers = 9; writers = 1; holders = 16; fields = None ∷ [] }
-      ∷ record { fetchers = 9; writers = 9; holders = 2; fields = Some 0 ∷ [] } ∷ [];
+      record { fetchers = 9; writers = 9; holders = 2; fields = shapes.Number widths.Int ∷ [] }
+      ∷ record { fetchers = 9; writers = 1; holders = 16; fields = shapes.Number widths.Int ∷ [] }
+      ∷ record { fetchers = 9; writers = 9; holders = 2; fields = shapes.Class 0 ∷ [] } ∷ [];
 }
 
 -- the first account that this attempt makes, at site 7

@@ -134,6 +134,11 @@ abbrev pub begins_numeral : Kind → Bool
 begins_numeral (k.Number n) = nat_lt n 2147483648
 begins_numeral _ = false
 
+-- the digits of the least number of a width
+abbrev pub begins_least : Kind → Bool
+begins_least k.Least = true
+begins_least _ = false
+
 -- what stands behind a minus sign
 abbrev pub begins_negated : Kind → Bool
 begins_negated (k.Number n) = nat_lt n 2147483648

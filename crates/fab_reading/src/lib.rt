@@ -9,7 +9,7 @@ mod room;
 mod rule;
 
 pub use item::{Item, separated};
-pub use numbers::{behind_least, numeral, positive};
+pub use numbers::{least, negative, number, numeral};
 pub use reading::{behind, name, next, open, place, sign, starts_name};
 pub use refusal::Refusal;
 pub use room::{added, fitted};

@@ -1,18 +1,28 @@
 //! Numbers among tokens.
 ghost use Rattle.std.specs.Prelude.{◌≡◌, ◌<◌, ◌∷◌, IsTrue, List, MatchOption, pos};
 ghost use Rattle.fab_base.specs.declared.token.Token.{Token as TokenTree};
-ghost use Rattle.fab_tree.specs.Lists.{IsNumeral};
-ghost use Rattle.fab_reading.specs.Reading.{Starts, begins_numeral};
+ghost use Rattle.fab_tree.specs.Lists.{IsNumeral, IsNumber, IsLeast, minus};
+ghost use Rattle.fab_tree.specs.Runs.{IsNegated};
+ghost use Rattle.fab_reading.specs.Reading.{Starts, begins_numeral, begins_least, begins_negated};
 
 use crate::reading::next;
 use fab_base::{Kind, Token};
+use fab_tree::Number;
 
 /// A number of 31 bits as one of 32 bits with a sign.
-pub fn positive(number: u32) -> i32
+fn positive(number: u32) -> i32
     requires { number < 2147483648 }
     ensures { result ≡ pos number }
 {
     number as i32
+}
+
+/// A number of 31 bits with its sign changed.
+fn opposite(number: u32) -> i32
+    requires { number < 2147483648 }
+    ensures { result ≡ minus number }
+{
+    -positive(number)
 }
 
 /// A number of 31 bits.
@@ -44,8 +54,41 @@ fn small_number(kind: &Kind) -> Option<u32>
     }
 }
 
+/// A number, with its width.
+pub fn number(tokens: &[Token]) -> Option<(Number, &[Token])>
+    ensures { MatchOption result (Starts begins_numeral tokens.now → ⊥) (λ x. IsNumber tokens.now x.0 x.1.now) }
+{
+    match numeral(tokens) {
+        None => None,
+        Some((number, rest)) => Some((Number::Int(positive(number)), rest)),
+    }
+}
+
+/// A number behind a minus sign, which has been read.
+pub fn negative(tokens: &[Token]) -> Option<(Number, &[Token])>
+    ensures { MatchOption result (Starts begins_negated tokens.now → ⊥) (λ x. IsNegated tokens.now x.0 x.1.now) }
+{
+    if let Some((number, rest)) = numeral(tokens) {
+        return Some((Number::Int(opposite(number)), rest));
+    }
+    match least(tokens) {
+        None => None,
+        Some((number, rest)) => Some((number, rest)),
+    }
+}
+
+/// The least number of a width, by its digits.
+pub fn least(tokens: &[Token]) -> Option<(Number, &[Token])>
+    ensures { MatchOption result (Starts begins_least tokens.now → ⊥) (λ x. IsLeast tokens.now x.0 x.1.now) }
+{
+    match behind_least(tokens) {
+        None => None,
+        Some(rest) => Some((Number::Int(i32::MIN), rest)),
+    }
+}
+
 /// The tokens behind 2147483648.
-pub fn behind_least(tokens: &[Token]) -> Option<&[Token]>
+fn behind_least(tokens: &[Token]) -> Option<&[Token]>
     ensures { MatchOption result ((t : TokenTree) (ts : List TokenTree) → tokens.now ≡ t ∷ ts → t.kind ≡ Kind.Least → ⊥) (λ rest. (t : TokenTree) × (tokens.now ≡ t ∷ rest.now) × (t.kind ≡ Kind.Least)) }
 {
     match next(tokens) {

@@ -20,7 +20,7 @@ fn put_expression(out: &mut Seq<u16>, expression: &Expression) -> Result<(), NoM
     match &expression.form {
         Form::Number(_) | Form::Null | Form::Local(_) => Ok(()),
         Form::Read { site, .. } => out.push(*site),
-        Form::Negative(operand) | Form::Not(operand) => put_expression(out, operand.get()),
+        Form::Unary { operand, .. } => put_expression(out, operand.get()),
         Form::Chain { first, others } => {
             put_expression(out, first.get())?;
             put_operands(out, others.as_slice())

@@ -8,8 +8,7 @@ ghost use Rattle.fab_record.specs.Parts.{shown_to};
 use fab_base::{NoMemory, Seq, Value};
 use fab_places::Seen;
 use fab_rights::is_in;
-use fab_tree::Name;
-use fab_tree::resolved::{Asked, Local, Method, Request, Resolved, Root, Session, Use};
+use fab_tree::resolved::{Asked, Local, Method, Resolved, Root, Session};
 use std::alloc::Global;
 use std::mem;
 
@@ -17,18 +16,12 @@ use std::mem;
 fn public_root(alloc: Global, seen: &Seen, root: Root) -> Root
     ensures { result ≡ public_root (has_bit seen.now.labels) (has_bit seen.now.classes) root }
 {
-    let Root { name, oid, values } = root;
-    let Name { text, .. } = name;
-    let values = if is_in(seen.classes, oid.class) {
-        values
-    } else {
-        Seq::new(alloc)
-    };
-    Root {
-        name: Name { text, at: 0 },
-        oid,
-        values,
+    let mut root = root;
+    root.name.at = 0;
+    if !is_in(seen.classes, root.oid.class) {
+        root.values = Seq::new(alloc);
     }
+    root
 }
 
 /// What is given to a parameter as it is seen, and what is given to none.
@@ -90,23 +83,11 @@ fn public_asked(
 ) -> Result<Asked, NoMemory>
     ensures { IfOk result (λ x. x ≡ public_asked (has_bit seen.now.labels) (has_bit seen.now.classes) methods.now asked) }
 {
-    let Asked { request, .. } = asked;
-    let Request {
-        worker,
-        number,
-        method,
-        args,
-    } = request;
-    let args = public_args(alloc, seen, methods, method, args)?;
-    Ok(Asked {
-        request: Request {
-            worker,
-            number,
-            method,
-            args,
-        },
-        at: 0,
-    })
+    let mut asked = asked;
+    asked.at = 0;
+    let args = mem::replace(&mut asked.request.args, Seq::new(alloc));
+    asked.request.args = public_args(alloc, seen, methods, asked.request.method, args)?;
+    Ok(asked)
 }
 
 /// The requests with what is seen of their arguments.
@@ -134,13 +115,11 @@ fn public_session(
 ) -> Result<Session, NoMemory>
     ensures { IfOk result (λ x. x ≡ public_session (has_bit seen.now.labels) (has_bit seen.now.classes) methods.now session) }
 {
-    let Session { worker, requests } = session;
-    let worker = Use {
-        number: worker.number,
-        at: 0,
-    };
-    let requests = all_asked(alloc, seen, methods, requests)?;
-    Ok(Session { worker, requests })
+    let mut session = session;
+    session.worker.at = 0;
+    let requests = mem::replace(&mut session.requests, Seq::new(alloc));
+    session.requests = all_asked(alloc, seen, methods, requests)?;
+    Ok(session)
 }
 
 /// The sessions with what is seen of the arguments of their requests.

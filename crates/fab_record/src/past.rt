@@ -19,10 +19,15 @@ use std::alloc::Global;
 
 /// Of a log so far: by the number of a worker the objects that its attempt has touched in view, and
 /// where attempts changed objects of classes that are seen.
-#[derive(Drop)]
 pub(crate) struct Past {
     pub(crate) touched: Vec<IndexSet<Oid>>,
     pub(crate) changed: IndexSet<ChangedAt>,
+}
+
+impl Drop for Past {
+    fn drop(self) {
+        let Past { touched, changed } = self;
+    }
 }
 
 impl Past {

@@ -21,7 +21,7 @@ fn class_of_sort<'a>(scope: &Scope<'a>, sort: Sort) -> Option<&'a Class>
     ensures { option_copied result ≡ class_of_sort scope.now.classes.now sort }
 {
     match sort {
-        Sort::Int => None,
+        Sort::Number(_) => None,
         Sort::Class(class) => scope.classes.get(usize::from(class.number)),
     }
 }
@@ -65,7 +65,7 @@ pub(crate) fn reads_seen(scope: &Scope<'_>, expression: &Expression) -> bool
         Form::Number(_) | Form::Null => true,
         Form::Local(local) => sees_local(scope, *local),
         Form::Read { object, .. } => sees_local(scope, *object) && sees_behind(scope, *object),
-        Form::Negative(operand) | Form::Not(operand) => reads_seen(scope, operand.get()),
+        Form::Unary { operand, .. } => reads_seen(scope, operand.get()),
         Form::Chain { first, others } => {
             reads_seen(scope, first.get()) && operands_seen(scope, others.as_slice())
         }

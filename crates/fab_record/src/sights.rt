@@ -18,12 +18,22 @@ use std::alloc::Global;
 
 /// What a set of nodes sees: the nodes of the set and the classes, as masks, the sites that are out of
 /// view, and those of downgrades out of what it doesn't see into what it does.
-#[derive(Drop)]
 pub(crate) struct Sights {
     pub(crate) nodes: u64,
     pub(crate) classes: u64,
     pub(crate) hidden: IndexSet<u16>,
     pub(crate) crossing: IndexSet<u16>,
+}
+
+impl Drop for Sights {
+    fn drop(self) {
+        let Sights {
+            nodes,
+            classes,
+            hidden,
+            crossing,
+        } = self;
+    }
 }
 
 impl Sights {

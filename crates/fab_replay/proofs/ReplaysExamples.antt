@@ -8,6 +8,7 @@ use Rattle.fab_base.specs.declared.label.Policy.{Policy}
 use Rattle.fab_base.specs.declared.object.Value.TheVariants.{Int}
 use Rattle.fab_base.specs.Principals.{ActsFor}
 use Rattle.fab_base.specs.Labels.{ActsForOne}
+use Rattle.fab_base.specs.declared.object.Width.TheVariants as widths
 use Rattle.fab_labelling.specs.Readers.{IsNode, principal_of}
 use Rattle.fab_language.specs.Flows.{delegations_of}
 use Rattle.fab_language.specs.Words.{node_text}
@@ -15,6 +16,7 @@ use Rattle.fab_places.specs.Places.{ClassExcludes}
 use Rattle.fab_protocol.specs.Stores.{shelf_of}
 use Rattle.fab_rights.specs.Computed.{has_bit}
 use Rattle.fab_rights.specs.declared.rights.Rights.{Rights}
+use Rattle.fab_rights.specs.declared.rights.Shape.TheVariants as shapes
 use Rattle.fab_settings.specs.Settings.{is_hostile_node, lines_of}
 use Rattle.fab_tree.specs.declared.declaration.Role.{Role}
 use Rattle.fab_tree.specs.declared.declaration.Role.TheVariants as roles
@@ -193,7 +195,7 @@ abbrev rights : Rights
 rights = record {
   workers = 1;
   stores = 6;
-  classes = record { fetchers = 1; writers = 0; holders = 2; fields = None ∷ [] } ∷ record { fetchers = 1; writers = 1; holders = 6; fields = [] } ∷ [];
+  classes = record { fetchers = 1; writers = 0; holders = 2; fields = shapes.Number widths.Int ∷ [] } ∷ record { fetchers = 1; writers = 1; holders = 6; fields = [] } ∷ [];
 }
 
 abbrev g : GivenModel

@@ -6,7 +6,10 @@ use Rattle.fab_base.specs.declared.object.Object.{Object}
 use Rattle.fab_base.specs.declared.object.Value.{Value}
 use Rattle.fab_base.specs.declared.object.Value.TheVariants.{Int, Null, Ref}
 use Rattle.fab_rights.specs.declared.rights.ClassRights.{ClassRights}
+use Rattle.fab_base.specs.Values.{is_number_of}
 use Rattle.fab_rights.specs.declared.rights.Rights.{Rights}
+use Rattle.fab_rights.specs.declared.rights.Shape.{Shape}
+use Rattle.fab_rights.specs.declared.rights.Shape.TheVariants as shapes
 
 -- bit n of the mask is 1
 abbrev pub has_bit : ℕ → ℕ → Bool
@@ -58,16 +61,14 @@ may_hold r store class = holds (slice_get r.classes class) store
 
 -- ---- objects
 
--- a field of a number holds a number; one of a class null, or a reference of that class to a store that may hold it
-abbrev pub fits_field : Rights → Option ℕ → Value → Bool
-fits_field r None (Int n) = true
-fits_field r None Null = false
-fits_field r None (Ref o) = false
-fits_field r (Some class) (Int n) = false
-fits_field r (Some class) Null = true
-fits_field r (Some class) (Ref o) = (o.class == class) && may_hold r o.store class
+-- a field of numbers holds a number of its width; one of a class null, or a reference of that class to a store that may hold it
+abbrev pub fits_field : Rights → Shape → Value → Bool
+fits_field r (shapes.Number w) v = is_number_of w v
+fits_field r (shapes.Class class) (Int n) = false
+fits_field r (shapes.Class class) Null = true
+fits_field r (shapes.Class class) (Ref o) = (o.class == class) && may_hold r o.store class
 
-abbrev pub fit_fields : Rights → List (Option ℕ) → List Value → Bool
+abbrev pub fit_fields : Rights → List Shape → List Value → Bool
 fit_fields r [] [] = true
 fit_fields r [] (v ∷ vs) = false
 fit_fields r (f ∷ fs) [] = false

@@ -1,10 +1,13 @@
 -- What stores and workers know of classes and of one another. Bit n of a mask stands for node n.
-use Rattle.std.specs.Prelude.{◌≡◌, ℕ, ◌<◌, length, Option, Some, None, slice_get, IsSomeAnd, IsBitSet}
+use Rattle.std.specs.Prelude.{◌≡◌, ℕ, ◌<◌, length, slice_get, IsSomeAnd, IsBitSet}
 use Rattle.std.specs.List.{AllZip}
 use Rattle.fab_base.specs.declared.object.Value.{Value}
 use Rattle.fab_base.specs.declared.object.Value.TheVariants.{Int, Null, Ref}
 use Rattle.fab_base.specs.declared.object.Object.{Object}
+use Rattle.fab_base.specs.Values.{IsNumberOf}
 use Rattle.fab_rights.specs.declared.rights.Rights.{Rights}
+use Rattle.fab_rights.specs.declared.rights.Shape.{Shape}
+use Rattle.fab_rights.specs.declared.rights.Shape.TheVariants as shapes
 
 -- there is a class of this number
 abbrev pub Knows : Rights → ℕ → Type 0
@@ -31,14 +34,12 @@ MayHold r store class = IsSomeAnd (slice_get r.classes class) (λ c. IsBitSet c.
 
 -- ---- objects
 
--- A field of a number holds a number. A field of a class holds null, or a reference of that class to a store that may hold it.
-abbrev pub FitsField : Rights → Option ℕ → Value → Type 0
-FitsField r None (Int n) = Unit {0}
-FitsField r None Null = ⊥
-FitsField r None (Ref o) = ⊥
-FitsField r (Some class) (Int n) = ⊥
-FitsField r (Some class) Null = Unit {0}
-FitsField r (Some class) (Ref o) = (o.class ≡ class) × MayHold r o.store o.class
+-- A field of numbers holds a number of its width. A field of a class holds null, or a reference of that class to a store that may hold it.
+abbrev pub FitsField : Rights → Shape → Value → Type 0
+FitsField r (shapes.Number w) v = IsNumberOf w v
+FitsField r (shapes.Class class) (Int n) = ⊥
+FitsField r (shapes.Class class) Null = Unit {0}
+FitsField r (shapes.Class class) (Ref o) = (o.class ≡ class) × MayHold r o.store o.class
 
 -- an object is of a known class, and has as many fields as that class, each with what it may hold
 abbrev pub IsWellFormed : Rights → Object → Type 0

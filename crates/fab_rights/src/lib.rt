@@ -5,4 +5,4 @@ mod masks;
 mod rights;
 
 pub use masks::is_in;
-pub use rights::{ClassRights, Rights};
+pub use rights::{ClassRights, Rights, Shape};

@@ -6,26 +6,54 @@ ghost use Rattle.fab_rights.specs.Rights.{Knows, IsWorkerIn, IsStoreIn, MayFetch
 ghost use Rattle.fab_rights.specs.Computed as computed;
 
 use crate::masks::is_in;
-use fab_base::{NoMemory, Object, Seq, Value};
+use fab_base::{NoMemory, Object, Seq, Value, Width};
 use std::alloc::Global;
 
-/// Who may do what with the objects of a class. Bit n of a mask stands for node n. A field holds a
-/// number, or where it has the number of a class, a reference to an object of that class.
-#[derive(Debug, Drop)]
+/// What a field holds: numbers of a width, or references to objects of the class of this number.
+#[derive(Clone, Copy, Debug, PartialEq, Eq)]
+pub enum Shape {
+    Number(Width),
+    Class(u16),
+}
+
+/// Who may do what with the objects of a class, and what their fields hold. Bit n of a mask stands
+/// for node n.
+#[derive(Debug)]
 pub struct ClassRights {
     pub fetchers: u64,
     pub writers: u64,
     pub holders: u64,
-    pub fields: Seq<Option<u16>>,
+    pub fields: Seq<Shape>,
+}
+
+impl Drop for ClassRights {
+    fn drop(self) {
+        let ClassRights {
+            fetchers,
+            writers,
+            holders,
+            fields,
+        } = self;
+    }
 }
 
 /// Which nodes are workers and which stores, as masks, and the rights over each class, in the order
 /// of their numbers.
-#[derive(Debug, Drop)]
+#[derive(Debug)]
 pub struct Rights {
     pub workers: u64,
     pub stores: u64,
     pub classes: Seq<ClassRights>,
+}
+
+impl Drop for Rights {
+    fn drop(self) {
+        let Rights {
+            workers,
+            stores,
+            classes,
+        } = self;
+    }
 }
 
 impl ClassRights {
@@ -133,35 +161,35 @@ impl Rights {
         }
     }
 
-    /// Whether a field of this kind may hold the value.
-    fn fits(&self, kind: Option<u16>, value: Value) -> bool
-        ensures exact { IsTrue result ↔ FitsField self.now kind value }
-        ensures computed { result ≡ computed.fits_field self.now kind value }
+    /// Whether a field of this shape may hold the value.
+    fn fits(&self, shape: Shape, value: Value) -> bool
+        ensures exact { IsTrue result ↔ FitsField self.now shape value }
+        ensures computed { result ≡ computed.fits_field self.now shape value }
     {
-        match (kind, value) {
-            (None, Value::Int(_)) => true,
-            (Some(_), Value::Null) => true,
-            (Some(class), Value::Ref(oid)) => {
+        match (shape, value) {
+            (Shape::Number(width), _) => value.is_number_of(width),
+            (Shape::Class(_), Value::Null) => true,
+            (Shape::Class(class), Value::Ref(oid)) => {
                 oid.class == class && self.may_hold(oid.store, class)
             }
             _ => false,
         }
     }
 
-    /// Whether there are as many values as fields, each of its field's kind.
-    fn all_fit(&self, kinds: &[Option<u16>], values: &[Value]) -> bool
-        ensures exact { IsTrue result ↔ AllZip (FitsField self.now) kinds.now values.now }
-        ensures computed { result ≡ computed.fit_fields self.now kinds.now values.now }
+    /// Whether there are as many values as fields, each of its field's shape.
+    fn all_fit(&self, shapes: &[Shape], values: &[Value]) -> bool
+        ensures exact { IsTrue result ↔ AllZip (FitsField self.now) shapes.now values.now }
+        ensures computed { result ≡ computed.fit_fields self.now shapes.now values.now }
     {
-        let (mut wanted, mut given) = (kinds, values);
-        while let Some((kind, other_kinds)) = wanted.split_first() {
+        let (mut wanted, mut given) = (shapes, values);
+        while let Some((shape, other_shapes)) = wanted.split_first() {
             let Some((value, other_values)) = given.split_first() else {
                 return false;
             };
-            if !self.fits(*kind, *value) {
+            if !self.fits(*shape, *value) {
                 return false;
             }
-            wanted = other_kinds;
+            wanted = other_shapes;
             given = other_values;
         }
         given.is_empty()

@@ -22,11 +22,14 @@ use Rattle.fab_rights.specs.Computed as computed
 use Rattle.fab_rights.specs.Computed.{may_hold}
 use Rattle.fab_rights.specs.declared.rights.ClassRights.{ClassRights}
 use Rattle.fab_rights.specs.declared.rights.Rights.{Rights}
+use Rattle.fab_rights.specs.declared.rights.Shape.{Shape}
+use Rattle.fab_rights.specs.declared.rights.Shape.TheVariants as shapes
 use Rattle.fab_world.specs.Machine.{Setting}
 use Rattle.fab_world.specs.Serial.{IsFitName, IsFit}
 use Rattle.fab_attempts.specs.Sessions.{IsProgramOf}
 use Rattle.fab_attempts.proofs.Suiting.{answer_shaped, few_fields}
-use Rattle.fab_settings.proofs.Ranges.{IsSmall, AreSmall}
+use Rattle.fab_settings.proofs.Ranges.{IsSmall, AllFit}
+use Rattle.fab_laws.proofs.Values.{number_leads_nowhere}
 
 -- ---- names by a test
 
@@ -86,17 +89,17 @@ module _ (rights : Rights) where
   p = fits_name rights
 
   -- what a field may hold, and a message can spell, passes
-  value_passes : (f : Option ℕ) (v : Value) → IsTrue (computed.fits_field rights f v) → IsValue sent_version v → Passes p v
-  value_passes f (Int n) h i = tt
-  value_passes f Null h i = tt
-  value_passes None (Ref o) h i = absurd (true≢false (sym h))
-  value_passes (Some class) (Ref o) h i =
+  value_passes : (f : Shape) (v : Value) → IsTrue (computed.fits_field rights f v) → IsValue sent_version v → Passes p v
+  value_passes (shapes.Number w) v h i = number_leads_nowhere _ w v h
+  value_passes (shapes.Class class) (Int n) h i = tt
+  value_passes (shapes.Class class) Null h i = tt
+  value_passes (shapes.Class class) (Ref o) h i =
       let both = and_parts (o.class == class) (may_hold rights o.store class) h in
       let same : o.class ≡ class = grind (arith, nat_tests, both.0) in
       let held : IsTrue (may_hold rights o.store o.class) = subst (λ c. IsTrue (may_hold rights o.store c)) (sym same) both.1 in
       held_passes rights o held i
 
-  values_pass : (fs : List (Option ℕ)) (vs : List Value) → IsTrue (computed.fit_fields rights fs vs) → AllByRecursion (IsValue sent_version) vs → AllPass p vs
+  values_pass : (fs : List Shape) (vs : List Value) → IsTrue (computed.fit_fields rights fs vs) → AllByRecursion (IsValue sent_version) vs → AllPass p vs
   values_pass [] [] h i = tt
   values_pass [] (v ∷ vs) h i = absurd (true≢false (sym h))
   values_pass (f ∷ fs) [] h i = absurd (true≢false (sym h))
@@ -109,10 +112,8 @@ module _ (rights : Rights) where
   class_passes (Some c) x h i = values_pass c.fields x.fields h i
 
   -- a value of a field's kind that passes is one that the field may hold
-  value_held : (s : Sort) (v : Value) → suits (kind_of_sort s) v ≡ true → Passes p v → IsTrue (computed.fits_field rights (places.kind_of_sort s) v)
-  value_held sorts.Int (Int n) h i = refl
-  value_held sorts.Int Null h i = absurd (true≢false (sym h))
-  value_held sorts.Int (Ref o) h i = absurd (true≢false (sym h))
+  value_held : (s : Sort) (v : Value) → suits (kind_of_sort s) v ≡ true → Passes p v → IsTrue (computed.fits_field rights (places.shape_of_sort s) v)
+  value_held (sorts.Number w) v h i = h
   value_held (sorts.Class x) (Int n) h i = absurd (true≢false (sym h))
   value_held (sorts.Class x) Null h i = refl
   value_held (sorts.Class x) (Ref o) h i =
@@ -121,24 +122,24 @@ module _ (rights : Rights) where
       (subst (λ c. IsTrue (may_hold rights o.store c)) same (passes_held rights o i))
 
   fields_held : (fs : List Field) (vs : List Value) → AllSuit (map (λ f. kind_of_sort f.sort) fs) vs → AllPass p vs
-      → IsTrue (computed.fit_fields rights (map places.kind_of fs) vs)
+      → IsTrue (computed.fit_fields rights (map places.shape_of fs) vs)
   fields_held [] [] h i = refl
   fields_held [] (v ∷ vs) h i = absurd h
   fields_held (f ∷ fs) [] h i = absurd h
   fields_held (f ∷ fs) (v ∷ vs) h i =
-      and_from (computed.fits_field rights (places.kind_of f) v) (computed.fit_fields rights (map places.kind_of fs) vs)
+      and_from (computed.fits_field rights (places.shape_of f) v) (computed.fit_fields rights (map places.shape_of fs) vs)
       (value_held f.sort v h.0 i.0) (fields_held fs vs h.1 i.1)
 
   -- where a store holds the class, it is known, and its fields are those of the bundle
-  class_held : (rs : List ClassRights) (cs : List Class) → map (λ c. c.fields) rs ≡ map (λ c. map places.kind_of c.fields) cs → (n store : ℕ) (x : Object)
+  class_held : (rs : List ClassRights) (cs : List Class) → map (λ c. c.fields) rs ≡ map (λ c. map places.shape_of c.fields) cs → (n store : ℕ) (x : Object)
       → IsTrue (computed.holds (slice_get rs n) store) → AllSuit (class_kinds cs n) x.fields → AllPass p x.fields → IsTrue (computed.fits_class rights (slice_get rs n) x)
   class_held [] cs e n store x h i k = absurd (true≢false (sym h))
   class_held (r ∷ rs) [] e n store x h i k = cc
   class_held (r ∷ rs) (c ∷ cs) e zero store x h i k =
-      let same : r.fields ≡ map places.kind_of c.fields = cc in
+      let same : r.fields ≡ map places.shape_of c.fields = cc in
       subst (λ fs. IsTrue (computed.fit_fields rights fs x.fields)) (sym same) (fields_held c.fields x.fields i k)
   class_held (r ∷ rs) (c ∷ cs) e (suc n) store x h i k =
-      let rest : map (λ c. c.fields) rs ≡ map (λ c. map places.kind_of c.fields) cs = cc in
+      let rest : map (λ c. c.fields) rs ≡ map (λ c. map places.shape_of c.fields) cs = cc in
       class_held rs cs rest n store x h i k
 
   -- a value that passes and is within 32 bits can be spelled
@@ -147,7 +148,7 @@ module _ (rights : Rights) where
   value_spelled few Null h i = tt
   value_spelled few (Ref o) h i = passes_spelled rights o few h
 
-  values_spelled : HasFew rights → (vs : List Value) → AllPass p vs → AreSmall vs → AllByRecursion (IsValue sent_version) vs
+  values_spelled : HasFew rights → (vs : List Value) → AllPass p vs → AllFit vs → AllByRecursion (IsValue sent_version) vs
   values_spelled few [] h i = tt
   values_spelled few (v ∷ vs) h i = (value_spelled few v h.0 i.0, values_spelled few vs h.1 i.1)
 
@@ -156,7 +157,7 @@ small_value (Int n) h = h
 small_value Null h = tt
 small_value (Ref o) h = tt
 
-small_values : (vs : List Value) → AllByRecursion (IsValue sent_version) vs → AreSmall vs
+small_values : (vs : List Value) → AllByRecursion (IsValue sent_version) vs → AllFit vs
 small_values [] h = tt
 small_values (v ∷ vs) h = (small_value v h.0, small_values vs h.1)
 
@@ -167,7 +168,7 @@ pub record IsSound (program : Resolved) (rights : Rights) (o : Oid) (x : Object)
   pub name : fits_name rights o ≡ true
   pub shape : IsShaped program.classes o x
   pub references : AllPass (fits_name rights) x.fields
-  pub numbers : AreSmall x.fields
+  pub numbers : AllFit x.fields
 
 module _ (S : Setting) (program : Resolved) (n : ℕ) (fits : IsProgramOf program n S.rights) (few : HasFew S.rights) where
   pub sound_of : (o : Oid) (x : Object) → IsFit S (o, x) → IsSound program S.rights o x
@@ -186,7 +187,7 @@ module _ (S : Setting) (program : Resolved) (n : ℕ) (fits : IsProgramOf progra
       let class = h.shape.class in
       let formed : IsTrue (computed.is_well_formed S.rights x) =
       subst (λ c. IsTrue (computed.fits_class S.rights (slice_get S.rights.classes c) x)) (sym class)
-      (class_held S.rights S.rights.classes program.classes fits.kinds o.class o.store x name.placed h.shape.fields h.references) in
+      (class_held S.rights S.rights.classes program.classes fits.shapes o.class o.store x name.placed h.shape.fields h.references) in
       record {
         name = name;
         suited = and_from (computed.is_well_formed S.rights x) (x.class == o.class) formed (grind (arith, nat_tests, class));

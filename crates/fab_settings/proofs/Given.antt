@@ -1,7 +1,6 @@
 -- What an accepted bundle gives: its roots fit, and what its requests give has fitting names and numbers within 32 bits.
 use Rattle.std.proofs.Common.{◌≡◌, ℕ, zero, suc, ◌+◌, ◌-◌, ◌^◌, ◌<◌, ◌≤◌, ◌==◌, Bool, true, false, nat_lt, cond, if◌then◌else◌, IsTrue, List, [], ◌∷◌, ◌++◌, map, length, Option, Some, None, refl, ap, ◌∙◌, arith}
-use Rattle.std.specs.Prelude.{slice_get, find, FitsSigned}
-use Rattle.std.specs.Int.{w32}
+use Rattle.std.specs.Prelude.{slice_get, find}
 use Rattle.std.specs.List.{AllByRecursion, flat_map}
 use Rattle.std.proofs.lemmas.Bool.{and_from, lt-ltb}
 use Rattle.fab_base.specs.declared.object.Oid.{Oid}
@@ -23,6 +22,7 @@ use Rattle.fab_tree.specs.declared.resolved.Request.{Request}
 use Rattle.fab_tree.specs.declared.resolved.Root.{Root as NumberedRoot}
 use Rattle.fab_tree.specs.declared.resolved.Session.{Session}
 use Rattle.fab_tree.specs.declared.resolved.Resolved.{Resolved}
+use Rattle.fab_tree.specs.declared.expression.Number.TheVariants as numbers
 use Rattle.fab_language.specs.Evaluation.{rows_of, map_at_start}
 use Rattle.fab_language.specs.Names.{named, number_of, root_name}
 use Rattle.fab_language.specs.Numbers.{oid_of, reference_to, value_of, values_of, root_of, roots_from, asked_from, session_of, resolved}
@@ -43,15 +43,15 @@ use Rattle.fab_attempts.proofs.Programs.{program_of}
 use Rattle.fab_attempts.proofs.Rows.{all_rows}
 use Rattle.fab_settings.specs.Numbers.{in_value, in_values, in_session, in_method}
 use Rattle.fab_settings.specs.Settings.{IsAcceptedWith, setting_of, request_at}
-use Rattle.fab_settings.proofs.Ranges.{AllFit, IsSmall, AreSmall}
+use Rattle.fab_settings.proofs.Ranges.{AllFit, IsSmall}
 use Rattle.fab_settings.proofs.Fitting.{is_spelled, fits_name, HasFew, IsSound, fit_of}
 use Rattle.fab_settings.proofs.Nodes.{few_roots, has_few, number_holds}
 
 -- ---- numbers
 
-small_from : (vs : List Value) → AllFit (in_values vs) → AreSmall vs
+small_from : (vs : List Value) → AllFit (in_values vs) → AllFit vs
 small_from [] h = tt
-small_from (v ∷ vs) h = let p = all_split (FitsSigned w32) (in_value v) (in_values vs) h in (one v p.0, small_from vs p.1)
+small_from (v ∷ vs) h = let p = all_split IsSmall (in_value v) (in_values vs) h in (one v p.0, small_from vs p.1)
   where
     one : (v : Value) → AllFit (in_value v) → IsSmall v
     one (Int n) h = h.0
@@ -70,16 +70,16 @@ of_found P test (x ∷ xs) h =
       | false ↦ of_found P test xs h.1
     ]
 
-small_requests : (xs : List Session) → AllFit (flat_map in_session xs) → AllByRecursion (λ x. AllByRecursion (λ q. AreSmall q.args) (requests_in (Some x))) xs
+small_requests : (xs : List Session) → AllFit (flat_map in_session xs) → AllByRecursion (λ x. AllByRecursion (λ q. AllFit q.args) (requests_in (Some x))) xs
 small_requests [] h = tt
 small_requests (x ∷ xs) h =
-    let p = all_split (FitsSigned w32) (in_session x) (flat_map in_session xs) h in
+    let p = all_split IsSmall (in_session x) (flat_map in_session xs) h in
     (each x.requests p.0, small_requests xs p.1)
   where
-    each : (ys : List Asked) → AllFit (flat_map (λ (y : Asked). in_values y.request.args) ys) → AllByRecursion (λ q. AreSmall q.args) (map (λ (y : Asked). y.request) ys)
+    each : (ys : List Asked) → AllFit (flat_map (λ (y : Asked). in_values y.request.args) ys) → AllByRecursion (λ q. AllFit q.args) (map (λ (y : Asked). y.request) ys)
     each [] h = tt
     each (y ∷ ys) h =
-        let p = all_split (FitsSigned w32) (in_values y.request.args) (flat_map (λ (z : Asked). in_values z.request.args) ys) h in
+        let p = all_split IsSmall (in_values y.request.args) (flat_map (λ (z : Asked). in_values z.request.args) ys) h in
         (small_from y.request.args p.0, each ys p.1)
 
 -- ---- the roots
@@ -110,10 +110,10 @@ of_rows : (P : Oid → List Value → Type 0) (xs : List NumberedRoot) → AllBy
 of_rows P [] h = tt
 of_rows P (x ∷ xs) h = (h.0, of_rows P xs h.1)
 
-small_roots : (xs : List NumberedRoot) → AllFit (flat_map (λ x. in_values x.values) xs) → AllByRecursion (λ x. AreSmall x.values) xs
+small_roots : (xs : List NumberedRoot) → AllFit (flat_map (λ x. in_values x.values) xs) → AllByRecursion (λ x. AllFit x.values) xs
 small_roots [] h = tt
 small_roots (x ∷ xs) h =
-    let p = all_split (FitsSigned w32) (in_values x.values) (flat_map (λ (y : NumberedRoot). in_values y.values) xs) h in
+    let p = all_split IsSmall (in_values x.values) (flat_map (λ (y : NumberedRoot). in_values y.values) xs) h in
     (small_from x.values p.0, small_roots xs p.1)
 
 -- ---- an accepted bundle
@@ -137,10 +137,10 @@ module _ (s : Start) (rights : Rights) (a : IsAcceptedWith s rights) where
   -- ---- numbers
 
   three : AllFit (flat_map in_method bundle.methods ++ flat_map (λ x. in_values x.values) bundle.roots) × AllFit (flat_map in_session bundle.sessions)
-  three = all_split (FitsSigned w32) (flat_map in_method bundle.methods ++ flat_map (λ x. in_values x.values) bundle.roots) (flat_map in_session bundle.sessions) a.numbers
+  three = all_split IsSmall (flat_map in_method bundle.methods ++ flat_map (λ x. in_values x.values) bundle.roots) (flat_map in_session bundle.sessions) a.numbers
 
   two : AllFit (flat_map in_method bundle.methods) × AllFit (flat_map (λ x. in_values x.values) bundle.roots)
-  two = all_split (FitsSigned w32) (flat_map in_method bundle.methods) (flat_map (λ x. in_values x.values) bundle.roots) three.0
+  two = all_split IsSmall (flat_map in_method bundle.methods) (flat_map (λ x. in_values x.values) bundle.roots) three.0
 
   pub program_small : AllFit (flat_map in_method bundle.methods)
   program_small = two.0
@@ -161,7 +161,7 @@ module _ (s : Start) (rights : Rights) (a : IsAcceptedWith s rights) where
       at_index (λ y. p y.oid ≡ true) bundle.roots i (root_of s i x) roots_pass (root_at s s.roots 0 i x e ∙ ap (λ j. Some (root_of s j x)) number)
 
   literal_passes : (l : Literal) → Passes p (value_of s l)
-  literal_passes (literals.Int i) = tt
+  literal_passes (literals.Number (numbers.Int i)) = tt
   literal_passes literals.Null = tt
   literal_passes (literals.Root x) = by (named root_name s.roots x) refl
     where
@@ -187,7 +187,7 @@ module _ (s : Start) (rights : Rights) (a : IsAcceptedWith s rights) where
     name = each_of_map (λ q y. p q ≡ true) (rows_of bundle.roots) (of_rows (λ q vs. p q ≡ true) bundle.roots roots_pass) o x e;
     shape = objects_have_shapes s a.named o x e;
     references = each_of_map (λ q y. AllPass p y.fields) (rows_of bundle.roots) (of_rows (λ q vs. AllPass p vs) bundle.roots (roots_given s.roots 0)) o x e;
-    numbers = each_of_map (λ q y. AreSmall y.fields) (rows_of bundle.roots) (of_rows (λ q vs. AreSmall vs) bundle.roots (small_roots bundle.roots two.1)) o x e;
+    numbers = each_of_map (λ q y. AllFit y.fields) (rows_of bundle.roots) (of_rows (λ q vs. AllFit vs) bundle.roots (small_roots bundle.roots two.1)) o x e;
   }
 
   pub roots_ascend : IsTrue (ascends start)
@@ -213,7 +213,7 @@ module _ (s : Start) (rights : Rights) (a : IsAcceptedWith s rights) where
   pub record IsSoundRequest (q : Request) : Type 0 where
     pub fitting : IsFitting bundle q
     pub names : AllPass p q.args
-    pub numbers : AreSmall q.args
+    pub numbers : AllFit q.args
 
   pub asked_sound : (n number : ℕ) (q : Request) → request_at bundle n number ≡ Some q → IsSoundRequest q
   asked_sound n number q e = by (number == 0) e
@@ -226,6 +226,6 @@ module _ (s : Start) (rights : Rights) (a : IsAcceptedWith s rights) where
             at_index (λ x. AllPass p x.args) (requests_of bundle n) (number - 1) q
             (of_found (λ x. AllPass p x.args) (λ x. x.worker.number == n) bundle.sessions (sessions_pass s.sessions)) h;
         numbers =
-            at_index (λ x. AreSmall x.args) (requests_of bundle n) (number - 1) q
-            (of_found (λ x. AreSmall x.args) (λ x. x.worker.number == n) bundle.sessions (small_requests bundle.sessions three.1)) h;
+            at_index (λ x. AllFit x.args) (requests_of bundle n) (number - 1) q
+            (of_found (λ x. AllFit x.args) (λ x. x.worker.number == n) bundle.sessions (small_requests bundle.sessions three.1)) h;
       }

@@ -1,9 +1,9 @@
 -- Numbers stay within 32 bits: where those that stand in a program are, those that a request gives and those of known objects,
 -- so are those of the objects behind it and what it returned.
 use Rattle.std.proofs.Common.{◌≡◌, ℕ, zero, suc, ◌-◌, ◌/◌, ◌^◌, ◌<◌, ℤ, pos, negsuc, neg_ℤ, ◌+ℤ◌, ◌-ℤ◌, ◌*ℤ◌, Bool, true, false, ◌==◌, cond, if◌then◌else◌, List, [], ◌∷◌, ◌++◌, map, Option, Some, None, refl, sym, ap, ◌∙◌, subst, arith}
-use Rattle.std.specs.Prelude.{slice_get, slice_set, unwrap_or, bit_and, int_div, FitsSigned}
+use Rattle.std.specs.Prelude.{slice_get, slice_set, unwrap_or, bit_and, int_div, FitsSigned, not}
 use Rattle.std.specs.Int.{w32, int_bit_and, int_bit_or, int_wrapping_div, cast_signed, cast_unsigned}
-use Rattle.std.specs.List.{AllByRecursion, flat_map}
+use Rattle.std.specs.List.{flat_map}
 use Rattle.std.proofs.lemmas.Int.{SFits-int_wrap}
 use Rattle.std.proofs.lemmas.Nat.{or_of_32, and_le_l}
 use Rattle.std.proofs.Math.Facts.{sfits_to_z}
@@ -15,6 +15,7 @@ use Rattle.fab_base.specs.declared.object.Tid.{Tid}
 use Rattle.fab_base.specs.declared.object.Value.{Value}
 use Rattle.fab_base.specs.declared.object.Value.TheVariants.{Int, Null, Ref}
 use Rattle.fab_base.specs.declared.object.Stop.TheVariants.{Fuel, Depth, Reads, Writes}
+use Rattle.fab_base.specs.declared.object.Width.TheVariants as widths
 use Rattle.fab_base.specs.FlatMap.{FlatMap, get, put, is_same}
 use Rattle.fab_base.proofs.NameOrder.{one_name}
 use Rattle.fab_base.proofs.Lists.{all_split, at_index}
@@ -37,28 +38,21 @@ use Rattle.fab_tree.specs.declared.resolved.Request.{Request}
 use Rattle.fab_tree.specs.declared.resolved.Resolved.{Resolved}
 use Rattle.fab_language.specs.declared.ending.Ending.TheVariants.{Ended}
 use Rattle.fab_language.specs.Heaps.{Heap, full, found, reach_in, reach_before, is_among, is_full, touched, noted, with_row, is_changed, is_spent, newly_written, created}
-use Rattle.fab_language.specs.Meaning.{State, End, failed, stopped, missing, Run, goes, ends, M, and_then, gives, ◌>>=◌, ◌>>◌, charge, local, assign, reached, access, field_of, with_field, read, settled, replace, write}
+use Rattle.fab_language.specs.Meaning.{State, End, failed, stopped, missing, Run, goes, ends, M, and_then, gives, ◌>>=◌, ◌>>◌, charge, local, assign, reached, access, field_of, with_field, read, settled, replace, write, led, applied}
 use Rattle.fab_language.specs.Meaning.{next_name, make, create, noted_down, int_of, holds, truth, wrapped, quotient, operate, chained, form_step, value, form_value, operand_value, values, in_order, turns, or_else, atomically}
 use Rattle.fab_language.specs.Meaning.{right, statement_step, statement, block, returned, body_of, default, locals_at_start, back_with, entered, called, requested, meant_by, meaning, state_at_start}
 use Rattle.fab_laws.proofs.Values.{at_place, all_set, all_at_start}
 use Rattle.fab_shapes.proofs.Lists.{in_each}
 use Rattle.fab_settings.specs.Numbers.{all_of, in_form, in_expression, in_expressions, in_right, in_statement_step, in_statement, in_block, in_result, in_method}
+pub use Rattle.fab_settings.specs.Numbers.{IsSmall, AllFit}
+use Rattle.fab_base.specs.Values.{referred}
+use Rattle.fab_tree.specs.declared.expression.UnaryOperator.{UnaryOperator}
+use Rattle.fab_tree.specs.declared.expression.UnaryOperator.TheVariants as unary
+use Rattle.fab_tree.specs.Numbers.{number_value}
 
-abbrev pub AllFit : List ℤ → Type 0
-AllFit ns = AllByRecursion (FitsSigned w32) ns
-
--- a value that is a number is within 32 bits
-abbrev pub IsSmall : Value → Type 0
-IsSmall (Int n) = FitsSigned w32 n
-IsSmall Null = Unit {0}
-IsSmall (Ref o) = Unit {0}
-
-abbrev pub AreSmall : List Value → Type 0
-AreSmall vs = AllByRecursion IsSmall vs
-
--- so is each in an object of a map
+-- so is each value in an object of a map
 abbrev pub HasSmall : FlatMap → Type 0
-HasSmall m = (o : Oid) (x : Object) → get m o ≡ Some x → AreSmall x.fields
+HasSmall m = (o : Oid) (x : Object) → get m o ≡ Some x → AllFit x.fields
 
 -- ---- numbers
 
@@ -76,6 +70,10 @@ number_fits (Ref o) h = zero_fits
 truth_fits : (b : Bool) → IsSmall (truth b)
 truth_fits true = one_fits
 truth_fits false = zero_fits
+
+applied_fits : (o : UnaryOperator) (v : Value) → IsSmall (applied o v)
+applied_fits unary.Negative v = SFits-int_wrap w32 (pos 0 -ℤ int_of v)
+applied_fits unary.Not v = truth_fits (not (holds v))
 
 -- 32 bits, read as a number with a sign
 signed_fits : (n : ℕ) → n < 2 ^ 32 → FitsSigned w32 (cast_signed w32 n)
@@ -100,18 +98,18 @@ divided_fits a b f = signed_fits (cast_unsigned w32 (int_div a b)) (quotient_bel
 
 -- ---- runs
 
-put_small : (o : Oid) (y : Object) (m : FlatMap) → HasSmall m → AreSmall y.fields → HasSmall (put o y m)
+put_small : (o : Oid) (y : Object) (m : FlatMap) → HasSmall m → AllFit y.fields → HasSmall (put o y m)
 put_small o y m a i p z e = by (is_same o p) refl
   where
-    by : (b : Bool) → is_same o p ≡ b → AreSmall z.fields
+    by : (b : Bool) → is_same o p ≡ b → AllFit z.fields
     by true j =
         let here : Some y ≡ Some z = sym (ap (get (put o y m)) (sym (one_name o p j)) ∙ get-put_same o y m) ∙ e in
         let same : y ≡ z = cc in
-        subst (λ (x : Object). AreSmall x.fields) same i
+        subst (λ (x : Object). AllFit x.fields) same i
     by false j = a p z (sym (get-put_other o p y m j) ∙ e)
 
 pub record Holds (t : State) : Type 0 where
-  pub locals : AreSmall t.locals
+  pub locals : AllFit t.locals
   pub rows : HasSmall t.heap.rows
 
 pub data Result {A : Type 0} (P : A → Type 0) : Run A → Type 0 where
@@ -164,7 +162,7 @@ assigns x v p = record {
 -- ---- objects
 
 abbrev Fields : Object → Type 0
-Fields x = AreSmall x.fields
+Fields x = AllFit x.fields
 
 module _ (site : ℕ) (o : Oid) (t : State) (h : Holds t) where
   noting : (x : Object) (ts : List (ℕ × Oid)) → Fields x → Result Fields (reached site o (found x ts) t)
@@ -185,12 +183,15 @@ module _ (site : ℕ) (o : Oid) (t : State) (h : Holds t) where
 accesses : (site : ℕ) (o : Oid) → Gives Fields (access site o)
 accesses site o = record { by = λ t h. by_row site o t h (get t.heap.rows o) refl }
 
+leads : {A : Type 0} (P : A → Type 0) (o : Option Oid) (does : Oid → M A) → ((p : Oid) → Gives P (does p)) → Gives P (led o does)
+leads P None does f = over P failed
+leads P (Some o) does f = f o
+
 reads : (site field : ℕ) (v : Value) → Gives IsSmall (read site field v)
-reads site field (Int n) = over IsSmall failed
-reads site field Null = over IsSmall failed
-reads site field (Ref o) =
+reads site field v =
+    leads IsSmall (referred v) (λ o. access site o >>= λ x. gives (field_of field x)) (λ o.
     then_on Fields IsSmall (access site o) (λ x. gives (field_of field x)) (accesses site o)
-    (λ x p. done IsSmall (field_of field x) (at_place IsSmall x.fields field Null tt p))
+    (λ x p. done IsSmall (field_of field x) (at_place IsSmall x.fields field Null tt p)))
 
 module _ (o : Oid) (y : Object) (p : Fields y) (t : State) (h : Holds t) where
   putting : (g : Heap) → g.rows ≡ put o y t.heap.rows → Result Any (settled (Some g) t)
@@ -212,20 +213,19 @@ replaces : (o : Oid) (y : Object) → Fields y → Goes (replace o y)
 replaces o y p = record { by = λ t h. by_change o y p t h (is_changed o t.heap) }
 
 writes : (site field : ℕ) (v w : Value) → IsSmall v → Goes (write site field v w)
-writes site field v (Int n) p = over Any failed
-writes site field v Null p = over Any failed
-writes site field v (Ref o) p =
+writes site field v w p =
+    leads Any (referred w) (λ o. access site o >>= λ x. replace o (with_field field v x)) (λ o.
     then_on Fields Any (access site o) (λ x. replace o (with_field field v x)) (accesses site o)
-    (λ x q. replaces o (with_field field v x) (all_set IsSmall x.fields field v p q))
+    (λ x q. replaces o (with_field field v x) (all_set IsSmall x.fields field v p q)))
 
-makes : (o : Oid) (vs : List Value) → AreSmall vs → Gives IsSmall (make o vs)
+makes : (o : Oid) (vs : List Value) → AllFit vs → Gives IsSmall (make o vs)
 makes o vs p = record {
   by = λ t h.
       let y : Object = record { class = o.class; fields = vs } in
       run_then Any IsSmall (settled (created o y t.heap) t) (λ _. gives (Ref o)) (by_room o y p t h (is_spent t.heap)) (λ a q. done IsSmall (Ref o) tt);
 }
 
-creates : (tid : Tid) (store class site : ℕ) (vs : List Value) → AreSmall vs → Gives IsSmall (create tid store class site vs)
+creates : (tid : Tid) (store class site : ℕ) (vs : List Value) → AllFit vs → Gives IsSmall (create tid store class site vs)
 creates tid store class site vs p = record { by = λ t h. (makes (next_name tid store class site t.heap) vs p).by t h }
 
 downs : (site : ℕ) (v : Value) → IsSmall v → Gives IsSmall (noted_down site v)
@@ -254,17 +254,17 @@ operates Multiply a b p q = done IsSmall (wrapped (int_of a *ℤ int_of b)) (SFi
 operates Divide a b p q = quotients (int_of a) (int_of b) (number_fits a p)
 
 -- what stands for a value gives one within 32 bits if the numbers that stand in it are
-pub record Stands (ns : List ℤ) (m : M Value) : Type 0 where
+pub record Stands (ns : List Value) (m : M Value) : Type 0 where
   pub gives : AllFit ns → Gives IsSmall m
 
 abbrev KnownForm : Type 0
-KnownForm = (x : Form) × Stands (fold-Form (List ℤ) (List ℤ) (List ℤ) in_form (λ e. e.form) (λ u. u.operand) x) (form_value x)
+KnownForm = (x : Form) × Stands (fold-Form (List Value) (List Value) (List Value) in_form (λ e. e.form) (λ u. u.operand) x) (form_value x)
 
 abbrev KnownValue : Type 0
 KnownValue = (x : Expression) × Stands (in_expression x) (value x)
 
-abbrev in_operand : Operand → List ℤ
-in_operand = fold-Operand (List ℤ) (List ℤ) (List ℤ) in_form (λ e. e.form) (λ u. u.operand)
+abbrev in_operand : Operand → List Value
+in_operand = fold-Operand (List Value) (List Value) (List Value) in_form (λ e. e.form) (λ u. u.operand)
 
 abbrev KnownOperand : Type 0
 KnownOperand = (x : Operand) × Stands (in_operand x) (operand_value x).1
@@ -278,35 +278,34 @@ chains [] c v p = done IsSmall v p
 chains (x ∷ xs) c v p =
     let o = operand_value x.0 in
     let rest = chained operate (map operand_value (plain_operands xs)) in
-    let both = all_split (FitsSigned w32) (in_operand x.0) (all_of (map in_operand (plain_operands xs))) c in
+    let both = all_split IsSmall (in_operand x.0) (all_of (map in_operand (plain_operands xs))) c in
     then_on IsSmall IsSmall o.1 (λ w. operate o.0 v w >>= rest) (x.1.gives both.0)
     (λ w q. then_on IsSmall IsSmall (operate o.0 v w) rest (operates o.0 v w p q) (λ u r. chains xs both.1 u r))
 
 abbrev pieces : f.Form-F KnownForm KnownValue KnownOperand → f.Form-F Form Expression Operand
 pieces y = map-Form KnownForm KnownValue KnownOperand Form Expression Operand (λ k. k.0) (λ k. k.0) (λ k. k.0) y
 
-abbrev in_a_form : Form → List ℤ
-in_a_form = fold-Form (List ℤ) (List ℤ) (List ℤ) in_form (λ e. e.form) (λ u. u.operand)
+abbrev in_a_form : Form → List Value
+in_a_form = fold-Form (List Value) (List Value) (List Value) in_form (λ e. e.form) (λ u. u.operand)
 
 by_form : (y : f.Form-F KnownForm KnownValue KnownOperand)
-    → Stands (in_form (map-Form Form Expression Operand (List ℤ) (List ℤ) (List ℤ) in_a_form in_expression in_operand (pieces y)))
+    → Stands (in_form (map-Form Form Expression Operand (List Value) (List Value) (List Value) in_a_form in_expression in_operand (pieces y)))
     (form_step (map-Form Form Expression Operand (M Value) (M Value) (Operator × M Value) form_value value operand_value (pieces y)))
-by_form (f.Number n) = record { gives = λ c. done IsSmall (Int n) c.0 }
+by_form (f.Number n) = record { gives = λ c. done IsSmall (number_value n) c.0 }
 by_form f.Null = record { gives = λ c. done IsSmall Null tt }
 by_form (f.Local x) = record { gives = λ c. locals_small x.number }
 by_form (f.Read x field site) = record { gives = λ c. then_on IsSmall IsSmall (local x.number) (read site field) (locals_small x.number) (λ v p. reads site field v) }
-by_form (f.Negative x) = record {
-  gives = λ c. then_on IsSmall IsSmall (value x.0) _ (x.1.gives c) (λ v p. done IsSmall (wrapped (pos 0 -ℤ int_of v)) (SFits-int_wrap w32 (pos 0 -ℤ int_of v)));
+by_form (f.Unary o x) = record {
+  gives = λ c. then_on IsSmall IsSmall (value x.0) _ (x.1.gives c) (λ v p. done IsSmall (applied o v) (applied_fits o v));
 }
-by_form (f.Not x) = record { gives = λ c. then_on IsSmall IsSmall (value x.0) _ (x.1.gives c) (λ v p. done IsSmall (truth _) (truth_fits _)) }
 by_form (f.Chain x others) = record {
   gives = λ c.
-      let both = all_split (FitsSigned w32) (in_expression x.0) (all_of (map in_operand (plain_operands others))) c in
+      let both = all_split IsSmall (in_expression x.0) (all_of (map in_operand (plain_operands others))) c in
       then_on IsSmall IsSmall (value x.0) (chained operate (map operand_value (plain_operands others))) (x.1.gives both.0) (chains others both.1);
 }
 by_form (f.Compared x comparison y) = record {
   gives = λ c.
-      let both = all_split (FitsSigned w32) (in_expression x.0) (in_expression y.0) c in
+      let both = all_split IsSmall (in_expression x.0) (in_expression y.0) c in
       then_on IsSmall IsSmall (value x.0) _ (x.1.gives both.0)
       (λ a p. then_on IsSmall IsSmall (value y.0) _ (y.1.gives both.1) (λ b q. done IsSmall (truth _) (truth_fits _)));
 }
@@ -316,27 +315,27 @@ expressions = ind-Expression (λ x. Stands (in_a_form x) (form_value x)) (λ x. 
     (λ x y is. subst (λ z. Stands (in_a_form (roll-Form z)) (form_value (roll-Form z))) is
     (rw (
       fold-roll-Form (M Value) (M Value) (Operator × M Value) form_step (λ e. e.form) (λ u. (u.operator, u.operand)) (pieces y),
-      fold-roll-Form (List ℤ) (List ℤ) (List ℤ) in_form (λ e. e.form) (λ u. u.operand) (pieces y),
+      fold-roll-Form (List Value) (List Value) (List Value) in_form (λ e. e.form) (λ u. u.operand) (pieces y),
     ) (by_form y)))
     (λ x y is. let z = map-Expression KnownForm KnownValue KnownOperand Form Expression Operand (λ k. k.0) (λ k. k.0) (λ k. k.0) y in
     subst (λ z. Stands (in_expression (roll-Expression z)) (value (roll-Expression z))) is
     (rw (
       fold-roll-Expression (M Value) (M Value) (Operator × M Value) form_step (λ e. e.form) (λ u. (u.operator, u.operand)) z,
-      fold-roll-Expression (List ℤ) (List ℤ) (List ℤ) in_form (λ e. e.form) (λ u. u.operand) z,
+      fold-roll-Expression (List Value) (List Value) (List Value) in_form (λ e. e.form) (λ u. u.operand) z,
     ) y.form.1))
     (λ x y is. let z = map-Operand KnownForm KnownValue KnownOperand Form Expression Operand (λ k. k.0) (λ k. k.0) (λ k. k.0) y in
     subst (λ z. Stands (in_operand (roll-Operand z)) (operand_value (roll-Operand z)).1) is
     (rw (
       fold-roll-Operand (M Value) (M Value) (Operator × M Value) form_step (λ e. e.form) (λ u. (u.operator, u.operand)) z,
-      fold-roll-Operand (List ℤ) (List ℤ) (List ℤ) in_form (λ e. e.form) (λ u. u.operand) z,
+      fold-roll-Operand (List Value) (List Value) (List Value) in_form (λ e. e.form) (λ u. u.operand) z,
     ) y.operand.1))
 
-all_values : (es : List Expression) → AllFit (in_expressions es) → Gives AreSmall (values es)
-all_values [] c = done AreSmall [] tt
+all_values : (es : List Expression) → AllFit (in_expressions es) → Gives AllFit (values es)
+all_values [] c = done AllFit [] tt
 all_values (e ∷ es) c =
-    let both = all_split (FitsSigned w32) (in_expression e) (in_expressions es) c in
-    then_on IsSmall AreSmall (value e) (λ v. values es >>= λ vs. gives (v ∷ vs)) ((expressions e).gives both.0)
-    (λ v p. then_on AreSmall AreSmall (values es) (λ vs. gives (v ∷ vs)) (all_values es both.1) (λ vs q. done AreSmall (v ∷ vs) (p, q)))
+    let both = all_split IsSmall (in_expression e) (in_expressions es) c in
+    then_on IsSmall AllFit (value e) (λ v. values es >>= λ vs. gives (v ∷ vs)) ((expressions e).gives both.0)
+    (λ v p. then_on AllFit AllFit (values es) (λ vs. gives (v ∷ vs)) (all_values es both.1) (λ vs q. done AllFit (v ∷ vs) (p, q)))
 
 -- ---- statements, over what a call does
 
@@ -344,16 +343,16 @@ abbrev pub Answers : Option Value → Type 0
 Answers r = IsSmall (unwrap_or r Null)
 
 abbrev pub Calls : (ℕ → List Value → M (Option Value)) → Type 0
-Calls call = (m : ℕ) (vs : List Value) → AreSmall vs → Gives Answers (call m vs)
+Calls call = (m : ℕ) (vs : List Value) → AllFit vs → Gives Answers (call m vs)
 
 module _ (tid : Tid) (call : ℕ → List Value → M (Option Value)) (calls : Calls call) where
   all_rights : (w : Right) → AllFit (in_right w) → Gives IsSmall (right tid call w)
   all_rights (rights.Plain e) c = (expressions e).gives c
   all_rights (rights.Call m es) c =
-      then_on AreSmall IsSmall (values es) (λ vs. call m.number vs >>= λ r. gives (unwrap_or r Null)) (all_values es c)
+      then_on AllFit IsSmall (values es) (λ vs. call m.number vs >>= λ r. gives (unwrap_or r Null)) (all_values es c)
       (λ vs p. then_on Answers IsSmall (call m.number vs) (λ r. gives (unwrap_or r Null)) (calls m.number vs p) (λ r q. done IsSmall (unwrap_or r Null) q))
   all_rights (rights.New class store es site at) c =
-      then_on AreSmall IsSmall (values es) (create tid store.number class.number site) (all_values es c) (λ vs p. creates tid store.number class.number site vs p)
+      then_on AllFit IsSmall (values es) (create tid store.number class.number site) (all_values es c) (λ vs p. creates tid store.number class.number site vs p)
   all_rights (rights.Downgrade downgrade e from to site at) c =
       then_on IsSmall IsSmall (value e) (noted_down site) ((expressions e).gives c) (λ v p. downs site v p)
 
@@ -398,30 +397,30 @@ module _ (tid : Tid) (call : ℕ → List Value → M (Option Value)) (calls : C
   each : (ks : List Known) → AllFit (all_of (map in_statement (plain ks))) → Each (map (statement tid call) (plain ks))
   each [] c = tt
   each (k ∷ ks) c =
-      let both = all_split (FitsSigned w32) (in_statement k.0) (all_of (map in_statement (plain ks))) c in
+      let both = all_split IsSmall (in_statement k.0) (all_of (map in_statement (plain ks))) c in
       (k.1.goes both.0, each ks both.1)
 
   abbrev parts : s.Statement-F Known → s.Statement-F Statement
   parts y = map-Statement Known Statement (λ k. k.0) y
 
-  layer : (y : s.Statement-F Known) → AllFit (in_statement_step (map-Statement Statement (List ℤ) in_statement (parts y)))
+  layer : (y : s.Statement-F Known) → AllFit (in_statement_step (map-Statement Statement (List Value) in_statement (parts y)))
       → Goes (statement_step tid call (map-Statement Statement (M (Unit {0})) (statement tid call) (parts y)))
   layer (s.Assign x w at) c = paid _ (then_on IsSmall Any (right tid call w) (assign x) (all_rights w c) (λ v p. assigns x v p))
   layer (s.Write x field e site) c =
       paid _ (then_on IsSmall Any (value e) (λ v. local x.number >>= λ o. write site field v o) ((expressions e).gives c)
       (λ v p. then_on IsSmall Any (local x.number) (λ o. write site field v o) (locals_small x.number) (λ o q. writes site field v o p)))
   layer (s.Call m es) c =
-      paid _ (then_on AreSmall Any (values es) (λ vs. call m.number vs >>= λ r. gives tt) (all_values es c)
+      paid _ (then_on AllFit Any (values es) (λ vs. call m.number vs >>= λ r. gives tt) (all_values es c)
       (λ vs p. then_on Answers Any (call m.number vs) (λ r. gives tt) (calls m.number vs p) (λ r q. done Any tt tt)))
   layer (s.If e a b) c =
-      let first = all_split (FitsSigned w32) (in_expression e ++ all_of (map in_statement (plain a))) (all_of (map in_statement (plain b))) c in
-      let two = all_split (FitsSigned w32) (in_expression e) (all_of (map in_statement (plain a))) first.0 in
+      let first = all_split IsSmall (in_expression e ++ all_of (map in_statement (plain a))) (all_of (map in_statement (plain b))) c in
+      let two = all_split IsSmall (in_expression e) (all_of (map in_statement (plain a))) first.0 in
       paid _ (then_on IsSmall Any (value e) _ ((expressions e).gives two.0) (λ v p. choice (holds v) _ _ (orders _ (each a two.1)) (orders _ (each b first.1))))
   layer (s.While e a) c =
-      let both = all_split (FitsSigned w32) (in_expression e) (all_of (map in_statement (plain a))) c in
+      let both = all_split IsSmall (in_expression e) (all_of (map in_statement (plain a))) c in
       record { by = λ t h. (all_turns t.fuel (value e) _ ((expressions e).gives both.0) (orders _ (each a both.1))).by t h }
   layer (s.Atomic label a b at) c =
-      let both = all_split (FitsSigned w32) (all_of (map in_statement (plain a))) (all_of (map in_statement (plain b))) c in
+      let both = all_split IsSmall (all_of (map in_statement (plain a))) (all_of (map in_statement (plain b))) c in
       paid _ (atomics _ _ (orders _ (each a both.0)) (orders _ (each b both.1)))
   layer (s.Fail at) c = paid _ (over Any failed)
 
@@ -429,13 +428,13 @@ module _ (tid : Tid) (call : ℕ → List Value → M (Option Value)) (calls : C
   statements = ind-Statement Walks (λ x y is. record {
     goes =
         subst (λ z. AllFit (in_statement (roll-Statement z)) → Goes (statement tid call (roll-Statement z))) is
-        (rw (fold-roll-Statement (M (Unit {0})) (statement_step tid call) (parts y), fold-roll-Statement (List ℤ) in_statement_step (parts y)) (layer y));
+        (rw (fold-roll-Statement (M (Unit {0})) (statement_step tid call) (parts y), fold-roll-Statement (List Value) in_statement_step (parts y)) (layer y));
   })
 
   blocks : (xs : List Statement) → AllFit (in_block xs) → Goes (block tid call xs)
   blocks [] c = done Any tt tt
   blocks (x ∷ xs) c =
-      let both = all_split (FitsSigned w32) (in_statement x) (in_block xs) c in
+      let both = all_split IsSmall (in_statement x) (in_block xs) c in
       one_by_one Any (statement tid call x) (block tid call xs) ((statements x).goes both.0) (blocks xs both.1)
 
   all_returned : (r : Option Return) → AllFit (in_result r) → Gives Answers (returned r)
@@ -444,22 +443,22 @@ module _ (tid : Tid) (call : ℕ → List Value → M (Option Value)) (calls : C
 
   bodies : (m : Method) → AllFit (in_method m) → Gives Answers (body_of tid call m)
   bodies m c =
-      let both = all_split (FitsSigned w32) (in_block m.body) (in_result m.result) c in
+      let both = all_split IsSmall (in_block m.body) (in_result m.result) c in
       one_by_one Answers (block tid call m.body) (returned m.result) (blocks m.body both.0) (all_returned m.result both.1)
 
 -- ---- calls
 
-run_back : (vs : List Value) (r : Run (Option Value)) → AreSmall vs → Result Answers r → Result Answers (back_with vs r)
+run_back : (vs : List Value) (r : Run (Option Value)) → AllFit vs → Result Answers r → Result Answers (back_with vs r)
 run_back vs _ p (on a u h q) = on a (record u { locals = vs }) (record { locals = p; rows = h.rows }) q
 run_back vs _ p (off e u h) = off e (record u { locals = vs }) (record { locals = p; rows = h.rows })
 
 default_small : (x : Sort) → IsSmall (default x)
-default_small sorts.Int = zero_fits
+default_small (sorts.Number widths.Int) = zero_fits
 default_small (sorts.Class c) = tt
 
 module _ (program : Resolved) (tid : Tid) (fit : AllFit (flat_map in_method program.methods)) where
   enters : (call : ℕ → List Value → M (Option Value)) → Calls call → (m : Option Method) → ((x : Method) → m ≡ Some x → AllFit (in_method x))
-      → (args : List Value) → AreSmall args → Gives Answers (entered tid call m args)
+      → (args : List Value) → AllFit args → Gives Answers (entered tid call m args)
   enters call calls None c args p = record { by = λ t h. on None t h tt }
   enters call calls (Some m) c args p = record {
     by = λ t h.
@@ -472,11 +471,11 @@ module _ (program : Resolved) (tid : Tid) (fit : AllFit (flat_map in_method prog
   all_calls zero m vs p = over Answers (stopped Depth)
   all_calls (suc depth) m vs p =
       enters (called program tid depth) (all_calls depth) (slice_get program.methods m)
-      (λ x e. at_index (λ y. AllFit (in_method y)) program.methods m x (in_each (FitsSigned w32) in_method program.methods fit) e) vs p
+      (λ x e. at_index (λ y. AllFit (in_method y)) program.methods m x (in_each IsSmall in_method program.methods fit) e) vs p
 
   -- ---- requests
 
-  module _ (known : FlatMap) (request : Request) (fuel : ℕ) (args : AreSmall request.args) (rows : HasSmall known) where
+  module _ (known : FlatMap) (request : Request) (fuel : ℕ) (args : AllFit request.args) (rows : HasSmall known) where
     out : Result Answers (requested program tid request (state_at_start known fuel))
     out = (all_calls 64 request.method request.args args).by (state_at_start known fuel) (record { locals = tt; rows = rows })
 

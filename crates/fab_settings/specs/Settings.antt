@@ -1,7 +1,6 @@
 -- What the machine is given by a bundle, and what a bundle must be for integrity to hold of all its runs.
-use Rattle.std.specs.Prelude.{◌≡◌, ◌<◌, ◌-◌, ◌^◌, ◌==◌, ℕ, Bool, false, if◌then◌else◌, List, [], map, length, Option, Some, None, option_map, unwrap_or, slice_get, FitsSigned}
+use Rattle.std.specs.Prelude.{◌≡◌, ◌<◌, ◌-◌, ◌^◌, ◌==◌, ℕ, Bool, false, if◌then◌else◌, List, [], map, length, Option, Some, None, option_map, unwrap_or, slice_get}
 use Rattle.std.specs.List.{filter, AllByRecursion}
-use Rattle.std.specs.Int.{w32}
 use Rattle.fab_base.specs.declared.object.Tid.{Tid}
 use Rattle.fab_base.specs.FlatMap.{FlatMap}
 use Rattle.fab_tree.specs.declared.start.Start.{Start}
@@ -22,7 +21,8 @@ use Rattle.fab_wire.specs.Reading.{read_message}
 use Rattle.fab_attempts.specs.Sessions.{requests_of}
 use Rattle.fab_world.specs.Crashing.{CrashLine}
 use Rattle.fab_world.specs.Machine.{Setting}
-use Rattle.fab_settings.specs.Numbers.{numbers_of}
+use Rattle.fab_settings.specs.Numbers.{IsSmall, values_of}
+use Rattle.fab_base.specs.JournalSpelling.{journal_version}
 
 -- it was declared hostile
 abbrev pub is_hostile_node : Resolved → ℕ → Bool
@@ -51,6 +51,7 @@ setting_of r rights = record {
   rights = rights;
   cache = r.cache;
   hostile = is_hostile_node r;
+  first = λ n. journal_version;
   requests = λ n. length (requests_of r n);
   posts = posts_of r;
   roots = map_at_start r;
@@ -67,4 +68,4 @@ pub record IsAcceptedWith (s : Start) (rights : Rights) : Type 0 where
   pub rights_are : AreRights (resolved s) rights
   pub workers : rights.workers < 2 ^ 64
   pub stores : rights.stores < 2 ^ 64
-  pub numbers : AllByRecursion (FitsSigned w32) (numbers_of (resolved s))
+  pub numbers : AllByRecursion IsSmall (values_of (resolved s))

@@ -18,9 +18,8 @@ use Rattle.fab_rights.specs.declared.rights.Rights.{Rights}
 use Rattle.fab_attempts.specs.Sessions.{IsProgramOf}
 use Rattle.fab_attempts.proofs.Programs.{program_of}
 use Rattle.fab_setup.specs.declared.setup.Setup.{Setup}
-use Rattle.fab_settings.specs.Numbers.{numbers_of}
+use Rattle.fab_settings.specs.Numbers.{AllFit, values_of}
 use Rattle.fab_settings.specs.Settings.{IsAcceptedWith}
-use Rattle.fab_fitting.specs.Fitting.{AllFit}
 use Rattle.fab_setup.specs.Setups.{IsSetupOf, KeepsRules}
 
 -- ---- the numbers of nodes
@@ -62,7 +61,7 @@ pub programs : (s : Start) (x : Setup) → first_passed s ≡ None → IsSetupOf
 programs s x limits is n = subst (λ (p : Resolved). IsProgramOf p n x.rights) (sym is.program) (program_of s n x.rights limits is.right is.rights)
 
 -- the rights of a bundle that keeps all rules, in masks of 64 bits, where its numbers fit
-pub accepts : (r : Resolved) (x : Rights) → AreRights r x → x.workers < 2 ^ 64 → x.stores < 2 ^ 64 → AllFit (numbers_of r)
+pub accepts : (r : Resolved) (x : Rights) → AreRights r x → x.workers < 2 ^ 64 → x.stores < 2 ^ 64 → AllFit (values_of r)
     → (s : Start) → resolved s ≡ r → KeepsRules s → IsAcceptedWith s x
 accepts r x exact workers stores fit s is keeps = record {
   within = keeps.within;
@@ -71,5 +70,5 @@ accepts r x exact workers stores fit s is keeps = record {
   rights_are = subst (λ (o : Resolved). AreRights o x) (sym is) exact;
   workers = workers;
   stores = stores;
-  numbers = subst (λ (o : Resolved). AllFit (numbers_of o)) (sym is) fit;
+  numbers = subst (λ (o : Resolved). AllFit (values_of o)) (sym is) fit;
 }

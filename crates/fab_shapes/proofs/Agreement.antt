@@ -1,4 +1,5 @@
 -- The kinds over the text and those over numbers.
+use Rattle.fab_base.specs.declared.object.Width.TheVariants as widths
 use Rattle.std.proofs.Common.{◌≡◌, ℕ, zero, suc, true, List, [], ◌∷◌, map, length, Option, Some, None, refl, sym, ap, ◌∙◌, arith}
 use Rattle.std.specs.Prelude.{slice_get, unwrap_or}
 use Rattle.std.specs.List.{AllByRecursion}
@@ -39,30 +40,30 @@ module _ (s : Start) where
 
   -- what is of a kind that is known has the other kind
   abbrev pub Agrees : Kind → n.Kind → Type 0
-  Agrees number i = i ≡ n.number
+  Agrees (number w) i = i ≡ n.number w
   Agrees (object x) i = i ≡ n.object (number_at x)
   Agrees nothing i = i ≡ n.nothing
   Agrees unknown i = ⊥
 
   -- what is declared is of a number or of a class
   abbrev pub Holds : Kind → n.Kind → Type 0
-  Holds number i = i ≡ n.number
+  Holds (number w) i = i ≡ n.number w
   Holds (object x) i = i ≡ n.object (number_at x)
   Holds nothing i = ⊥
   Holds unknown i = ⊥
 
   pub held : (k : Kind) (i : n.Kind) → Holds k i → Agrees k i
-  held number i h = h
+  held (number w) i h = h
   held (object x) i h = h
   held nothing i h = absurd h
   held unknown i h = absurd h
 
   pub fits : (taker k : Kind) (i j : n.Kind) → Holds taker i → Agrees k j → takes taker k ≡ true → n.takes i j ≡ true
-  fits number number i j h g e = takes_same i j n.number n.number h g refl
-  fits number (object y) i j h g e = absurd (false≢true e)
-  fits number nothing i j h g e = absurd (false≢true e)
-  fits number unknown i j h g e = absurd g
-  fits (object x) number i j h g e = absurd (false≢true e)
+  fits (number v) (number w) i j h g e = takes_same i j (n.number v) (n.number w) h g e
+  fits (number w) (object y) i j h g e = absurd (false≢true e)
+  fits (number w) nothing i j h g e = absurd (false≢true e)
+  fits (number w) unknown i j h g e = absurd g
+  fits (object x) (number w) i j h g e = absurd (false≢true e)
   fits (object x) (object y) i j h g e =
       takes_same i j (n.object (number_at x)) (n.object (number_at y)) h g
       (eq-eqb (number_at x) (number_at y) (ap number_at ((bytes_eq-Decides x y).0 e)))
@@ -72,8 +73,8 @@ module _ (s : Start) where
   fits unknown k i j h g e = absurd h
 
   -- what a number holds is one
-  pub is_number : (k : Kind) (j : n.Kind) → Agrees k j → takes number k ≡ true → j ≡ n.number
-  is_number number j g e = g
+  pub is_number : (k : Kind) (j : n.Kind) → Agrees k j → takes (number widths.Int) k ≡ true → j ≡ n.number widths.Int
+  is_number (number widths.Int) j g e = g
   is_number (object y) j g e = absurd (false≢true e)
   is_number nothing j g e = absurd (false≢true e)
   is_number unknown j g e = absurd g
@@ -85,7 +86,7 @@ module _ (s : Start) where
   own_number x c e = number_same class_name s.program.classes x (record { text = c.name.text; at = 0 }) (sym (has_name class_name s.program.classes x c e))
 
   pub sort_holds : (t : Sort) → in_sort s t ≡ [] → Holds (kind_of_sort s t) (n.kind_of_sort (sort_of s t))
-  sort_holds sorts.Int e = refl
+  sort_holds (sorts.Number w) e = refl
   sort_holds (sorts.Class x) e = by (named class_name s.program.classes x) refl e
     where
       by : (o : Option Class) → named class_name s.program.classes x ≡ o → if_found o x ≡ [] → Holds (kind_of_class s o) (n.object (class_number s x))

@@ -2,6 +2,7 @@
 use Rattle.std.proofs.Common.{◌≡◌, ℕ, List, [], ◌∷◌, map, refl, sym, ap, ◌∙◌, subst}
 use Rattle.std.specs.List.{AllByRecursion}
 use Rattle.fab_base.proofs.Lists.{left_nil, right_nil}
+use Rattle.fab_base.specs.declared.object.Width.TheVariants as widths
 use Rattle.fab_tree.specs.declared.expression.Expression.{Expression, roll-Expression, ind-Expression, fold-roll-Expression}
 use Rattle.fab_tree.specs.declared.expression.Form.{Form, roll-Form, map-Form, fold-Form, fold-roll-Form}
 use Rattle.fab_tree.specs.declared.expression.Form.TheOpen as f
@@ -77,12 +78,12 @@ module _ (s : Start) (classes : AllByRecursion (IsDeclared s) s.program.classes)
   OperandAgrees x = Unit {0}
 
   -- an operand is a number
-  operand_is : (e : Expression) (k : ℕ) → ExpressionAgrees e → u.in_expression s known e ≡ [] → operand s known (t.checked s known e) ≡ [] → kind_of (expression_of s locals e k).0 ≡ n.number
+  operand_is : (e : Expression) (k : ℕ) → ExpressionAgrees e → u.in_expression s known e ≡ [] → operand s known (t.checked s known e) ≡ [] → kind_of (expression_of s locals e k).0 ≡ n.number widths.Int
   operand_is e k h a b =
       let c = t.checked s known e in
       is_number s c.value.kind (kind_of (expression_of s locals e k).0)
-      (h k a (left_nil c.faults (given_to number c.value) b))
-      (allowed (takes number c.value.kind) c.value.at (right_nil c.faults (given_to number c.value) b))
+      (h k a (left_nil c.faults (given_to (number widths.Int) c.value) b))
+      (allowed (takes (number widths.Int) c.value.kind) c.value.at (right_nil c.faults (given_to (number widths.Int) c.value) b))
 
   refit : (a b : List Fault) (c d : Checked) (p q : Numbered NumberedExpression) → a ≡ b → c ≡ d → p ≡ q → Fits b d q → Fits a c p
   refit a b c d p q e g h f = subst (λ w. Fits a c w) (sym h) (subst (λ w. Fits a w q) (sym g) (subst (λ w. Fits w d q) (sym e) f))
@@ -133,8 +134,7 @@ module _ (s : Start) (classes : AllByRecursion (IsDeclared s) s.program.classes)
         let field = field_number s locals x y in
         subst (λ j. Agrees s (kind_of_field s (field_of s known x y)) j) (sym (kind_is (nf.Read (local_use locals x) field k) (nfo.Read (local_use locals x) field k) (sym (nf.rolls-Read (local_use locals x) field k))))
         (held s (kind_of_field s (field_of s known x y)) (n.field_kind (classes_in s) (n.kind_at (local_kinds s locals) (local_number locals x)) field) (field_holds s classes locals known knows x y at a b))
-    form_layer (f.Negative e) k at a b = let v = (expression_of s locals (expression e) k).0 in kind_is (nf.Negative v) (nfo.Negative v) (sym (nf.rolls-Negative v))
-    form_layer (f.Not e) k at a b = let v = (expression_of s locals (expression e) k).0 in kind_is (nf.Not v) (nfo.Not v) (sym (nf.rolls-Not v))
+    form_layer (f.Unary o e) k at a b = let v = (expression_of s locals (expression e) k).0 in kind_is (nf.Unary o v) (nfo.Unary o v) (sym (nf.rolls-Unary o v))
     form_layer (f.Chain e others) k at a b = chain_layer e others k at a b
     form_layer (f.Compared e c g) k at a b =
         let v = expression_of s locals (expression e) k in

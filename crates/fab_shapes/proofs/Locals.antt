@@ -3,6 +3,7 @@ use Rattle.std.proofs.Common.{◌≡◌, ℕ, Bool, true, false, List, [], map, 
 use Rattle.std.specs.List.{AllByRecursion}
 use Rattle.std.proofs.lemmas.Bool.{false≢true}
 use Rattle.fab_base.proofs.Lists.{left_nil, right_nil}
+use Rattle.fab_base.specs.declared.object.Width.TheVariants as widths
 use Rattle.fab_tree.specs.declared.name.Name.{Name}
 use Rattle.fab_tree.specs.declared.declaration.Sort.{Sort}
 use Rattle.fab_tree.specs.declared.declaration.Sort.TheVariants as sorts
@@ -73,7 +74,7 @@ module _ (s : Start) (classes : AllByRecursion (IsDeclared s) s.program.classes)
 
     field_in_type : (t : Sort) → in_sort s t ≡ [] → in_field_of s [] (class_of_sort s t) y ≡ [] → is_reachable (kind_of_sort s t) ≡ true
         → Holds s (kind_of_field s (named field_name (fields_of s (class_of_sort s t)) y)) (n.field_kind (classes_in s) (n.kind_of_sort (sort_of s t)) (number_of field_name (fields_of_sort s t) y))
-    field_in_type sorts.Int e f r = absurd (false≢true r)
+    field_in_type (sorts.Number widths.Int) e f r = absurd (false≢true r)
     field_in_type (sorts.Class z) e f r = field_in_class z (named class_name s.program.classes z) refl e f
 
   module _ (known : Locals) (knows : AllByRecursion (IsKnown s locals) known) where

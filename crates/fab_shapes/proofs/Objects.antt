@@ -10,6 +10,7 @@ use Rattle.fab_base.specs.declared.object.Object.{Object}
 use Rattle.fab_base.specs.declared.object.Value.TheVariants.{Int, Null, Ref}
 use Rattle.fab_base.specs.FlatMap.{FlatMap}
 use Rattle.fab_base.proofs.Lists.{left_nil, right_nil, all_always, all_flat}
+use Rattle.fab_base.specs.declared.object.Width.TheVariants as widths
 use Rattle.fab_tree.specs.declared.name.Name.{Name}
 use Rattle.fab_tree.specs.declared.declaration.Class.{Class}
 use Rattle.fab_tree.specs.declared.declaration.Field.{Field}
@@ -24,6 +25,7 @@ use Rattle.fab_tree.specs.declared.start.Start.{Start}
 use Rattle.fab_tree.specs.declared.resolved.Asked.{Asked}
 use Rattle.fab_tree.specs.declared.resolved.Request.{Request}
 use Rattle.fab_tree.specs.declared.resolved.Root.{Root as NumberedRoot}
+use Rattle.fab_tree.specs.declared.expression.Number.TheVariants as numbers
 use Rattle.fab_language.specs.Arity as a
 use Rattle.fab_language.specs.Evaluation.{rows_of, map_at_start, asked_at, nodes_of, requests_of}
 use Rattle.fab_language.specs.Faults.{faults}
@@ -97,7 +99,7 @@ module _ (s : Start) where
       has_row (rows_of (roots_from s 0 s.roots)) [] i (row_of (root_of s i x)) (made_at row_of (roots_from s 0 s.roots) i (root_of s i x) at)
 
   literal_there : (l : Literal) → IsThere objects (value_of s l)
-  literal_there (literals.Int i) = tt
+  literal_there (literals.Number (numbers.Int i)) = tt
   literal_there literals.Null = tt
   literal_there (literals.Root x) = by (named root_name s.roots x) refl
     where
@@ -128,7 +130,7 @@ module _ (s : Start) (right : IsFaultless s) where
   -- the object of a root suits what holds its class
   root_suits : (taker : Kind) (i : n.Kind) (k : ℕ) (r : Root) → Holds s taker i → (o : Option Class) → named class_name s.program.classes r.class ≡ o → takes taker (kind_of_class s o) ≡ true → u.if_found o r.class ≡ [] → suits i (Ref (oid_of s k r)) ≡ true
   root_suits taker i k r h None is e f = absurd (omega (arith, ap length f))
-  root_suits number i k r h (Some c) is e f = absurd (false≢true e)
+  root_suits (number w) i k r h (Some c) is e f = absurd (false≢true e)
   root_suits (object z) i k r h (Some c) is e f =
       let same : z ≡ c.name.text = (bytes_eq-Decides z c.name.text).0 e in
       ap (λ j. suits j (Ref (oid_of s k r))) h
@@ -144,11 +146,11 @@ module _ (s : Start) (right : IsFaultless s) where
       (left_nil (in_class_name s r.class) (in_principal s r.store) (left_nil (in_class_name s r.class ++ in_principal s r.store) (flat_map (in_given s) r.values) fine.declared))
 
   literal_suits : (l : Literal) (taker : Kind) (i : n.Kind) → Holds s taker i → in_literal s l ≡ [] → takes taker (kind_of_literal s l) ≡ true → suits i (value_of s l) ≡ true
-  literal_suits (literals.Int v) number i h f e = ap (λ j. suits j (Int v)) h
-  literal_suits (literals.Int v) (object z) i h f e = absurd (false≢true e)
-  literal_suits (literals.Int v) nothing i h f e = absurd h
-  literal_suits (literals.Int v) unknown i h f e = absurd h
-  literal_suits literals.Null number i h f e = absurd (false≢true e)
+  literal_suits (literals.Number (numbers.Int v)) (number widths.Int) i h f e = ap (λ j. suits j (Int v)) h
+  literal_suits (literals.Number v) (object z) i h f e = absurd (false≢true e)
+  literal_suits (literals.Number v) nothing i h f e = absurd h
+  literal_suits (literals.Number v) unknown i h f e = absurd h
+  literal_suits literals.Null (number w) i h f e = absurd (false≢true e)
   literal_suits literals.Null (object z) i h f e = ap (λ j. suits j Null) h
   literal_suits literals.Null nothing i h f e = absurd h
   literal_suits literals.Null unknown i h f e = absurd h

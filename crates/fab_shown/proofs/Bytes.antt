@@ -156,7 +156,7 @@ short_length (e.Released t) h = omega arith
 short_length (e.BootSeen w b) h = omega arith
 
 -- a record behind others
-pub record_short : (entries : List Entry) (entry : Option Entry) → IsShortIf entry → length (record_behind entries entry) < 2 ^ 32
-record_short entries None h = omega arith
-record_short entries (Some entry) h =
-    let long = length-record (version_behind 1 entries) entry in let low = short_length entry h in omega (arith, long, low)
+pub record_short : (first : ℕ) (entries : List Entry) (entry : Option Entry) → IsShortIf entry → length (record_behind first entries entry) < 2 ^ 32
+record_short first entries None h = omega arith
+record_short first entries (Some entry) h =
+    let long = length-record (version_behind first entries) entry in let low = short_length entry h in omega (arith, long, low)

@@ -66,7 +66,7 @@ module _ (s : Start) (rights : Rights) (a : IsAcceptedWith s rights) (bytes : Al
     inner_in (i.Recover n) can = node_in n (may_node S w (i.Recover n) can)
 
     record_low : (event : Inner) → IsTrue (may S w event) → length (record_at S w event) < 2 ^ 32
-    record_low event can = let m = modest S given law w cs good event can in record_short (w.node (node_of event)).entries (act S w event).entry m.entry
+    record_low event can = let m = modest S given law w cs good event can in record_short (w.node (node_of event)).first (w.node (node_of event)).entries (act S w event).entry m.entry
 
     target_in : (h : ℕ) → is_empty (w.posts h) ≡ false → IsNode r (target_behind r before (e.Post h))
     target_in h some =

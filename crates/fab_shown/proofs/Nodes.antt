@@ -15,7 +15,7 @@ use Rattle.fab_language.specs.Names as names
 use Rattle.fab_language.specs.Words.{has_number}
 use Rattle.fab_labelling.specs.Placement.{role_of}
 use Rattle.fab_labelling.specs.Readers.{is_numbered, place_from, principal_of}
-use Rattle.fab_places.specs.Places.{AreRights, kind_of}
+use Rattle.fab_places.specs.Places.{AreRights, shape_of}
 use Rattle.fab_rights.specs.declared.rights.ClassRights.{ClassRights}
 use Rattle.fab_rights.specs.declared.rights.Rights.{Rights}
 use Rattle.fab_rights.specs.Computed.{fits_class, is_node, is_store, is_well_formed, is_worker, suits}
@@ -63,7 +63,7 @@ some_class rights (Some c) x h = (c, refl)
 
 as_many_classes : (r : Resolved) (rights : Rights) → AreRights r rights → length rights.classes ≡ length r.classes
 as_many_classes r rights are =
-    sym (length-map rights.classes (λ (c : ClassRights). c.fields)) ∙ ap length are.kinds ∙ length-map r.classes (λ (c : Class). map kind_of c.fields)
+    sym (length-map rights.classes (λ (c : ClassRights). c.fields)) ∙ ap length are.shapes ∙ length-map r.classes (λ (c : Class). map shape_of c.fields)
 
 -- an object that suits a name has the class of the name, which is one of the bundle
 pub suited_class : (r : Resolved) (rights : Rights) → AreRights r rights → (o : Oid) (x : Object) → suits rights o x ≡ true → IsClass r o.class

@@ -67,7 +67,7 @@ fn in_sort(tables: &Tables<'_>, first: Option<Fault>, sort: &Sort) -> Option<Fau
     ensures { result ≡ first_from first (in_sort tables.now sort.now) }
 {
     match sort {
-        Sort::Int => first,
+        Sort::Number(_) => first,
         Sort::Class(name) => in_class_name(tables, first, name),
     }
 }

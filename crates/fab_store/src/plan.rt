@@ -7,10 +7,16 @@ use fab_net::Step;
 use std::marker::Model;
 
 /// What a store will keep and say: the record, and the same in bytes with what it sends.
-#[derive(Debug, Drop)]
+#[derive(Debug)]
 pub struct StorePlan {
     pub(crate) entry: Option<Entry>,
     pub(crate) step: Step,
+}
+
+impl Drop for StorePlan {
+    fn drop(self) {
+        let StorePlan { entry, step } = self;
+    }
 }
 
 impl Model for StorePlan {
@@ -27,5 +33,13 @@ impl StorePlan {
         ensures { result.now ≡ self.now.step }
     {
         &self.step
+    }
+
+    /// The record, and what is to be written and sent.
+    pub(crate) fn into_parts(self) -> (Option<Entry>, Step)
+        ensures { result ≡ (self.entry, self.step) }
+    {
+        let StorePlan { entry, step } = self;
+        (entry, step)
     }
 }

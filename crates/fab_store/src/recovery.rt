@@ -39,7 +39,7 @@ impl Store {
         for entry in entries {
             store.keep_again(entry)?;
         }
-        let StorePlan { step, .. } = plan_of(alloc, store.asks()?)?;
+        let (_, step) = plan_of(alloc, store.asks()?)?.into_parts();
         Ok((store, step))
     }
 

@@ -2,7 +2,7 @@
 
 ghost use Rattle.std.specs.Prelude.{◌≡◌, IfOk, IfSome, OnOk, map, option_map};
 ghost use Rattle.std.specs.List.{AllByRecursion};
-ghost use Rattle.fab_base.specs.JournalSpelling.{IsEntry, record_bytes as record_of};
+ghost use Rattle.fab_base.specs.JournalSpelling.{IsEntry, record_bytes as record_of, journal_version};
 ghost use Rattle.fab_base.specs.MessageSpelling.{KeepsCounts, spelled};
 ghost use Rattle.fab_store.specs.Stock.{CanSpell, KeepsEntrySaid, Plan, plan_of};
 
@@ -17,8 +17,8 @@ use std::alloc::Global;
 /// The record of an entry, if there is one.
 fn entry_bytes(alloc: Global, entry: &Option<Entry>) -> Result<Option<Seq<u8>>, NoMemory>
     requires { KeepsEntrySaid entry.now }
-    ensures bytes { IfOk result (λ bytes. bytes ≡ option_map (record_of 1) entry.now) }
-    ensures fits { OnOk result (IfSome entry.now (IsEntry 1)) }
+    ensures bytes { IfOk result (λ bytes. bytes ≡ option_map (record_of journal_version) entry.now) }
+    ensures fits { OnOk result (IfSome entry.now (IsEntry journal_version)) }
 {
     match entry {
         Some(entry) => Ok(Some(record_bytes(alloc, entry)?)),
@@ -42,7 +42,7 @@ fn sends_of(alloc: Global, sends: &[(u16, Message)]) -> Result<Seq<(u16, Seq<u8>
 pub fn plan_of(alloc: Global, said: Said) -> Result<StorePlan, NoMemory>
     requires { CanSpell said }
     ensures plan { IfOk result (λ plan. plan ≡ plan_of said) }
-    ensures fits { IfOk result (λ plan. IfSome plan.entry (IsEntry 1)) }
+    ensures fits { IfOk result (λ plan. IfSome plan.entry (IsEntry journal_version)) }
 {
     let bytes = entry_bytes(alloc, &said.entry)?;
     let sends = sends_of(alloc, said.sends.as_slice())?;

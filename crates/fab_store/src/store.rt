@@ -3,7 +3,7 @@
 ghost use Rattle.std.specs.Prelude.{◌≡◌, ◌≤◌, ◌<◌, ◌^◌, Option, None, Some, IfOk, IfSome, OnOk, OnErr, IsTrue, length};
 ghost use Rattle.std.specs.List.{AllByRecursion};
 ghost use Rattle.fab_base.specs.FlatMap.{ascends as roots_ascend};
-ghost use Rattle.fab_base.specs.JournalSpelling.{IsEntry};
+ghost use Rattle.fab_base.specs.JournalSpelling.{IsEntry, journal_version};
 ghost use Rattle.fab_wire.specs.Reading.{read_message};
 ghost use Rattle.fab_protocol.specs.Tables.{ascends};
 ghost use Rattle.fab_protocol.specs.Versions.{name_of};
@@ -29,7 +29,7 @@ use std::marker::Model;
 const MOST_CHANGED: u32 = 512;
 
 /// A store: its objects, the transactions that it has prepared, and what it remembers of each sender.
-#[derive(Debug, Drop)]
+#[derive(Debug)]
 pub struct Store {
     pub(crate) alloc: Global,
     pub(crate) node: u16,
@@ -37,6 +37,19 @@ pub struct Store {
     pub(crate) table: Table,
     pub(crate) locks: Locks,
     pub(crate) senders: Vec<Sender>,
+}
+
+impl Drop for Store {
+    fn drop(self) {
+        let Store {
+            alloc,
+            node,
+            rights,
+            table,
+            locks,
+            senders,
+        } = self;
+    }
 }
 
 impl Model for Store {
@@ -118,7 +131,7 @@ impl Store {
     /// needs. Nothing but room changes. What it writes can be read back.
     pub fn plan(&mut self, sender: u16, bytes: &[u8]) -> Result<StorePlan, NoMemory>
         ensures plan { IfOk result (λ plan. plan ≡ plan_of (hears self.old.rights self.old.node sender (read_message bytes.now) self.old.shelf)) }
-        ensures fits { IfOk result (λ plan. IfSome plan.entry (IsEntry 1)) }
+        ensures fits { IfOk result (λ plan. IfSome plan.entry (IsEntry journal_version)) }
         ensures room { IfOk result (λ plan. HasRoom plan.entry self.new) }
         ensures can { IfOk result (λ plan. CanKeepSaid self.new.rights self.new.node plan.entry self.new.shelf) }
         ensures kept { OnlyGainsRoom self.old self.new }
@@ -150,7 +163,7 @@ impl Store {
         ensures rights { self.new.rights ≡ self.old.rights }
         ensures shelf { self.new.shelf ≡ keeps_said plan.entry self.old.shelf }
     {
-        let StorePlan { entry, step } = plan;
+        let (entry, step) = plan.into_parts();
         if let Some(entry) = entry {
             self.keep(entry);
         }
@@ -161,7 +174,7 @@ impl Store {
     /// it stays as it was.
     pub fn handle(&mut self, sender: u16, bytes: &[u8]) -> Result<Step, NoMemory>
         ensures step { IfOk result (λ step. step ≡ step_of 1 (hears self.old.rights self.old.node sender (read_message bytes.now) self.old.shelf)) }
-        ensures fits { OnOk result (IfSome (hears self.old.rights self.old.node sender (read_message bytes.now) self.old.shelf).entry (IsEntry 1)) }
+        ensures fits { OnOk result (IfSome (hears self.old.rights self.old.node sender (read_message bytes.now) self.old.shelf).entry (IsEntry journal_version)) }
         ensures node { self.new.node ≡ self.old.node }
         ensures rights { self.new.rights ≡ self.old.rights }
         ensures ok { OnOk result (self.new.shelf ≡ keeps_said (hears self.old.rights self.old.node sender (read_message bytes.now) self.old.shelf).entry self.old.shelf) }

@@ -10,10 +10,15 @@ use std::marker::Model;
 
 /// Names, each of which is found by its text. Contracts see the list of their texts. A choice of
 /// names can make look-ups long, so it serves where there are few; `OrderedTable` serves for many.
-#[derive(Drop)]
 pub struct NameTable<'a> {
     names: Vec<&'a str>,
     numbers: IndexMap<&'a str, u32>,
+}
+
+impl Drop for NameTable<'_> {
+    fn drop(self) {
+        let NameTable { names, numbers } = self;
+    }
 }
 
 impl<'a> Model for NameTable<'a> {

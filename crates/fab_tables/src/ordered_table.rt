@@ -10,10 +10,15 @@ use std::marker::Model;
 
 /// Names, each of which is found by its text. Contracts see the list of their texts. The table is in
 /// the order of the texts, so no choice of names makes a look-up long.
-#[derive(Drop)]
 pub struct OrderedTable<'a> {
     names: Vec<&'a str>,
     numbers: BTreeMap<&'a str, u32>,
+}
+
+impl Drop for OrderedTable<'_> {
+    fn drop(self) {
+        let OrderedTable { names, numbers } = self;
+    }
 }
 
 impl<'a> Model for OrderedTable<'a> {

@@ -16,7 +16,6 @@ use std::marker::Model;
 
 /// What a bundle declares, found by name. Contracts see it as the bundle. Where several have one
 /// name, the first is found.
-#[derive(Drop)]
 pub struct Tables<'a> {
     start: &'a Start,
     principals: NameTable<'a>,
@@ -24,6 +23,19 @@ pub struct Tables<'a> {
     classes: NameTable<'a>,
     methods: NameTable<'a>,
     roots: OrderedTable<'a>,
+}
+
+impl Drop for Tables<'_> {
+    fn drop(self) {
+        let Tables {
+            start,
+            principals,
+            labels,
+            classes,
+            methods,
+            roots,
+        } = self;
+    }
 }
 
 impl<'a> Model for Tables<'a> {

@@ -2,6 +2,7 @@
 use Rattle.std.proofs.Common.{◌≡◌, ℕ, List, [], ◌∷◌, Some, None, refl, false}
 use Rattle.std.specs.Prelude.{replicate}
 use Rattle.fab_base.specs.declared.limit.What.TheVariants as w
+use Rattle.fab_base.specs.declared.object.Width.TheVariants as widths
 use Rattle.fab_tree.specs.declared.declaration.Sort.TheVariants as sorts
 use Rattle.fab_tree.specs.declared.declaration.Class.{Class}
 use Rattle.fab_tree.specs.declared.declaration.Node.{Node}
@@ -10,7 +11,7 @@ use Rattle.fab_tree.specs.declared.start.Start.{Start}
 use Rattle.fab_tree.specs.Limits.{first_passed}
 
 abbrev a_class : ℕ → Class
-a_class n = record { name = record { text = []; at = 0 }; label = record { text = []; at = 0 }; access = record { text = []; at = 0 }; fields = replicate n (record { sort = sorts.Int; name = record { text = []; at = 0 } }) }
+a_class n = record { name = record { text = []; at = 0 }; label = record { text = []; at = 0 }; access = record { text = []; at = 0 }; fields = replicate n (record { sort = sorts.Number widths.Int; name = record { text = []; at = 0 } }) }
 
 abbrev workers : ℕ → List Node
 workers n = replicate n (record { role = roles.Worker false; name = record { text = []; at = 0 } })

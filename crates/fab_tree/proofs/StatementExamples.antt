@@ -1,5 +1,6 @@
 -- Worked examples of the grammar of statements and of runs, and of sites.
 use Rattle.std.proofs.Common.{◌+◌, ℕ, List, [], ◌∷◌, refl, codes, lit<}
+use Rattle.fab_base.specs.declared.object.Width.TheVariants as widths
 use Rattle.fab_base.specs.declared.token.Mark.{Mark}
 use Rattle.fab_base.specs.declared.token.Mark.TheVariants as m
 use Rattle.fab_base.specs.declared.token.Kind.TheVariants as k
@@ -11,7 +12,7 @@ use Rattle.fab_tree.specs.declared.statement.Right.TheVariants as rights
 use Rattle.fab_tree.specs.declared.statement.Statement.{Statement}
 use Rattle.fab_tree.specs.declared.statement.Statement.TheVariants as s
 use Rattle.fab_tree.specs.Lists.{is, name, numeral, no_more}
-use Rattle.fab_tree.specs.Declarations.{int, class}
+use Rattle.fab_tree.specs.Declarations.{number, class}
 use Rattle.fab_tree.specs.Expressions.{expression_at, chain, no_other, of_or, of_and, of_sum, of_product, alone, primary, local}
 use Rattle.fab_tree.specs.Statements.{IsStatement, declare, assign, write, call, choice, loop, atomic, fail, downgrade, declassify}
 use Rattle.fab_tree.specs.Runs.{IsCache, cache, IsSchedule, schedule}
@@ -49,7 +50,7 @@ an_empty_schedule = schedule (is refl) (is refl) no_more (is refl)
 
 -- fail without a semicolon is no statement
 no_bare_failure : (t : Statement) → IsStatement (sign 0 m.Fail ∷ []) t [] → ⊥
-no_bare_failure t (declare (int (is e)) p i q j r l) = absurd (cc)
+no_bare_failure t (declare (number {w = widths.Int} (is e)) p i q j r l) = absurd (cc)
 no_bare_failure t (declare (class (name e)) p i q j r l) = absurd (cc)
 no_bare_failure t (assign (name e) i p j) = absurd (cc)
 no_bare_failure t (write (name e) i p j q l) = absurd (cc)

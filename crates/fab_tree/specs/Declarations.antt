@@ -1,5 +1,6 @@
 -- The grammar of what a program declares besides its methods: nodes, delegations, labels and classes.
 use Rattle.std.specs.Prelude.{Bool, true, false, List}
+use Rattle.fab_base.specs.declared.object.Width.{Width}
 use Rattle.fab_base.specs.declared.token.Mark.TheVariants as m
 use Rattle.fab_base.specs.declared.token.Token.{Token}
 use Rattle.fab_tree.specs.declared.name.Name.{Name}
@@ -16,6 +17,7 @@ use Rattle.fab_tree.specs.declared.declaration.Sort.TheVariants as sorts
 use Rattle.fab_tree.specs.declared.declaration.Field.{Field}
 use Rattle.fab_tree.specs.declared.declaration.Class.{Class}
 use Rattle.fab_tree.specs.Lists.{Is, IsName, Repeated, Separated}
+use Rattle.fab_tree.specs.Marks.{width_mark}
 
 -- machine = "worker" | "store", behind "hostile" or not
 pub data IsMachine : Bool → List Token → Role → List Token → Type 0 where
@@ -59,7 +61,7 @@ pub data IsLabel : List Token → LabelText → List Token → Type 0 where
 
 -- sort, a type = "int" | name
 pub data IsSort : List Token → Sort → List Token → Type 0 where
-  int : {a b : List Token} → Is m.Int a b → IsSort a sorts.Int b
+  number : {a b : List Token} {w : Width} → Is (width_mark w) a b → IsSort a (sorts.Number w) b
   class : {a b : List Token} {x : Name} → IsName a x b → IsSort a (sorts.Class x) b
 
 -- field = sort name ";"

@@ -2,9 +2,8 @@
 --
 -- A chain is an operand and any number of further ones with operators of its level between them; the levels are
 -- those of `|`, of `&`, of `+` and `-`, and of `*` and `/`. Between the second and the third stands the comparison.
-use Rattle.std.specs.Prelude.{◌≡◌, ℕ, List, [], ◌∷◌, pos}
+use Rattle.std.specs.Prelude.{ℕ, List, [], ◌∷◌}
 use Rattle.fab_base.specs.declared.token.Mark.TheVariants as m
-use Rattle.fab_base.specs.declared.token.Kind.TheVariants as k
 use Rattle.fab_base.specs.declared.token.Token.{Token}
 use Rattle.fab_tree.specs.declared.name.Name.{Name}
 use Rattle.fab_tree.specs.declared.expression.Level.{Level}
@@ -16,8 +15,11 @@ use Rattle.fab_tree.specs.declared.expression.Comparison.TheVariants as comparis
 use Rattle.fab_tree.specs.declared.expression.Expression.{Expression, out-Expression, roll-Expression}
 use Rattle.fab_tree.specs.declared.expression.Form.{Form}
 use Rattle.fab_tree.specs.declared.expression.Form.TheVariants as f
+use Rattle.fab_tree.specs.declared.expression.Number.{Number}
 use Rattle.fab_tree.specs.declared.expression.Operand.{Operand, roll-Operand}
-use Rattle.fab_tree.specs.Lists.{Is, IsName, IsNumeral, Separated, minus}
+use Rattle.fab_tree.specs.declared.expression.UnaryOperator.{UnaryOperator}
+use Rattle.fab_tree.specs.Lists.{Is, IsName, IsNumber, IsLeast, Separated}
+use Rattle.fab_tree.specs.Marks.{unary_mark}
 
 -- ---- trees
 
@@ -92,16 +94,13 @@ mutual
   -- unary = primary
   --       | "-" primary
   --       | "!" primary
-  --       | "-" 2147483648
+  --       | "-" least, the digits of the least number of a width
   pub data IsUnary : List Token → Expression → List Token → Type 0 where
     primary : {a b : List Token} {t : Expression} → IsPrimary a t b → IsUnary a t b
-    negative : {u : Token} {us b c : List Token} {t : Expression}
-        → Is m.Minus (u ∷ us) b → IsPrimary b t c → IsUnary (u ∷ us) (expression_at u.at (f.Negative t)) c
-    contrary : {u : Token} {us b c : List Token} {t : Expression}
-        → Is m.Bang (u ∷ us) b → IsPrimary b t c → IsUnary (u ∷ us) (expression_at u.at (f.Not t)) c
-    least : {u w : Token} {us ws : List Token}
-        → Is m.Minus (u ∷ us) (w ∷ ws) → w.kind ≡ k.Least
-        → IsUnary (u ∷ us) (expression_at u.at (f.Number (minus 2147483648))) ws
+    signed : {u : Token} {us b c : List Token} {x : UnaryOperator} {t : Expression}
+        → Is (unary_mark x) (u ∷ us) b → IsPrimary b t c → IsUnary (u ∷ us) (expression_at u.at (f.Unary x t)) c
+    least : {u : Token} {us b c : List Token} {n : Number}
+        → Is m.Minus (u ∷ us) b → IsLeast b n c → IsUnary (u ∷ us) (expression_at u.at (f.Number n)) c
 
   -- primary = number
   --         | "null"
@@ -109,8 +108,8 @@ mutual
   --         | name "." name
   --         | "(" expression ")"
   pub data IsPrimary : List Token → Expression → List Token → Type 0 where
-    number : {u : Token} {us b : List Token} {n : ℕ}
-        → IsNumeral (u ∷ us) n b → IsPrimary (u ∷ us) (expression_at u.at (f.Number (pos n))) b
+    number : {u : Token} {us b : List Token} {n : Number}
+        → IsNumber (u ∷ us) n b → IsPrimary (u ∷ us) (expression_at u.at (f.Number n)) b
     null : {u : Token} {us b : List Token}
         → Is m.Null (u ∷ us) b → IsPrimary (u ∷ us) (expression_at u.at f.Null) b
     local : {a b : List Token} {x : Name} → IsName a x b → IsPrimary a (expression_at x.at (f.Local x)) b

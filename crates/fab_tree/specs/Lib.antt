@@ -3,6 +3,8 @@ pub mod Depth
 pub mod Expressions
 pub mod Limits
 pub mod Lists
+pub mod Marks
+pub mod Numbers
 pub mod Print
 pub mod Programs
 pub mod Runs

@@ -7,6 +7,8 @@ use Rattle.fab_base.specs.declared.token.Mark.{Mark}
 use Rattle.fab_base.specs.declared.token.Kind.TheVariants as k
 use Rattle.fab_base.specs.declared.token.Token.{Token}
 use Rattle.fab_tree.specs.declared.name.Name.{Name}
+use Rattle.fab_tree.specs.declared.expression.Number.{Number}
+use Rattle.fab_tree.specs.declared.expression.Number.TheVariants as numbers
 
 -- this sign or keyword
 pub data Is : Mark → List Token → List Token → Type 0 where
@@ -16,18 +18,26 @@ pub data Is : Mark → List Token → List Token → Type 0 where
 pub data IsName : List Token → Name → List Token → Type 0 where
   name : {t : Token} {ts : List Token} {x : List ℕ} → t.kind ≡ k.Name x → IsName (t ∷ ts) (record { text = x; at = t.at }) ts
 
--- a number, one that has 31 bits, as every number of a text
-pub data IsNumeral : List Token → ℕ → List Token → Type 0 where
-  numeral : {t : Token} {ts : List Token} {n : ℕ} → t.kind ≡ k.Number n → n < 2147483648 → IsNumeral (t ∷ ts) n ts
-
--- bytes in quotation marks
-pub data IsBytes : List Token → List ℕ → List Token → Type 0 where
-  bytes : {t : Token} {ts : List Token} {x : List ℕ} → t.kind ≡ k.Bytes x → IsBytes (t ∷ ts) x ts
-
 -- a number behind a minus sign
 abbrev pub minus : ℕ → ℤ
 minus zero = pos 0
 minus (suc n) = negsuc n
+
+-- a number, one that has 31 bits, as every number of a text
+pub data IsNumeral : List Token → ℕ → List Token → Type 0 where
+  numeral : {t : Token} {ts : List Token} {n : ℕ} → t.kind ≡ k.Number n → n < 2147483648 → IsNumeral (t ∷ ts) n ts
+
+-- a number of a width, by how it is written
+pub data IsNumber : List Token → Number → List Token → Type 0 where
+  int : {a b : List Token} {n : ℕ} → IsNumeral a n b → IsNumber a (numbers.Int (pos n)) b
+
+-- the digits of the least number of a width, which stand for it behind a minus sign
+pub data IsLeast : List Token → Number → List Token → Type 0 where
+  least_int : {t : Token} {ts : List Token} → t.kind ≡ k.Least → IsLeast (t ∷ ts) (numbers.Int (minus 2147483648)) ts
+
+-- bytes in quotation marks
+pub data IsBytes : List Token → List ℕ → List Token → Type 0 where
+  bytes : {t : Token} {ts : List Token} {x : List ℕ} → t.kind ≡ k.Bytes x → IsBytes (t ∷ ts) x ts
 
 -- {x}
 pub data Repeated {A : Type 0} (P : List Token → A → List Token → Type 0) : List Token → List A → List Token → Type 0 where

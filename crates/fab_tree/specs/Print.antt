@@ -1,7 +1,7 @@
 -- The canonical text of a bundle.
 --
 -- A text is made of tokens and of blanks between them. What is printed for a tree is put in front of what follows: so `f >> g` is f and then g.
-use Rattle.std.specs.Prelude.{ℕ, ◌+◌, ◌*◌, ◌/◌, ◌%◌, ◌==◌, Bool, true, false, nat_lt, if◌then◌else◌, ℤ, pos, negsuc, List, [], ◌∷◌, ◌++◌, map, replicate, Option, Some, None, codes}
+use Rattle.std.specs.Prelude.{ℕ, ◌+◌, ◌*◌, ◌/◌, ◌%◌, ◌==◌, Bool, true, false, nat_lt, if◌then◌else◌, pos, negsuc, List, [], ◌∷◌, ◌++◌, map, replicate, Option, Some, None, codes}
 use Rattle.std.specs.List.{flat_map}
 use Rattle.std.specs.Fmt.{decimal, digit_glyph}
 use Rattle.fab_base.specs.declared.token.Mark.{Mark}
@@ -28,6 +28,8 @@ use Rattle.fab_tree.specs.declared.expression.Comparison.{Comparison}
 use Rattle.fab_tree.specs.declared.expression.Comparison.TheVariants as comparisons
 use Rattle.fab_tree.specs.declared.expression.Expression.{Expression, fold-Expression}
 use Rattle.fab_tree.specs.declared.expression.Form.TheOpen as f
+use Rattle.fab_tree.specs.declared.expression.Number.{Number}
+use Rattle.fab_tree.specs.declared.expression.Number.TheVariants as numbers
 use Rattle.fab_tree.specs.declared.statement.Downgrade.{Downgrade}
 use Rattle.fab_tree.specs.declared.statement.Downgrade.TheVariants as downgrades
 use Rattle.fab_tree.specs.declared.statement.Right.{Right}
@@ -52,6 +54,7 @@ use Rattle.fab_tree.specs.declared.start.Root.{Root}
 use Rattle.fab_tree.specs.declared.start.RequestText.{RequestText}
 use Rattle.fab_tree.specs.declared.start.Session.{Session}
 use Rattle.fab_tree.specs.declared.start.Start.{Start}
+use Rattle.fab_tree.specs.Marks.{unary_mark, width_mark}
 
 -- ---- tokens and blanks
 
@@ -166,7 +169,7 @@ label x =
     >> mark m.LeftBrace >> separated m.Semicolon (map policy x.policies) >> mark m.RightBrace >> mark m.Semicolon)
 
 abbrev pub sort : Sort → Inks
-sort sorts.Int = mark m.Int
+sort (sorts.Number w) = mark (width_mark w)
 sort (sorts.Class x) = name x
 
 abbrev pub field : Field → Inks
@@ -231,17 +234,24 @@ shown_chain x [] = x
 shown_chain x (u ∷ us) =
     record { level = level_of u.operator; inks = at_level (level_of u.operator + 1) x >> operands (u ∷ us) }
 
-abbrev pub shown_number : ℤ → Shown
-shown_number (pos n) = record { level = 6; inks = number n }
-shown_number (negsuc n) = record { level = 5; inks = mark m.Minus >> number (n + 1) }
+-- a number with its sign, which is one before an operand
+abbrev pub integer : Number → Inks
+integer (numbers.Int (pos n)) = number n
+integer (numbers.Int (negsuc n)) = mark m.Minus >> number (n + 1)
+
+abbrev pub number_level : Number → ℕ
+number_level (numbers.Int (pos n)) = 6
+number_level (numbers.Int (negsuc n)) = 5
+
+abbrev pub shown_number : Number → Shown
+shown_number n = record { level = number_level n; inks = integer n }
 
 abbrev pub shown_form : f.Form-F Shown Shown ShownOperand → Shown
 shown_form (f.Number n) = shown_number n
 shown_form f.Null = record { level = 6; inks = mark m.Null }
 shown_form (f.Local x) = record { level = 6; inks = name x }
 shown_form (f.Read x y) = record { level = 6; inks = name x >> mark m.Dot >> name y }
-shown_form (f.Negative x) = record { level = 5; inks = mark m.Minus >> at_level 6 x }
-shown_form (f.Not x) = record { level = 5; inks = mark m.Bang >> at_level 6 x }
+shown_form (f.Unary o x) = record { level = 5; inks = mark (unary_mark o) >> at_level 6 x }
 shown_form (f.Chain x others) = shown_chain x others
 shown_form (f.Compared x c y) =
     record { level = 2; inks = at_level 3 x >> space >> comparison c >> space >> at_level 3 y }
@@ -337,12 +347,8 @@ program x =
 
 -- ---- runs
 
-abbrev pub integer : ℤ → Inks
-integer (pos n) = number n
-integer (negsuc n) = mark m.Minus >> number (n + 1)
-
 abbrev pub literal : Literal → Inks
-literal (literals.Int n) = integer n
+literal (literals.Number n) = integer n
 literal literals.Null = mark m.Null
 literal (literals.Root x) = name x
 

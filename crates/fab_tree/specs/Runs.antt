@@ -1,7 +1,6 @@
 -- The grammar of what a run begins with and is told to do: roots, sessions, posts, crashes, the cache and a schedule.
-use Rattle.std.specs.Prelude.{◌≡◌, ℕ, List, [], ◌∷◌, Option, ℤ, pos}
+use Rattle.std.specs.Prelude.{ℕ, List, [], ◌∷◌, Option}
 use Rattle.fab_base.specs.declared.token.Mark.TheVariants as m
-use Rattle.fab_base.specs.declared.token.Kind.TheVariants as k
 use Rattle.fab_base.specs.declared.token.Token.{Token}
 use Rattle.fab_tree.specs.declared.name.Name.{Name}
 use Rattle.fab_tree.specs.declared.event.PostLine.{PostLine}
@@ -16,17 +15,19 @@ use Rattle.fab_tree.specs.declared.start.Given.{Given}
 use Rattle.fab_tree.specs.declared.start.Root.{Root}
 use Rattle.fab_tree.specs.declared.start.RequestText.{RequestText}
 use Rattle.fab_tree.specs.declared.start.Session.{Session}
-use Rattle.fab_tree.specs.Lists.{Is, IsName, IsNumeral, IsBytes, Repeated, Ended, Perhaps, Separated, minus}
+use Rattle.fab_tree.specs.declared.expression.Number.{Number}
+use Rattle.fab_tree.specs.declared.expression.Number.TheVariants as numbers
+use Rattle.fab_tree.specs.Lists.{Is, IsName, IsNumeral, IsNumber, IsLeast, IsBytes, Repeated, Ended, Perhaps, Separated, minus}
 
--- negated = number | 2147483648, behind a minus sign
-pub data IsNegated : List Token → ℤ → List Token → Type 0 where
-  negative : {a b : List Token} {n : ℕ} → IsNumeral a n b → IsNegated a (minus n) b
-  least : {t : Token} {ts : List Token} → t.kind ≡ k.Least → IsNegated (t ∷ ts) (minus 2147483648) ts
+-- negated = number | the digits of the least number of a width, behind a minus sign
+pub data IsNegated : List Token → Number → List Token → Type 0 where
+  negative : {a b : List Token} {n : ℕ} → IsNumeral a n b → IsNegated a (numbers.Int (minus n)) b
+  least : {a b : List Token} {n : Number} → IsLeast a n b → IsNegated a n b
 
 -- literal = number | "-" negated | "null" | name
 pub data IsLiteral : List Token → Literal → List Token → Type 0 where
-  number : {a b : List Token} {n : ℕ} → IsNumeral a n b → IsLiteral a (literals.Int (pos n)) b
-  negated : {a b c : List Token} {n : ℤ} → Is m.Minus a b → IsNegated b n c → IsLiteral a (literals.Int n) c
+  number : {a b : List Token} {n : Number} → IsNumber a n b → IsLiteral a (literals.Number n) b
+  negated : {a b c : List Token} {n : Number} → Is m.Minus a b → IsNegated b n c → IsLiteral a (literals.Number n) c
   null : {a b : List Token} → Is m.Null a b → IsLiteral a literals.Null b
   root : {a b : List Token} {x : Name} → IsName a x b → IsLiteral a (literals.Root x) b
 

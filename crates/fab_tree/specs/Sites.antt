@@ -23,8 +23,7 @@ in_form (f.Number n) = []
 in_form f.Null = []
 in_form (f.Local x) = []
 in_form (f.Read x y) = x.at ∷ []
-in_form (f.Negative e) = e
-in_form (f.Not e) = e
+in_form (f.Unary x e) = e
 in_form (f.Chain e others) = e ++ joined others
 in_form (f.Compared e c g) = e ++ g
 

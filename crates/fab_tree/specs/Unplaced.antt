@@ -58,7 +58,7 @@ abbrev pub label : LabelText → LabelText
 label x = record { name = name x.name; policies = map policy x.policies }
 
 abbrev pub sort : Sort → Sort
-sort sorts.Int = sorts.Int
+sort (sorts.Number w) = sorts.Number w
 sort (sorts.Class x) = sorts.Class (name x)
 
 abbrev pub field : Field → Field
@@ -72,8 +72,7 @@ form_step (f.Number n) = forms.Number n
 form_step f.Null = forms.Null
 form_step (f.Local x) = forms.Local (name x)
 form_step (f.Read x y) = forms.Read (name x) (name y)
-form_step (f.Negative e) = forms.Negative e
-form_step (f.Not e) = forms.Not e
+form_step (f.Unary x e) = forms.Unary x e
 form_step (f.Chain e others) = forms.Chain e others
 form_step (f.Compared e c g) = forms.Compared e c g
 
@@ -136,7 +135,7 @@ program x =
     }
 
 abbrev pub literal : Literal → Literal
-literal (literals.Int n) = literals.Int n
+literal (literals.Number n) = literals.Number n
 literal literals.Null = literals.Null
 literal (literals.Root x) = literals.Root (name x)
 

@@ -12,7 +12,9 @@ mod statement;
 
 pub use declaration::{Aspect, Class, Delegation, Field, LabelText, Node, PolicyText, Role, Sort};
 pub use event::{CrashLine, Event, PostLine, Step};
-pub use expression::{Comparison, Expression, Form, Level, Operand, Operator};
+pub use expression::{
+    Comparison, Expression, Form, Level, Number, Operand, Operator, UnaryOperator,
+};
 pub use name::Name;
 pub use program::{Method, Parameter, Program, Return, Returns};
 pub use start::{Given, Literal, RequestText, Root, Session, Start};

@@ -6,10 +6,10 @@
 //! a field, make an object or downgrade a value.
 
 use crate::declaration::Role;
-use crate::expression::{Comparison, Operator};
+use crate::expression::{Comparison, Number, Operator, UnaryOperator};
 use crate::name::Name;
 use crate::statement::Downgrade;
-use fab_base::{Boxed, Label, Oid, Seq, Value};
+use fab_base::{Boxed, Label, Oid, Seq, Value, Width};
 
 /// The use of a name: the number of what it names, and the place of its first byte in the source.
 #[derive(Clone, Copy, Debug, PartialEq, Eq)]
@@ -19,36 +19,54 @@ pub struct Use {
 }
 
 /// A principal, with its number among the workers and stores if it is one of them.
-#[derive(Debug, Drop)]
+#[derive(Debug)]
 pub struct Principal {
     pub role: Role,
     pub name: Name,
     pub node: Option<u16>,
 }
 
+impl Drop for Principal {
+    fn drop(self) {
+        let Principal { role, name, node } = self;
+    }
+}
+
 /// A declared label and what it says, of principals by their numbers.
-#[derive(Debug, Drop)]
+#[derive(Debug)]
 pub struct NamedLabel {
     pub name: Name,
     pub label: Label,
 }
 
+impl Drop for NamedLabel {
+    fn drop(self) {
+        let NamedLabel { name, label } = self;
+    }
+}
+
 /// The type of a field, a parameter, a local or a result.
 #[derive(Clone, Copy, Debug, PartialEq, Eq)]
 pub enum Sort {
-    Int,
+    Number(Width),
     Class(Use),
 }
 
 /// A field of a class.
-#[derive(Debug, Drop)]
+#[derive(Debug)]
 pub struct Field {
     pub sort: Sort,
     pub name: Name,
 }
 
+impl Drop for Field {
+    fn drop(self) {
+        let Field { sort, name } = self;
+    }
+}
+
 /// A class, the label of what its objects hold and the one of asking for them.
-#[derive(Debug, Drop)]
+#[derive(Debug)]
 pub struct Class {
     pub name: Name,
     pub label: Use,
@@ -56,19 +74,37 @@ pub struct Class {
     pub fields: Seq<Field>,
 }
 
+impl Drop for Class {
+    fn drop(self) {
+        let Class {
+            name,
+            label,
+            access,
+            fields,
+        } = self;
+    }
+}
+
 /// An expression and the place of its first byte.
 #[cycle(resolved)]
-#[derive(Debug, Drop)]
+#[derive(Debug)]
 pub struct Expression {
     pub form: Form,
     pub at: u32,
 }
 
+impl Drop for Expression {
+    #[cycle(drops)]
+    fn drop(self) {
+        let Expression { form, at } = self;
+    }
+}
+
 /// What an expression is. `site` is a read's number among all sites.
 #[cycle(resolved)]
-#[derive(Debug, Drop)]
+#[derive(Debug)]
 pub enum Form {
-    Number(i32),
+    Number(Number),
     Null,
     Local(Use),
     Read {
@@ -76,8 +112,10 @@ pub enum Form {
         field: u16,
         site: u16,
     },
-    Negative(Boxed<Expression>),
-    Not(Boxed<Expression>),
+    Unary {
+        operator: UnaryOperator,
+        operand: Boxed<Expression>,
+    },
     Chain {
         first: Boxed<Expression>,
         others: Seq<Operand>,
@@ -89,18 +127,52 @@ pub enum Form {
     },
 }
 
+impl Drop for Form {
+    #[cycle(drops)]
+    fn drop(self) {
+        match self {
+            Form::Number(one) => {}
+            Form::Null => {}
+            Form::Local(one) => {}
+            Form::Read {
+                object,
+                field,
+                site,
+            } => {}
+            Form::Unary { operator, operand } => {}
+            Form::Chain { first, others } => {}
+            Form::Compared {
+                left,
+                comparison,
+                right,
+            } => {}
+        }
+    }
+}
+
 /// An operand of a chain behind the first, with the operator before it and the operator's place.
 #[cycle(resolved)]
-#[derive(Debug, Drop)]
+#[derive(Debug)]
 pub struct Operand {
     pub operator: Operator,
     pub at: u32,
     pub operand: Expression,
 }
 
+impl Drop for Operand {
+    #[cycle(drops)]
+    fn drop(self) {
+        let Operand {
+            operator,
+            at,
+            operand,
+        } = self;
+    }
+}
+
 /// What is assigned to a local. A store's number is that among the nodes, and `at` is the place of
 /// `new`, `declassify` or `endorse`.
-#[derive(Debug, Drop)]
+#[derive(Debug)]
 pub enum Right {
     Plain(Expression),
     Call {
@@ -124,9 +196,33 @@ pub enum Right {
     },
 }
 
+impl Drop for Right {
+    fn drop(self) {
+        match self {
+            Right::Plain(one) => {}
+            Right::Call { method, arguments } => {}
+            Right::New {
+                class,
+                store,
+                arguments,
+                site,
+                at,
+            } => {}
+            Right::Downgrade {
+                downgrade,
+                value,
+                from,
+                to,
+                site,
+                at,
+            } => {}
+        }
+    }
+}
+
 /// A statement. A declaration is the assignment of its value, and an `if` without `else` has an
 /// empty other block. `at` is the place of the statement's first byte.
-#[derive(Debug, Drop)]
+#[derive(Debug)]
 pub enum Statement {
     Assign {
         local: u16,
@@ -163,12 +259,46 @@ pub enum Statement {
     },
 }
 
+impl Drop for Statement {
+    fn drop(self) {
+        match self {
+            Statement::Assign { local, right, at } => {}
+            Statement::Write {
+                object,
+                field,
+                value,
+                site,
+            } => {}
+            Statement::Call { method, arguments } => {}
+            Statement::If {
+                condition,
+                block,
+                otherwise,
+            } => {}
+            Statement::While { condition, block } => {}
+            Statement::Atomic {
+                label,
+                block,
+                otherwise,
+                at,
+            } => {}
+            Statement::Fail { at } => {}
+        }
+    }
+}
+
 /// A parameter or another local of a method.
-#[derive(Debug, Drop)]
+#[derive(Debug)]
 pub struct Local {
     pub sort: Sort,
     pub name: Name,
     pub label: Use,
+}
+
+impl Drop for Local {
+    fn drop(self) {
+        let Local { sort, name, label } = self;
+    }
 }
 
 /// The type and the label of a method's result.
@@ -179,15 +309,21 @@ pub struct Returns {
 }
 
 /// A method's result, and the place of `return`.
-#[derive(Debug, Drop)]
+#[derive(Debug)]
 pub struct Return {
     pub value: Expression,
     pub at: u32,
 }
 
+impl Drop for Return {
+    fn drop(self) {
+        let Return { value, at } = self;
+    }
+}
+
 /// A method. Its locals are its parameters, so many, and then those that its body declares. The
 /// numbers of its authority are those among the principals.
-#[derive(Debug, Drop)]
+#[derive(Debug)]
 pub struct Method {
     pub name: Name,
     pub parameters: u16,
@@ -200,17 +336,39 @@ pub struct Method {
     pub result: Option<Return>,
 }
 
+impl Drop for Method {
+    fn drop(self) {
+        let Method {
+            name,
+            parameters,
+            locals,
+            returns,
+            begin,
+            fails,
+            authority,
+            body,
+            result,
+        } = self;
+    }
+}
+
 /// An object that is there from the start.
-#[derive(Debug, Drop)]
+#[derive(Debug)]
 pub struct Root {
     pub name: Name,
     pub oid: Oid,
     pub values: Seq<Value>,
 }
 
+impl Drop for Root {
+    fn drop(self) {
+        let Root { name, oid, values } = self;
+    }
+}
+
 /// A request: its worker's number among the nodes, its own number in the worker's session, from 1,
 /// and the method with what it is given.
-#[derive(Debug, Drop)]
+#[derive(Debug)]
 pub struct Request {
     pub worker: u16,
     pub number: u32,
@@ -218,26 +376,59 @@ pub struct Request {
     pub args: Seq<Value>,
 }
 
+impl Drop for Request {
+    fn drop(self) {
+        let Request {
+            worker,
+            number,
+            method,
+            args,
+        } = self;
+    }
+}
+
 /// A request of a session, and the place of its method's name.
-#[derive(Debug, Drop)]
+#[derive(Debug)]
 pub struct Asked {
     pub request: Request,
     pub at: u32,
 }
 
+impl Drop for Asked {
+    fn drop(self) {
+        let Asked { request, at } = self;
+    }
+}
+
 /// What is asked of a worker, in this order. Its number is that among the nodes.
-#[derive(Debug, Drop)]
+#[derive(Debug)]
 pub struct Session {
     pub worker: Use,
     pub requests: Seq<Asked>,
 }
 
+impl Drop for Session {
+    fn drop(self) {
+        let Session { worker, requests } = self;
+    }
+}
+
 /// Bytes that a hostile node sends to a node, by their numbers among the nodes.
-#[derive(Debug, Drop)]
+#[derive(Debug)]
 pub struct Post {
     pub sender: u16,
     pub receiver: u16,
     pub bytes: Seq<u8>,
+}
+
+impl Drop for Post {
+    fn drop(self) {
+        let Post {
+            sender,
+            receiver,
+            bytes,
+        } = self;
+    }
 }
 
 /// Behind how many of its events a node crashes, and how many bytes of the next record that it writes
@@ -269,7 +460,7 @@ pub enum Event {
 }
 
 /// A bundle.
-#[derive(Debug, Drop)]
+#[derive(Debug)]
 pub struct Resolved {
     pub nodes: Seq<Principal>,
     pub pairs: Seq<(u16, u16)>,
@@ -282,4 +473,22 @@ pub struct Resolved {
     pub crashes: Seq<Crash>,
     pub cache: u32,
     pub schedule: Seq<Event>,
+}
+
+impl Drop for Resolved {
+    fn drop(self) {
+        let Resolved {
+            nodes,
+            pairs,
+            labels,
+            classes,
+            methods,
+            roots,
+            sessions,
+            posts,
+            crashes,
+            cache,
+            schedule,
+        } = self;
+    }
 }

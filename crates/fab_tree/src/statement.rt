@@ -14,7 +14,7 @@ pub enum Downgrade {
 
 /// What is assigned to a local: an expression, the result of a call, a new object of a class at a
 /// store, or a value at another label. `at` is the place of `new`, `declassify` or `endorse`.
-#[derive(Debug, Drop)]
+#[derive(Debug)]
 pub enum Right {
     Plain(Expression),
     Call {
@@ -34,6 +34,28 @@ pub enum Right {
         to: Name,
         at: u32,
     },
+}
+
+impl Drop for Right {
+    fn drop(self) {
+        match self {
+            Right::Plain(one) => {}
+            Right::Call { method, arguments } => {}
+            Right::New {
+                class,
+                store,
+                arguments,
+                at,
+            } => {}
+            Right::Downgrade {
+                downgrade,
+                value,
+                from,
+                to,
+                at,
+            } => {}
+        }
+    }
 }
 
 /// A statement: `T x : L = e;`, of which `at` is the place, `x = ..;`, `x.f = e;`, `m(..);`,

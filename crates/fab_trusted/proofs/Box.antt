@@ -9,6 +9,7 @@ use Rattle.fab_base.specs.declared.label.Policy.{Policy}
 use Rattle.fab_base.specs.declared.object.Oid.{Oid}
 use Rattle.fab_base.specs.declared.object.Object.{Object}
 use Rattle.fab_base.specs.declared.object.Value.TheVariants.{Int, Ref}
+use Rattle.fab_base.specs.declared.object.Width.TheVariants as widths
 use Rattle.fab_tree.specs.declared.name.Name.{Name}
 use Rattle.fab_tree.specs.declared.declaration.Role.{Role}
 use Rattle.fab_tree.specs.declared.declaration.Role.TheVariants as roles
@@ -42,7 +43,7 @@ abbrev label : List Policy → List Policy → NamedLabel
 label conf integ = record { name = name; label = record { conf = conf; integ = integ } }
 
 abbrev class : ℕ → Class
-class of = record { name = name; label = used of; access = used 1; fields = record { sort = sorts.Int; name = name } ∷ [] }
+class of = record { name = name; label = used of; access = used 1; fields = record { sort = sorts.Number widths.Int; name = name } ∷ [] }
 
 abbrev pub classes : List Class
 classes = class 0 ∷ class 1 ∷ []
@@ -64,7 +65,7 @@ root oid n = record { name = name; oid = oid; values = Int n ∷ [] }
 
 -- a method of the vault `t` and the box `b`, both under T, and of the numbers `x` and `y` under these labels
 abbrev pub locals : ℕ → ℕ → List l.Local
-locals x y = local (sorts.Class (used 0)) 0 ∷ local (sorts.Class (used 1)) 0 ∷ local sorts.Int x ∷ local sorts.Int y ∷ []
+locals x y = local (sorts.Class (used 0)) 0 ∷ local (sorts.Class (used 1)) 0 ∷ local (sorts.Number widths.Int) x ∷ local (sorts.Number widths.Int) y ∷ []
 
 abbrev pub method : ℕ → ℕ → ℕ → List Statement → Method
 method begin x y body = record {

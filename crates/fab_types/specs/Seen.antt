@@ -4,7 +4,7 @@ use Rattle.fab_types.specs.declared.kinds.Kind.TheVariants as k
 use Rattle.fab_language.specs.Kinds.{Kind, number, object, nothing, unknown}
 
 abbrev pub seen : Told → Kind
-seen k.Number = number
+seen (k.Number w) = number w
 seen (k.Object x) = object x.now
 seen k.Nothing = nothing
 seen k.Unknown = unknown

@@ -9,7 +9,7 @@ ghost use Rattle.fab_types.specs.Values.{in_value};
 use crate::kinds::{
     Kind, are_comparable, field_of, is_reachable, kind_of_field, local_kind, takes,
 };
-use fab_base::Boxed;
+use fab_base::{Boxed, Width};
 use fab_language::{Fault, NameRule};
 use fab_rules::{Known, noted_unless};
 use fab_tables::Tables;
@@ -72,11 +72,10 @@ pub(crate) fn kind_of<'a>(
         Form::Read { object, field } => {
             kind_of_field(tables, field_of(tables, known, object, field))
         }
-        Form::Number(_)
-        | Form::Negative(_)
-        | Form::Not(_)
-        | Form::Chain { .. }
-        | Form::Compared { .. } => Kind::Number,
+        Form::Number(number) => Kind::Number(number.width()),
+        Form::Unary { .. } | Form::Chain { .. } | Form::Compared { .. } => {
+            Kind::Number(Width::Int)
+        }
     }
 }
 
@@ -122,7 +121,7 @@ pub(crate) fn in_expression(
     match &expression.form {
         Form::Number(_) | Form::Null | Form::Local(_) => first,
         Form::Read { object, .. } => in_reach(tables, known, first, object, expression.at),
-        Form::Negative(operand) | Form::Not(operand) => in_operand(tables, known, first, operand),
+        Form::Unary { operand, .. } => in_operand(tables, known, first, operand),
         Form::Chain {
             first: front,
             others,
@@ -161,7 +160,7 @@ fn in_operand(
     ensures { result ≡ first_from first (operand tables.now known.now (checked tables.now known.now value.now)) }
 {
     let first = in_expression(tables, known, first, value.get());
-    value_given_to(tables, known, first, Kind::Number, value.get())
+    value_given_to(tables, known, first, Kind::Number(Width::Int), value.get())
 }
 
 /// What is wrong in the operands of a chain behind the first.
@@ -178,7 +177,13 @@ fn in_operands(
     let mut first = first;
     for other in others {
         first = in_expression(tables, known, first, &other.operand);
-        first = value_given_to(tables, known, first, Kind::Number, &other.operand);
+        first = value_given_to(
+            tables,
+            known,
+            first,
+            Kind::Number(Width::Int),
+            &other.operand,
+        );
     }
     first
 }

@@ -5,15 +5,16 @@ ghost use Rattle.fab_language.specs.Names.{named, field_name};
 ghost use Rattle.fab_language.specs.Types.{local_kind, is_reachable};
 ghost use Rattle.fab_types.specs.Seen.{seen};
 
+use fab_base::Width;
 use fab_rules::Known;
 use fab_tables::Tables;
 use fab_tree::{Class, Field, Name, Sort};
 
-/// A number, an object of a declared class, which is told by its name, null, or what a name that
+/// A number of a width, an object of a declared class, which is told by its name, null, or what a name that
 /// isn't declared leaves open.
 #[derive(Clone, Copy)]
 pub(crate) enum Kind<'a> {
-    Number,
+    Number(Width),
     Object(&'a str),
     Nothing,
     Unknown,
@@ -25,9 +26,11 @@ pub(crate) fn takes(taker: Kind<'_>, value: Kind<'_>) -> bool
 {
     match (taker, value) {
         (Kind::Unknown | Kind::Nothing, _) | (_, Kind::Unknown) => true,
-        (Kind::Number, Kind::Number) | (Kind::Object(_), Kind::Nothing) => true,
+        (Kind::Number(Width::Int), Kind::Number(Width::Int)) | (Kind::Object(_), Kind::Nothing) =>
+            true,
         (Kind::Object(class), Kind::Object(other)) => class == other,
-        (Kind::Number, Kind::Object(_) | Kind::Nothing) | (Kind::Object(_), Kind::Number) => false,
+        (Kind::Number(_), Kind::Object(_) | Kind::Nothing) | (Kind::Object(_), Kind::Number(_)) =>
+            false,
     }
 }
 
@@ -38,9 +41,9 @@ pub(crate) fn are_comparable(left: Kind<'_>, right: Kind<'_>) -> bool
     match left {
         Kind::Nothing => match right {
             Kind::Object(_) | Kind::Unknown => true,
-            Kind::Number | Kind::Nothing => false,
+            Kind::Number(_) | Kind::Nothing => false,
         },
-        Kind::Number | Kind::Object(_) | Kind::Unknown => takes(left, right),
+        Kind::Number(_) | Kind::Object(_) | Kind::Unknown => takes(left, right),
     }
 }
 
@@ -50,7 +53,7 @@ pub(crate) fn is_reachable(kind: Kind<'_>) -> bool
 {
     match kind {
         Kind::Object(_) | Kind::Unknown => true,
-        Kind::Number | Kind::Nothing => false,
+        Kind::Number(_) | Kind::Nothing => false,
     }
 }
 
@@ -69,7 +72,7 @@ pub(crate) fn kind_of_sort<'a>(tables: &Tables<'a>, sort: &Sort) -> Kind<'a>
     ensures { seen result ≡ kind_of_sort tables.now sort.now }
 {
     match sort {
-        Sort::Int => Kind::Number,
+        Sort::Number(width) => Kind::Number(*width),
         Sort::Class(name) => class_kind(tables, name),
     }
 }
@@ -99,7 +102,7 @@ fn class_of_sort<'a>(tables: &Tables<'a>, sort: &Sort) -> Option<&'a Class>
     ensures { option_copied result ≡ class_of_sort tables.now sort.now }
 {
     match sort {
-        Sort::Int => None,
+        Sort::Number(_) => None,
         Sort::Class(name) => tables.class(name),
     }
 }

@@ -18,7 +18,7 @@ fn kind_of_literal<'a>(tables: &Tables<'a>, literal: &Literal) -> Kind<'a>
     ensures { seen result ≡ kind_of_literal tables.now literal.now }
 {
     match literal {
-        Literal::Int(_) => Kind::Number,
+        Literal::Number(number) => Kind::Number(number.width()),
         Literal::Null => Kind::Nothing,
         Literal::Root(name) => match tables.root(name) {
             None => Kind::Unknown,

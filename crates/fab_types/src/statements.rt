@@ -12,6 +12,7 @@ use crate::expressions::{
 };
 use crate::kinds::{Kind, class_kind, field_of, kind_of_field, kind_of_sort, local_kind};
 use crate::taker::Taker;
+use fab_base::Width;
 use fab_language::Fault;
 use fab_rules::Known;
 use fab_tables::Tables;
@@ -217,9 +218,9 @@ pub fn in_test(
     first: Option<Fault>,
     condition: &Expression,
 ) -> Option<Fault>
-    ensures { result ≡ first_from first (in_value tables.now known.now number condition.now) }
+    ensures { result ≡ first_from first (in_value tables.now known.now (number Width.Int) condition.now) }
 {
-    in_given(tables, known, first, Kind::Number, condition)
+    in_given(tables, known, first, Kind::Number(Width::Int), condition)
 }
 
 /// `return e;` in a method that returns this.

@@ -3,4 +3,4 @@
 
 mod values;
 
-pub use values::{compares, default, holds, negated, operate, truth};
+pub use values::{applied, compares, default, holds, operate, truth};

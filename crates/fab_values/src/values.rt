@@ -1,11 +1,11 @@
 //! What is computed from values alone.
 ghost use Rattle.std.specs.Prelude.{◌≡◌};
-ghost use Rattle.fab_language.specs.Meaning.{State, compares, default, equals, holds, int_of, negated, operate, truth};
+ghost use Rattle.fab_language.specs.Meaning.{State, applied, compares, default, equals, holds, int_of, negated, operate, truth};
 ghost use Rattle.fab_values.specs.Computed.{computed};
 
-use fab_base::{Value, java_add, java_div, java_mul, java_sub};
+use fab_base::{Value, Width, java_add, java_div, java_mul, java_sub};
 use fab_tree::resolved::Sort;
-use fab_tree::{Comparison, Operator};
+use fab_tree::{Comparison, Operator, UnaryOperator};
 
 /// The number that a value is; no other value is asked for one.
 fn int_of(value: Value) -> i32
@@ -61,10 +61,20 @@ pub fn compares(comparison: Comparison, left: Value, right: Value) -> bool
 }
 
 /// The number with its sign changed.
-pub fn negated(value: Value) -> Value
+fn negated(value: Value) -> Value
     ensures { result ≡ negated value }
 {
     Value::Int(java_sub(0, int_of(value)))
+}
+
+/// What an operator in front of its operand makes of it.
+pub fn applied(operator: UnaryOperator, value: Value) -> Value
+    ensures { result ≡ applied operator value }
+{
+    match operator {
+        UnaryOperator::Negative => negated(value),
+        UnaryOperator::Not => truth(!holds(value)),
+    }
 }
 
 /// What a local holds before it is assigned.
@@ -72,7 +82,7 @@ pub fn default(sort: Sort) -> Value
     ensures { result ≡ default sort }
 {
     match sort {
-        Sort::Int => Value::Int(0),
+        Sort::Number(Width::Int) => Value::Int(0),
         Sort::Class(_) => Value::Null,
     }
 }

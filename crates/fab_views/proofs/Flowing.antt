@@ -3,6 +3,7 @@ use Rattle.std.proofs.Common.{◌≡◌, ℕ, ◌<◌, ◌==◌, Bool, true, fal
 use Rattle.std.specs.Prelude.{slice_get}
 use Rattle.std.specs.List.{AllByRecursion, flat_map, list_any, range_with_len}
 use Rattle.fab_base.proofs.Lists.{all_split, at_index}
+use Rattle.fab_base.specs.declared.object.Width.TheVariants as widths
 use Rattle.fab_tree.specs.declared.expression.Operator.{Operator}
 use Rattle.fab_tree.specs.declared.expression.Operator.TheVariants as o
 use Rattle.fab_tree.specs.declared.statement.Downgrade.{Downgrade}
@@ -101,7 +102,7 @@ module _ (n : ℕ) where
     behind_below x = by (slice_get locals x.number)
       where
         by_sort : (t : Sort) → Below (label_of_class (class_of_sort classes t))
-        by_sort sorts.Int = tt
+        by_sort (sorts.Number widths.Int) = tt
         by_sort (sorts.Class y) = class_below (slice_get classes y.number) y.number refl
 
         by : (o : Option Local) → Below (label_of_class (class_of_local classes o))
@@ -167,8 +168,7 @@ module _ (n : ℕ) where
     by_form f.Null = record { labels = tt; owes = λ pc failure h. tt }
     by_form (f.Local x) = record { labels = local_below x; owes = λ pc failure h. tt }
     by_form (f.Read x field site) = record { labels = below (local_labels classes locals x) (label_of_class (class_behind classes locals x)) (local_below x) (behind_below x); owes = reaching_from x }
-    by_form (f.Negative k) = k.1
-    by_form (f.Not k) = k.1
+    by_form (f.Unary o k) = k.1
     by_form (f.Chain k others) =
         let p = part classes locals k.0 in
         record {

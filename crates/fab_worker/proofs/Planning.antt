@@ -15,7 +15,7 @@ use Rattle.fab_protocol.specs.Parts.{stores_of, puts_of}
 use Rattle.fab_protocol.specs.Versions.{Rows}
 use Rattle.fab_base.specs.declared.entry.Entry.{Entry}
 use Rattle.fab_base.specs.declared.entry.Entry.TheVariants as e
-use Rattle.fab_base.specs.JournalSpelling.{AreStores, record_bytes}
+use Rattle.fab_base.specs.JournalSpelling.{AreStores, record_bytes, journal_version}
 use Rattle.fab_net.specs.declared.note.Note.TheVariants as note
 use Rattle.fab_net.specs.declared.note.Step.{Step}
 use Rattle.fab_net.specs.declared.outcome.ReqOutcome.TheVariants.{Committed}
@@ -157,7 +157,7 @@ module _ (x : WorkerModel) (parts : Parts) (new : List (Option Rows)) (behind : 
   pub decided : {E : Type 0} (r : Result Plan E) (sends : List (ℕ × List ℕ)) (answers : Rows) (notes told : List Note) → answers ≡ x.attempt.answers
       → sends ≡ map {B = ℕ × List ℕ} (λ s. (s, spelled (m.Commit t))) stores
       → told ≡ (notes ++ note.Decided t request true answers ∷ []) ++ note.Closed request (Committed t parts.value) ∷ []
-      → IfOk r (λ p. p ≡ record { entry = Some entry; change = c.Commits new; step = record { entry = Some (record_bytes 1 entry); sends = sends; notes = told } })
+      → IfOk r (λ p. p ≡ record { entry = Some entry; change = c.Commits new; step = record { entry = Some (record_bytes journal_version entry); sends = sends; notes = told } })
       → IfOk r (λ p. IsPlanOf (noting notes (decides x.rights x.program.cache x.node x.kept x.attempt parts)) x.attempt p)
   decided (Ok p) sends answers notes told same_answers sent noted h =
       let all_sent : sends ≡ map {B = ℕ × List ℕ} (λ (y : ℕ × Message). (y.0, spelled y.1)) (to_all (stores_of parts) (m.Commit (tid_at x))) =
@@ -172,7 +172,7 @@ module _ (x : WorkerModel) (parts : Parts) (new : List (Option Rows)) (behind : 
             ∙ (λ i. record (over (behind.laid i) x.attempt) { tries = 0 });
         step =
             ap (λ (q : Plan). q.step) h
-            ∙ (λ i. record { entry = Some (record_bytes 1 (e.Decided (same_tid i) (same_request i) parts.value (same_stores i))); sends = all_sent i; notes = all_noted i });
+            ∙ (λ i. record { entry = Some (record_bytes journal_version (e.Decided (same_tid i) (same_request i) parts.value (same_stores i))); sends = all_sent i; notes = all_noted i });
       }
   decided (Err bad) sends answers notes told same_answers sent noted h = tt
 

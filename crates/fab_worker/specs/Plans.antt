@@ -5,7 +5,7 @@ use Rattle.fab_base.specs.declared.entry.Entry.{Entry}
 use Rattle.fab_base.specs.declared.entry.Entry.TheVariants as e
 use Rattle.fab_base.specs.declared.message.Message.{Message}
 use Rattle.fab_base.specs.FlatMap.{is_among}
-use Rattle.fab_base.specs.JournalSpelling.{AreStores, record_bytes}
+use Rattle.fab_base.specs.JournalSpelling.{AreStores, record_bytes, journal_version}
 use Rattle.fab_base.specs.MessageSpelling.{spelled}
 use Rattle.fab_base.specs.declared.object.Stop.{Stop}
 use Rattle.fab_language.specs.Meaning.{Meant}
@@ -55,7 +55,7 @@ parts_behind _ parts = no_parts
 -- ---- what a plan is of
 
 abbrev pub step_of : Act → Step
-step_of act = record { entry = option_map (record_bytes 1) act.entry; sends = map (λ x. (x.0, spelled x.1)) act.sends; notes = act.notes }
+step_of act = record { entry = option_map (record_bytes journal_version) act.entry; sends = map (λ x. (x.0, spelled x.1)) act.sends; notes = act.notes }
 
 -- the plan of what a worker does in this attempt
 pub record IsPlanOf (act : Act) (a : Attempt) (p : Plan) : Type 0 where

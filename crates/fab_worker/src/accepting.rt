@@ -168,11 +168,7 @@ impl Worker {
         ensures attempt { self.new.attempt ≡ changed plan.change self.old.attempt }
         ensures parts { self.new.parts ≡ parts_behind plan.change self.old.parts }
     {
-        let WorkerPlan {
-            entry,
-            change,
-            step,
-        } = plan;
+        let (entry, change, step) = plan.into_parts();
         keep_any(&mut self.session, &mut self.decided, entry);
         carry_out(
             change,

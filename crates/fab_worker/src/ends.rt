@@ -2,7 +2,7 @@
 
 ghost use Rattle.std.specs.Prelude.{◌≡◌, ◌≤◌, ◌++◌, ◌∷◌, [], ℕ, List, IfOk, Some, length, map};
 ghost use Rattle.fab_base.specs.declared.message.Message.{Message};
-ghost use Rattle.fab_base.specs.JournalSpelling.{record_bytes as record_of};
+ghost use Rattle.fab_base.specs.JournalSpelling.{record_bytes as record_of, journal_version};
 ghost use Rattle.fab_base.specs.MessageSpelling.{spelled};
 ghost use Rattle.fab_net.specs.declared.note.Note.TheVariants.{Closed};
 ghost use Rattle.fab_world.specs.Workers.{closed, gives, request_of, sending, try_ends, undecided};
@@ -66,7 +66,7 @@ impl Worker {
         ensures entry { IfOk result (λ p. p.entry ≡ Some (closed (request_of self.now.kept) outcome)) }
         ensures change { IfOk result (λ p. p.change ≡ Closes) }
         ensures step { IfOk result (λ p. p.step ≡ record {
-          entry = Some (record_of 1 (closed (request_of self.now.kept) outcome));
+          entry = Some (record_of journal_version (closed (request_of self.now.kept) outcome));
           sends = sends;
           notes = notes ++ Closed (request_of self.now.kept) outcome ∷ [];
         }) }

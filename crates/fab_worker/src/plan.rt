@@ -1,7 +1,7 @@
 //! What a worker is about to do.
 
 ghost use Rattle.std.specs.Prelude.{◌≡◌, IfOk, IfSome, Some, None};
-ghost use Rattle.fab_base.specs.JournalSpelling.{IsEntry, KeepsEntry, record_bytes as record_of};
+ghost use Rattle.fab_base.specs.JournalSpelling.{IsEntry, KeepsEntry, record_bytes as record_of, journal_version};
 
 use crate::change::Change;
 use fab_base::{Entry, NoMemory, Seq};
@@ -12,32 +12,53 @@ use std::alloc::Global;
 use std::marker::Model;
 
 /// What a worker will keep and say: the record, what becomes of the attempt, and the step in bytes.
-#[derive(Drop)]
 pub struct WorkerPlan {
     pub(crate) entry: Option<Entry>,
     pub(crate) change: Change,
     pub(crate) step: Step,
 }
 
+impl Drop for WorkerPlan {
+    fn drop(self) {
+        let WorkerPlan {
+            entry,
+            change,
+            step,
+        } = self;
+    }
+}
+
 impl Model for WorkerPlan {
     ghost use Rattle.std.specs.Prelude.{IfSome};
-    ghost use Rattle.fab_base.specs.JournalSpelling.{IsEntry};
+    ghost use Rattle.fab_base.specs.JournalSpelling.{IsEntry, journal_version};
     ghost use Rattle.fab_worker.specs.Plans.{Plan};
 
     ghost Value = { Plan };
 
     ghost view = { λ p. record { entry = p.entry; change = p.change; step = p.step } };
 
-    ghost invariant = { λ p. IfSome p.entry (IsEntry 1) };
+    ghost invariant = { λ p. IfSome p.entry (IsEntry journal_version) };
 }
 
 impl WorkerPlan {
     /// What is to be written and sent. What each plan writes can be read back.
     pub fn step(&self) -> &Step
         ensures step { result.now ≡ self.now.step }
-        ensures fits { IfSome self.now.entry (IsEntry 1) }
+        ensures fits { IfSome self.now.entry (IsEntry journal_version) }
     {
         &self.step
+    }
+
+    /// The record, what becomes of the attempt, and what is to be written and sent.
+    pub(crate) fn into_parts(self) -> (Option<Entry>, Change, Step)
+        ensures { result ≡ (self.entry, self.change, self.step) }
+    {
+        let WorkerPlan {
+            entry,
+            change,
+            step,
+        } = self;
+        (entry, change, step)
     }
 }
 
@@ -65,7 +86,7 @@ pub(crate) fn recorded(
     notes: Seq<Note>,
 ) -> Result<WorkerPlan, NoMemory>
     requires { KeepsEntry entry }
-    ensures { IfOk result (λ p. p ≡ record { entry = Some entry; change = change; step = record { entry = Some (record_of 1 entry); sends = sends; notes = notes } }) }
+    ensures { IfOk result (λ p. p ≡ record { entry = Some entry; change = change; step = record { entry = Some (record_of journal_version entry); sends = sends; notes = notes } }) }
 {
     let bytes = record_bytes(alloc, &entry)?;
     Ok(WorkerPlan {

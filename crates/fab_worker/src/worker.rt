@@ -27,7 +27,6 @@ use std::marker::Model;
 use std::sync::Arc;
 
 /// A worker: its session, its decisions, its caches, and the attempt that it is at.
-#[derive(Drop)]
 pub struct Worker {
     pub(crate) alloc: Global,
     pub(crate) node: u16,
@@ -39,6 +38,23 @@ pub struct Worker {
     pub(crate) stage: Stage,
     pub(crate) answers: Vec<(Oid, u32, Object)>,
     pub(crate) told: (usize, usize),
+}
+
+impl Drop for Worker {
+    fn drop(self) {
+        let Worker {
+            alloc,
+            node,
+            program,
+            rights,
+            session,
+            decided,
+            caches,
+            stage,
+            answers,
+            told,
+        } = self;
+    }
 }
 
 impl Model for Worker {

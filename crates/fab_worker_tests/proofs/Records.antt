@@ -4,7 +4,7 @@ use Rattle.fab_base.specs.declared.entry.Entry.{Entry}
 use Rattle.fab_base.specs.declared.entry.Entry.TheVariants as e
 use Rattle.fab_base.specs.declared.object.Tid.{Tid}
 use Rattle.fab_base.specs.declared.object.Value.{Value}
-use Rattle.fab_base.specs.JournalSpelling.{AreEntries, IsEntry, IsReadAs}
+use Rattle.fab_base.specs.JournalSpelling.{AreEntries, IsEntry, IsReadAs, journal_version}
 use Rattle.fab_world.specs.Workers.{Kept, WorkerCanKeep, kept_of, worker_keeps}
 use Rattle.fab_worker.specs.Plans.{AreKept}
 use Rattle.fab_worker.specs.Records.{boots_in}
@@ -12,7 +12,7 @@ use Rattle.fab_worker.specs.Records.{boots_in}
 -- a record is taken, and so many requests ended behind it
 abbrev pub Takes : ℕ → Entry → ℕ → ℕ → Type 0
 Takes requests entry ended next =
-    IsEntry 1 entry → (kept : Kept) → length kept.outcomes ≡ ended
+    IsEntry journal_version entry → (kept : Kept) → length kept.outcomes ≡ ended
     → WorkerCanKeep requests entry kept × (length (worker_keeps entry kept).outcomes ≡ next)
 
 one_longer : {A : Type 0} (xs : List A) (x : A) → length (xs ++ x ∷ []) ≡ length xs + 1
@@ -34,7 +34,7 @@ boot_is_taken boot requests ended fits kept so_many = (tt, so_many)
 
 -- records are taken, behind so many requests that ended
 abbrev pub AreTaken : ℕ → List Entry → ℕ → Type 0
-AreTaken requests entries ended = AreEntries 1 entries → (kept : Kept) → length kept.outcomes ≡ ended → AreKept requests entries kept
+AreTaken requests entries ended = AreEntries journal_version entries → (kept : Kept) → length kept.outcomes ≡ ended → AreKept requests entries kept
 
 pub one_more : (requests : ℕ) (entry : Entry) (entries : List Entry) (ended next : ℕ) → Takes requests entry ended next → AreTaken requests entries next
     → AreTaken requests (entry ∷ entries) ended
@@ -43,8 +43,8 @@ one_more requests entry entries ended next one others fits kept so_many =
     (both.0, others fits.1 (worker_keeps entry kept) both.1)
 
 -- what is read are entries
-pub read_entries : (bytes : List ℕ) (entries : List Entry) (len : ℕ) → IsReadAs bytes entries len → AreEntries 1 entries
-read_entries bytes entries len (inl torn) = subst (AreEntries 1) (sym torn.1) tt
+pub read_entries : (bytes : List ℕ) (entries : List Entry) (len : ℕ) → IsReadAs bytes entries len → AreEntries journal_version entries
+read_entries bytes entries len (inl torn) = subst (AreEntries journal_version) (sym torn.1) tt
 read_entries bytes entries len (inr whole) = whole.front.entries_fit
 
 pub none_ended : length (kept_of []).outcomes ≡ 0

@@ -2,7 +2,7 @@
 
 ghost use Rattle.std.specs.Prelude.{◌≡◌, ◌+◌, ◌<◌, ◌==◌, ℕ, None as Nothing, IfOk, IfSome, IsTrue, length, option_copied};
 ghost use Rattle.std.specs.List.{find};
-ghost use Rattle.fab_base.specs.JournalSpelling.{AreEntries, IsEntry};
+ghost use Rattle.fab_base.specs.JournalSpelling.{AreEntries, IsEntry, journal_version};
 ghost use Rattle.fab_tree.specs.Limits.{first_passed};
 ghost use Rattle.fab_attempts.specs.Sessions.{IsProgramOf, requests_of};
 ghost use Rattle.fab_world.specs.Workers.{Kept, WorkerCanKeep, fresh, worker_keeps};
@@ -84,7 +84,7 @@ fn next_ended(request: u32, ended: usize, requests: usize) -> Option<usize>
 
 /// How many requests of so many ended behind a record, if recovery takes it.
 fn ended_by(entry: &Entry, ended: usize, requests: usize) -> Option<usize>
-    ensures { IfSome result (λ next. IsEntry 1 entry.now → (kept : Kept) → length kept.outcomes ≡ ended
+    ensures { IfSome result (λ next. IsEntry journal_version entry.now → (kept : Kept) → length kept.outcomes ≡ ended
         → WorkerCanKeep requests entry.now kept × (length (worker_keeps entry.now kept).outcomes ≡ next)) }
 {
     match entry {
@@ -97,7 +97,7 @@ fn ended_by(entry: &Entry, ended: usize, requests: usize) -> Option<usize>
 
 /// Whether recovery takes these records behind so many that ended a request, of so many requests.
 fn are_kept(entries: &[Entry], ended: usize, requests: usize) -> bool
-    ensures { IsTrue result → AreEntries 1 entries.now → (kept : Kept) → length kept.outcomes ≡ ended → AreKept requests entries.now kept }
+    ensures { IsTrue result → AreEntries journal_version entries.now → (kept : Kept) → length kept.outcomes ≡ ended → AreKept requests entries.now kept }
 {
     match entries.split_first() {
         None => true,

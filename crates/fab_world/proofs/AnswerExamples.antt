@@ -6,6 +6,8 @@ use Rattle.fab_base.specs.declared.message.Message.TheVariants.{Fetch, Object, D
 use Rattle.fab_base.specs.declared.message.Why.TheVariants as why
 use Rattle.fab_base.specs.declared.entry.Entry.TheVariants as e
 use Rattle.fab_base.specs.MessageSpelling.{spelled}
+use Rattle.fab_base.specs.declared.object.Width.TheVariants as widths
+use Rattle.fab_rights.specs.declared.rights.Shape.TheVariants as shapes
 use Rattle.fab_net.specs.declared.event.Event.TheVariants.{Begin, Resume, Deliver, Post, Crash, Recover}
 use Rattle.fab_net.specs.declared.outcome.ReqOutcome.TheVariants.{Committed, Denied}
 use Rattle.fab_net.specs.declared.outcome.Denial.TheVariants.{Rights}
@@ -23,7 +25,7 @@ first = attempt 0 1 1
 
 abbrev barred : Setting
 barred = record (setting 0 1 0 no_posts (Fetch first (account 0) ∷ Deny first (account 0) why.Rights ∷ [])) {
-  rights = record rights { classes = record { fetchers = 8; writers = 9; holders = 2; fields = None ∷ [] } ∷ [] };
+  rights = record rights { classes = record { fetchers = 8; writers = 9; holders = 2; fields = shapes.Number widths.Int ∷ [] } ∷ [] };
 }
 
 abbrev denied : List Move

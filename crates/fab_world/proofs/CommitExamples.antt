@@ -7,7 +7,7 @@ use Rattle.fab_base.specs.declared.object.Value.TheVariants.{Ref}
 use Rattle.fab_base.specs.declared.message.Message.TheVariants.{Fetch, Object, Prepare, Vote, Commit as Commits, Boot, Inquire}
 use Rattle.fab_base.specs.declared.message.Answer.TheVariants.{Yes}
 use Rattle.fab_base.specs.declared.entry.Entry.TheVariants as e
-use Rattle.fab_base.specs.JournalSpelling.{journal_bytes, record_bytes}
+use Rattle.fab_base.specs.JournalSpelling.{journal_bytes, record_bytes, journal_version}
 use Rattle.fab_net.specs.declared.event.Event.TheVariants.{Begin, Resume, Deliver, Crash, CrashIn, Recover}
 use Rattle.fab_net.specs.declared.event.Inner.TheVariants as i
 use Rattle.fab_net.specs.declared.outcome.ReqOutcome.TheVariants.{Committed, Unfinished}
@@ -133,7 +133,7 @@ across_replay : serial_replay S is_account (commits_in S is_hostile across) ≡ 
 unfolding kept_of shelf_of
 across_replay = refl
 
-across_journal : content S (world_of S across) 0 ≡ journal_bytes 1 0 (e.Decided first 1 None (1 ∷ []) ∷ e.Boot 2 ∷ [])
+across_journal : content S (world_of S across) 0 ≡ journal_bytes journal_version 0 (e.Decided first 1 None (1 ∷ []) ∷ e.Boot 2 ∷ [])
 unfolding kept_of shelf_of
 across_journal = refl
 
@@ -147,7 +147,7 @@ crash_drops_attempt = refl
 abbrev torn : List Move
 torn = voted ++ plain (CrashIn 23 (i.Deliver 1 0)) ∷ []
 
-torn_content : content S (world_of S torn) 0 ≡ journal_bytes 1 0 [] ++ take 23 (record_bytes 1 (e.Decided first 1 None (1 ∷ [])))
+torn_content : content S (world_of S torn) 0 ≡ journal_bytes journal_version 0 [] ++ take 23 (record_bytes journal_version (e.Decided first 1 None (1 ∷ [])))
 unfolding kept_of shelf_of
 torn_content = refl
 
@@ -172,7 +172,7 @@ freed_is_run : is_run S freed ≡ true
 unfolding kept_of shelf_of
 freed_is_run = refl
 
-freed_journal : content S (world_of S freed) 0 ≡ journal_bytes 1 0 (e.Boot 2 ∷ [])
+freed_journal : content S (world_of S freed) 0 ≡ journal_bytes journal_version 0 (e.Boot 2 ∷ [])
 unfolding kept_of shelf_of
 freed_journal = refl
 

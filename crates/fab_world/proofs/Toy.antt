@@ -18,6 +18,7 @@ use Rattle.fab_net.specs.declared.event.Event.TheVariants.{Begin, Resume, Delive
 use Rattle.fab_net.specs.declared.event.Inner.{Inner}
 use Rattle.fab_protocol.proofs.Toy.{account, box, holding, accounts, made, rights}
 use Rattle.fab_world.specs.Machine.{Setting, Move, at_start, are_enabled}
+use Rattle.fab_base.specs.JournalSpelling.{journal_version}
 
 abbrev pub is_hostile : ℕ → Bool
 is_hostile n = (n == 2) || (n == 4)
@@ -75,6 +76,7 @@ setting first requests cache posts messages = record {
   rights = rights;
   cache = cache;
   hostile = is_hostile;
+  first = λ n. journal_version;
   requests = λ n. requests;
   posts = λ n. map (λ post. (post.0, spelled post.1)) (posts n);
   roots = accounts (pos 100) (pos 0);

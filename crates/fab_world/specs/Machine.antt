@@ -37,6 +37,8 @@ pub record Setting : Type 0 where
   -- how many objects of each store a worker's cache keeps
   pub cache : ℕ
   pub hostile : ℕ → Bool
+  -- the version in which a node's journal begins
+  pub first : ℕ → ℕ
   -- how many requests a worker's session has; and what a hostile node has to send to whom
   pub requests : ℕ → ℕ
   pub posts : ℕ → List (ℕ × List ℕ)
@@ -46,8 +48,10 @@ pub record Setting : Type 0 where
   -- what a worker's request of this number, from 1, means in an attempt over a map
   pub means : ℕ → ℕ → Tid → FlatMap → Meant
 
--- its whole records, the bytes of a torn one behind them, a worker's attempt, whether it is up, and whether it has failed for good
+-- the version in which its journal begins, its whole records, the bytes of a torn one behind them, a worker's attempt, whether it is up, and
+-- whether it has failed for good
 pub record Node : Type 0 where
+  pub first : ℕ
   pub entries : List Entry
   pub torn : List ℕ
   pub attempt : Attempt
@@ -88,10 +92,10 @@ abbrev pub option_list : {A : Type 0} → Option A → List A
 option_list None = []
 option_list (Some x) = x ∷ []
 
--- the bytes of a record behind these, if there is one
-abbrev pub record_behind : List Entry → Option Entry → List ℕ
-record_behind entries None = []
-record_behind entries (Some entry) = record_bytes (version_behind 1 entries) entry
+-- the bytes of a record behind these, the first of which has this version, if there is one
+abbrev pub record_behind : ℕ → List Entry → Option Entry → List ℕ
+record_behind first entries None = []
+record_behind first entries (Some entry) = record_bytes (version_behind first entries) entry
 
 abbrev pub is_idle : Phase → Bool
 is_idle workers.Idle = true
@@ -136,7 +140,7 @@ form_of move = form_by move.marked move.event
 module _ (S : Setting) where
   abbrev pub at_start : World
   at_start = record {
-    node = λ n. record { entries = []; torn = []; attempt = fresh; up = true; failed = false };
+    node = λ n. record { first = S.first n; entries = []; torn = []; attempt = fresh; up = true; failed = false };
     queue = λ a b. [];
     sent = λ a b. [];
     posts = S.posts;
@@ -168,7 +172,7 @@ module _ (S : Setting) where
 
   -- the bytes of a node's journal
   abbrev pub content : World → ℕ → List ℕ
-  content w n = header_bytes 1 n ++ records_from 1 (w.node n).entries ++ (w.node n).torn
+  content w n = header_bytes (w.node n).first n ++ records_from (w.node n).first (w.node n).entries ++ (w.node n).torn
 
   -- ---- what an event's node does
 
@@ -231,8 +235,8 @@ module _ (S : Setting) where
   -- so many bytes of the record stay: with all of them it stands
   abbrev pub cut : ℕ → Option Entry → Node → Node
   cut keep entry node =
-      if keep == length (record_behind node.entries entry) then record node { entries = node.entries ++ option_list entry }
-      else record node { torn = take keep (record_behind node.entries entry) }
+      if keep == length (record_behind node.first node.entries entry) then record node { entries = node.entries ++ option_list entry }
+      else record node { torn = take keep (record_behind node.first node.entries entry) }
 
   -- a node goes down: the attempt and the queues to it are gone
   abbrev pub down : World → ℕ → World
@@ -278,7 +282,7 @@ module _ (S : Setting) where
 
   -- the bytes of the record that an event writes, if it writes one
   abbrev pub record_at : World → Inner → List ℕ
-  record_at w e = record_behind (w.node (node_of e)).entries (act w e).entry
+  record_at w e = record_behind (w.node (node_of e)).first (w.node (node_of e)).entries (act w e).entry
 
   -- an event calls its journal where it writes a record, and at Recover
   abbrev pub calls_journal : World → Inner → Bool

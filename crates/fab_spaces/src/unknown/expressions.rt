@@ -65,7 +65,7 @@ fn class_of_sort<'a>(tables: &Tables<'a>, sort: &Sort) -> Option<&'a Class>
 {
     match sort {
         Sort::Class(name) => tables.class(name),
-        Sort::Int => None,
+        Sort::Number(_) => None,
     }
 }
 
@@ -84,12 +84,7 @@ pub(crate) fn in_expression(
         Form::Number(_) | Form::Null => first,
         Form::Local(name) => in_local(known, first, name),
         Form::Read { object, field } => in_reach(tables, known, first, object, field),
-        Form::Negative(operand) | Form::Not(operand) => in_expression(
-            tables,
-            known,
-            first,
-            operand.get(),
-        ),
+        Form::Unary { operand, .. } => in_expression(tables, known, first, operand.get()),
         Form::Chain {
             first: head,
             others,

@@ -33,7 +33,7 @@ fn in_literal(tables: &Tables<'_>, first: Option<Fault>, literal: &Literal) -> O
     ensures { result ≡ first_from first (in_literal tables.now literal.now) }
 {
     match literal {
-        Literal::Int(_) | Literal::Null => first,
+        Literal::Number(_) | Literal::Null => first,
         Literal::Root(name) => if_found(first, tables.root(name), name),
     }
 }

@@ -1,7 +1,3 @@
-use mir.Val.{SFits}
-use mir.Syntax.{w32}
-use Rattle.std.proofs.lemmas.Int.{to_z-of_z}
-use Rattle.std.proofs.Common.{rules}
 use Rattle.fab_reading.specs.Reading.{any}
 use Rattle.fab_reading.proofs.Rules.{not_true}
 use Rattle.fab_parser.proofs.Chains.{exit}
@@ -10,9 +6,7 @@ use Rattle.fab_bundle.proofs.LiteralRules.{number_read, negated_start, null_read
 use Rattle.fab_bundle.proofs.literals.literal.Goals as goal
 
 pub returns-in-Some : goal.returns-in-Some
-returns-in-Some c =
-    let f : SFits w32 c.positive.result = search rules in
-    rw (to_z-of_z w32 c.positive.result f, c.positive.ensures) (number_read c.in-Some.ensures)
+returns-in-Some c = number_read c.in-Some.ensures
 
 pub returns-in_err-number : goal.returns-in_err-number
 returns-in_err-number c =
@@ -20,9 +14,7 @@ returns-in_err-number c =
     (last_stops any (any_weak any) c.in_err-number.field-0.0 (negated_start c.in-Some-behind.ensures) c.in_err-number.ensures)
 
 pub returns-in-Some-behind : goal.returns-in-Some-behind
-returns-in-Some-behind c =
-    let f : SFits w32 c.in_ok-number.number = search rules in
-    rw (to_z-of_z w32 c.in_ok-number.number f) (last_read (any_weak any) (negated_start c.in-Some-behind.ensures) c.in_ok-number.ensures)
+returns-in-Some-behind c = last_read (any_weak any) (negated_start c.in-Some-behind.ensures) c.in_ok-number.ensures
 
 pub returns-in-Some-behind-2 : goal.returns-in-Some-behind-2
 returns-in-Some-behind-2 c = null_read c.in-Some-behind-2.ensures

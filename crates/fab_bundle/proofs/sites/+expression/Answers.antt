@@ -5,7 +5,7 @@ pub room_after_expression-returns-in_ok-left-in-Chain :
     goal.room_after_expression-returns-in_ok-left-in-Chain
 room_after_expression-returns-in_ok-left-in-Chain t c =
     let size = sites_of_chain c.args.expression.now c.in-Chain.first c.in-Chain.others c.in-Chain.is in
-    let seen = chain_seen c.in-Chain.first c.get.result.now c.in-Chain.others c.as_slice.result.now _ c.get.ensures c.as_slice.ensures size in
+    let seen = chain_seen c.in-Chain.first c.get-in-Chain.result.now c.in-Chain.others c.as_slice.result.now _ c.get-in-Chain.ensures c.as_slice.ensures size in
     after_both _ _ _ _ _ _ c.in_ok-left-in-Chain.ensures seen c.room_after_operands.ensures
 
 pub room_after_expression-returns-in_ok-room-in-Compared :

@@ -16,9 +16,9 @@ note_expression-returns-in_ok-note_expression-in-Chain t c =
     let n = c.args.names.now in
     let u = c.args.under.now in
     on_ok_weaker c.note_operands.result
-    (in_two c.args.verdicts.now c.note_expression.new.verdicts c.note_operands.new.verdicts (owes_of n u c.in-Chain.first) (flat_map (tail_owed n u) c.as_slice.result.now) (owes_of n u c.args.expression.now)
+    (in_two c.args.verdicts.now c.note_expression-in-Chain.new.verdicts c.note_operands.new.verdicts (owes_of n u c.in-Chain.first) (flat_map (tail_owed n u) c.as_slice.result.now) (owes_of n u c.args.expression.now)
     (chain_owes n.classes.now n.locals.now c.args.expression.now c.in-Chain.first c.in-Chain.others u.pc.now u.failure c.in-Chain.is ∙ ap (λ (us : List Operand). owes_of n u c.in-Chain.first ++ flat_map (tail_owed n u) us) (sym c.as_slice.ensures))
-    (c.in_ok-note_expression-in-Chain.ensures ∙ ap (λ (e : Expression). all_noted c.args.verdicts.now (owes_of n u e)) c.get.ensures))
+    (c.in_ok-note_expression-in-Chain.ensures ∙ ap (λ (e : Expression). all_noted c.args.verdicts.now (owes_of n u e)) c.get-in-Chain.ensures))
     c.note_operands.ensures
 
 pub note_expression-returns-in_ok-note_expression-in-Compared :

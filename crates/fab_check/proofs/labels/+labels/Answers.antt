@@ -14,9 +14,9 @@ put_labels-returns-in_ok-put_labels-in-Chain t c =
     let n = c.args.names.now in
     let rest = λ (us : List Operand). flat_map (λ (u : Operand). labels_of n (out-Operand u).operand) us in
     on_ok_weaker c.put_operands.result
-    (put_two c.args.out.now c.put_labels.new.out c.put_operands.new.out (labels_of n c.in-Chain.first) (rest c.as_slice.result.now) (labels_of n c.args.expression.now)
+    (put_two c.args.out.now c.put_labels-in-Chain.new.out c.put_operands.new.out (labels_of n c.in-Chain.first) (rest c.as_slice.result.now) (labels_of n c.args.expression.now)
     (chain_labels n.classes.now n.locals.now c.args.expression.now c.in-Chain.first c.in-Chain.others c.in-Chain.is ∙ ap (λ (us : List Operand). labels_of n c.in-Chain.first ++ rest us) (sym c.as_slice.ensures))
-    (c.in_ok-put_labels-in-Chain.ensures ∙ ap (λ (e : Expression). c.args.out.now ++ labels_of n e) c.get.ensures))
+    (c.in_ok-put_labels-in-Chain.ensures ∙ ap (λ (e : Expression). c.args.out.now ++ labels_of n e) c.get-in-Chain.ensures))
     c.put_operands.ensures
 
 pub put_labels-returns-in_ok-put_labels-in-Compared :

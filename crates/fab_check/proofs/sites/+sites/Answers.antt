@@ -24,9 +24,9 @@ put_expression-returns-in_ok-put_expression-in-Chain t c =
     let pc = c.args.pc.now in
     let e = c.in-Chain.first in
     on_ok_weaker c.put_operands.result
-    (both (gathered pc) (in_parts pc) c.args.out.now c.put_expression.new.out c.put_operands.new.out (sites_in e) (flat_map in_other c.as_slice.result.now) (sites_in c.args.expression.now)
+    (both (gathered pc) (in_parts pc) c.args.out.now c.put_expression-in-Chain.new.out c.put_operands.new.out (sites_in e) (flat_map in_other c.as_slice.result.now) (sites_in c.args.expression.now)
     (chain_sites c.args.expression.now e c.in-Chain.others c.in-Chain.is ∙ ap (λ (us : List Operand). sites_in e ++ flat_map in_other us) (sym c.as_slice.ensures))
-    (c.in_ok-put_expression-in-Chain.ensures ∙ ap (λ (x : Expression). gathered pc c.args.out.now (sites_in x)) c.get.ensures))
+    (c.in_ok-put_expression-in-Chain.ensures ∙ ap (λ (x : Expression). gathered pc c.args.out.now (sites_in x)) c.get-in-Chain.ensures))
     c.put_operands.ensures
 
 pub put_expression-returns-in_ok-put_expression-in-Compared :

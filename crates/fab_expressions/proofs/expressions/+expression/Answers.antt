@@ -1,14 +1,11 @@
-use mir.Val.{SFits}
-use mir.Syntax.{w32}
-use Rattle.std.proofs.lemmas.Int.{to_z-of_z}
-use Rattle.std.proofs.Common.{rules, refl, append-nil, arith}
+use Rattle.std.proofs.Common.{refl, append-nil, arith}
 use Rattle.std.proofs.lemmas.Result.{err_from_is_err_and, MatchResult-weaker}
 use Rattle.fab_base.specs.declared.token.Mark.TheVariants as m
 use Rattle.fab_tree.specs.Expressions.{of_or, of_and, of_sum, of_product}
 use Rattle.fab_reading.proofs.Rules.{alike, sign, part, any_follows, sign_follows, ending, end_meets, end_text, sign_text, stop_part, stop_sign, closed, one_more, whole, read_shorter}
 use Rattle.fab_expressions.specs.Pieces.{after_primary, after_sum, after_operand, after_chain, after_expression}
 use Rattle.fab_expressions.proofs.OperatorRules.{comparison_begins, comparison_read, operator_begins, operator_read, operator_shorter}
-use Rattle.fab_expressions.proofs.PrimaryRules.{bracket_start, bracket_stops, number_read, null_read, bare_start, contrary_start, negative_start, least_start, least_read, other_start}
+use Rattle.fab_expressions.proofs.PrimaryRules.{bracket_start, bracket_stops, number_read, null_read, bare_start, signed_start, least_start, least_read, other_start}
 use Rattle.fab_expressions.proofs.ChainRules.{others_more, others_end, others_text, others_meet, chain_start, same_read, same_stops, or_back, and_back, sum_back, product_back, compared_start, right_start, right_end, right_meets, right_text, end_of_sum}
 use Rattle.fab_expressions.proofs.expressions.+expression.Goals as goal
 
@@ -50,9 +47,7 @@ compared-returns-in_ok-whole-in-Some t c =
     rw c.in_ok-whole-in-Some.ensures (whole (part (ending (part (right_start (part (compared_start c.args.tokens.now) c.in_ok-left.ensures right_meets) (comparison_begins _ _ _ c.in-Some.ensures)) (comparison_read c.in-Some.ensures) (λ more v after q h. any_follows more))) c.in_ok-right-in-Some.ensures end_of_sum))
 
 pub primary-returns-in-Some : goal.primary-returns-in-Some
-primary-returns-in-Some t c =
-    let f : SFits w32 c.positive-value.result = search rules in
-    rw (to_z-of_z w32 c.positive-value.result f, c.positive-value.ensures, c.place-at.ensures) (number_read c.in-Some.ensures)
+primary-returns-in-Some t c = rw c.place-at.ensures (number_read c.in-Some.ensures)
 
 pub primary-returns-in-Some-behind : goal.primary-returns-in-Some-behind
 primary-returns-in-Some-behind t c = rw c.place-at.ensures (null_read c.in-Some-behind.ensures)
@@ -103,34 +98,25 @@ pub operand-returns-in-Product : goal.operand-returns-in-Product
 operand-returns-in-Product t c =
     rw c.in-Product.is (MatchResult-weaker c.unary.result c.unary.ensures (λ x. same_read (λ a v b. of_product) product_back) (λ e. same_stops (λ a v b. of_product) product_back _ _ _ e))
 
-pub unary-returns-in_err-operand : goal.unary-returns-in_err-operand
-unary-returns-in_err-operand t c =
-    let p = err_from_is_err_and c.from_residual.result c.from_residual.ensures.1 in
-    rw (p.1, p.2) (stop_part after_primary c.in_err-operand.field-0.0 (ending (contrary_start c.in-Some.ensures)) c.in_err-operand.ensures (end_meets after_primary) end_text)
-
-pub unary-returns-in-Some : goal.unary-returns-in-Some
-unary-returns-in-Some t c =
-    rw (c.in_ok-make.ensures, c.place-at.ensures) (whole (part (ending (contrary_start c.in-Some.ensures)) c.in_ok-operand.ensures (end_meets after_primary)))
-
 pub unary-returns-in_err-operand-in-None : goal.unary-returns-in_err-operand-in-None
 unary-returns-in_err-operand-in-None t c =
-    let p = err_from_is_err_and c.from_residual-in_err-operand-in-None.result c.from_residual-in_err-operand-in-None.ensures.1 in
-    rw (p.1, p.2) (stop_part after_primary c.in_err-operand-in-None.field-0.0 (ending (bare_start c.args.tokens.now c.in_default.ensures c.in-None.ensures)) c.in_err-operand-in-None.ensures (end_meets after_primary) end_text)
+    let p = err_from_is_err_and c.from_residual.result c.from_residual.ensures.1 in
+    rw (p.1, p.2) (stop_part after_primary c.in_err-operand-in-None.field-0.0 (ending (bare_start c.args.tokens.now c.in-None.ensures)) c.in_err-operand-in-None.ensures (end_meets after_primary) end_text)
 
 pub unary-returns-in_ok-operand-in-None : goal.unary-returns-in_ok-operand-in-None
 unary-returns-in_ok-operand-in-None t c =
-    whole (part (ending (bare_start c.args.tokens.now c.in_default.ensures c.in-None.ensures)) c.in_ok-operand-in-None.ensures (end_meets after_primary))
+    whole (part (ending (bare_start c.args.tokens.now c.in-None.ensures)) c.in_ok-operand-in-None.ensures (end_meets after_primary))
 
-pub unary-returns-in-Some-behind_least : goal.unary-returns-in-Some-behind_least
-unary-returns-in-Some-behind_least t c =
-    let x = c.in-Some-behind_least.ensures in
-    rw c.place-at.ensures (whole (part (least_start (negative_start c.in-Some-behind.ensures) x.1 x.2) (least_read x.1 x.2) (λ more v after q h. any_follows more)))
+pub unary-returns-in-Some-least_behind : goal.unary-returns-in-Some-least_behind
+unary-returns-in-Some-least_behind t c =
+    let l = c.in-Some-least_behind.ensures in
+    rw c.place-at.ensures (whole (part (least_start c.in-Some.operator (signed_start c.in-Some.operator c.in-Some.ensures) l) (least_read l.0) (λ more v after q h. any_follows more)))
 
-pub unary-returns-in_err-operand-in-Some-behind : goal.unary-returns-in_err-operand-in-Some-behind
-unary-returns-in_err-operand-in-Some-behind t c =
-    let p = err_from_is_err_and c.from_residual-in_err-operand-in-Some-behind.result c.from_residual-in_err-operand-in-Some-behind.ensures.1 in
-    rw (p.1, p.2) (stop_part after_primary c.in_err-operand-in-Some-behind.field-0.0 (ending (other_start (negative_start c.in-Some-behind.ensures) c.in_default-behind_least.ensures)) c.in_err-operand-in-Some-behind.ensures (end_meets after_primary) end_text)
+pub unary-returns-in_err-operand-in-Some : goal.unary-returns-in_err-operand-in-Some
+unary-returns-in_err-operand-in-Some t c =
+    let p = err_from_is_err_and c.from_residual-in_err-operand-in-Some.result c.from_residual-in_err-operand-in-Some.ensures.1 in
+    rw (p.1, p.2) (stop_part after_primary c.in_err-operand-in-Some.field-0.0 (ending (other_start c.in-Some.operator (signed_start c.in-Some.operator c.in-Some.ensures) c.in_default.ensures)) c.in_err-operand-in-Some.ensures (end_meets after_primary) end_text)
 
-pub unary-returns-in_ok-make-in-Some-behind : goal.unary-returns-in_ok-make-in-Some-behind
-unary-returns-in_ok-make-in-Some-behind t c =
-    rw (c.in_ok-make-in-Some-behind.ensures, c.place-at.ensures) (whole (part (ending (other_start (negative_start c.in-Some-behind.ensures) c.in_default-behind_least.ensures)) c.in_ok-operand-in-Some-behind.ensures (end_meets after_primary)))
+pub unary-returns-in_ok-operand-in-Some-2 : goal.unary-returns-in_ok-operand-in-Some-2
+unary-returns-in_ok-operand-in-Some-2 t c =
+    rw (c.in_ok-operand-in-Some-2.ensures, c.place-at.ensures) (whole (part (ending (other_start c.in-Some.operator (signed_start c.in-Some.operator c.in-Some.ensures) c.in_default.ensures)) c.in_ok-operand-in-Some.ensures (end_meets after_primary)))

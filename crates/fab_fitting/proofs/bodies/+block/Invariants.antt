@@ -1,7 +1,6 @@
 use Rattle.std.proofs.Common.{take}
 use Rattle.std.specs.List.{flat_map}
-use Rattle.fab_fitting.specs.Fitting.{AllFit}
-use Rattle.fab_settings.specs.Numbers.{in_statement}
+use Rattle.fab_settings.specs.Numbers.{AllFit, in_statement}
 use Rattle.fab_fitting.proofs.bodies.+block.Given as goal
 
 abbrev pub invariant-read_block-loop-statement : goal.invariant-read_block-loop-statement

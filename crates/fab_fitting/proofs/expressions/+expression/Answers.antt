@@ -7,7 +7,7 @@ use Rattle.fab_fitting.proofs.expressions.+expression.Goals as goal
 pub read_expression-returns-in-Chain : goal.read_expression-returns-in-Chain
 read_expression-returns-in-Chain t c =
     chain_fits c.args.expression.now c.in-Chain.first c.in-Chain.others c.in-Chain.is
-    (same in_expression _ _ c.get.ensures c.read_expression.ensures)
+    (same in_expression _ _ c.get-in-Chain.ensures c.read_expression-in-Chain.ensures)
     (same (flat_map in_operand) _ _ c.as_slice.ensures c.read_operands.ensures)
 
 pub read_expression-returns-in-Compared : goal.read_expression-returns-in-Compared

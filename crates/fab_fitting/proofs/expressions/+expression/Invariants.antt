@@ -1,6 +1,6 @@
 use Rattle.std.proofs.Common.{take}
 use Rattle.std.specs.List.{flat_map}
-use Rattle.fab_fitting.specs.Fitting.{AllFit}
+use Rattle.fab_settings.specs.Numbers.{AllFit}
 use Rattle.fab_fitting.proofs.Forms.{in_operand}
 use Rattle.fab_fitting.proofs.expressions.+expression.Given as goal
 

@@ -1,7 +1,6 @@
 use Rattle.std.proofs.Common.{take}
 use Rattle.std.specs.List.{flat_map}
-use Rattle.fab_fitting.specs.Fitting.{AllFit}
-use Rattle.fab_settings.specs.Numbers.{in_expression}
+use Rattle.fab_settings.specs.Numbers.{AllFit, in_expression}
 use Rattle.fab_fitting.proofs.expressions.read_arguments.Given as goal
 
 abbrev pub invariant-loop-argument : goal.invariant-loop-argument

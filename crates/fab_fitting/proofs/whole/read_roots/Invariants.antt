@@ -1,8 +1,7 @@
 use Rattle.std.proofs.Common.{take}
 use Rattle.std.specs.List.{flat_map}
 use Rattle.fab_tree.specs.declared.resolved.Root.{Root}
-use Rattle.fab_fitting.specs.Fitting.{AllFit}
-use Rattle.fab_settings.specs.Numbers.{in_values}
+use Rattle.fab_settings.specs.Numbers.{AllFit, in_values}
 use Rattle.fab_fitting.proofs.whole.read_roots.Given as goal
 
 abbrev pub invariant-loop-root : goal.invariant-loop-root

@@ -1,7 +1,6 @@
 use Rattle.std.proofs.Common.{take}
 use Rattle.std.specs.List.{flat_map}
-use Rattle.fab_fitting.specs.Fitting.{AllFit}
-use Rattle.fab_settings.specs.Numbers.{in_session}
+use Rattle.fab_settings.specs.Numbers.{AllFit, in_session}
 use Rattle.fab_fitting.proofs.whole.read_sessions.Given as goal
 
 abbrev pub invariant-loop-session : goal.invariant-loop-session

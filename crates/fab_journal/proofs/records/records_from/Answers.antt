@@ -1,5 +1,5 @@
 use Rattle.std.proofs.Common.{◌+◌, ℕ, List, length, drop, arith, refl, inr, sym, subst, Some}
-use Rattle.fab_base.specs.JournalSpelling.{IsBadBody}
+use Rattle.fab_base.specs.JournalSpelling.{IsBadBody, journal_version}
 use Rattle.fab_journal.specs.Records.{FrontRecord}
 use Rattle.fab_wire.proofs.ReaderLaws.{IsBytes}
 use Rattle.fab_journal.proofs.Journals.{version_stays, spelled_header, spelled_further, from_place}
@@ -25,7 +25,7 @@ returns-in-Err-Bad c =
       length_fits = front.0;
       follows = front.1;
       place = c.in-Err-Bad.place;
-      bad = subst (λ (v : ℕ). IsBadBody v c.in-Some.body.now c.in-Err-Bad.place) (sym (version_stays 1 c.loop-body.entries)) bad.0;
+      bad = subst (λ (v : ℕ). IsBadBody v c.in-Some.body.now c.in-Err-Bad.place) (sym (version_stays journal_version c.loop-body.entries)) bad.0;
       at_place = refl;
     })))
 

@@ -1,5 +1,5 @@
 use Rattle.std.proofs.Common.{length, subst, Err, ℕ, arith, ◌<◌, ◌^◌}
-use Rattle.fab_base.specs.JournalSpelling.{journal_bytes}
+use Rattle.fab_base.specs.JournalSpelling.{journal_bytes, journal_version}
 use Rattle.fab_journal.specs.Records.{AnswersOnly}
 use Rattle.fab_journal.specs.declared.error.RecordError.{RecordError}
 use Rattle.fab_node.proofs.Reread.{reads_whole}
@@ -10,7 +10,7 @@ unreachable-requires c =
     let n = c.args._number in
     let entries = c.requires.0 in
     let few : n < 2 ^ 16 = omega arith in
-    let len : ℕ = length (journal_bytes 1 n entries) in
+    let len : ℕ = length (journal_bytes journal_version n entries) in
     subst (λ (e : RecordError). AnswersOnly (Err e) entries len) c.in-Err-Bad.field-0-is
     (c.in-Err-Bad.ensures.only entries len (reads_whole n entries c.requires.1 c.args.bytes.now few c.requires.2))
 
@@ -18,4 +18,4 @@ pub returns-in-Ok : goal.returns-in-Ok
 returns-in-Ok c = λ entries torn h.
     let n = c.args._number in
     let few : n < 2 ^ 16 = omega arith in
-    c.in-Ok.ensures.only entries (length (journal_bytes 1 n entries)) (reads_whole n entries torn c.args.bytes.now few h)
+    c.in-Ok.ensures.only entries (length (journal_bytes journal_version n entries)) (reads_whole n entries torn c.args.bytes.now few h)

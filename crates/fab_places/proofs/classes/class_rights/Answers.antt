@@ -11,4 +11,4 @@ returns c =
     (subst (λ (d : Delegations). Reading r d class.label.number c.reading-readers.result) c.requires.of c.reading-readers.ensures)
     (subst (λ (d : Delegations). Reading r d class.access.number c.reading-learners.result) c.requires.of c.reading-learners.ensures)
     (subst (λ (d : Delegations). Influencing r d class.label.number c.influencing-writers.result) c.requires.of c.influencing-writers.ensures)
-    c.in_ok-kinds_of.field-0 (rw c.as_slice.ensures at (c.in_ok-kinds_of.ensures))
+    c.in_ok-shapes_of.field-0 (rw c.as_slice.ensures at (c.in_ok-shapes_of.ensures))

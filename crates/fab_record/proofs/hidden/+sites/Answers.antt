@@ -13,9 +13,9 @@ pub put_expression-returns-in_ok-put_expression-in-Chain :
 put_expression-returns-in_ok-put_expression-in-Chain t c =
     let rest = λ (us : List Operand). flat_map (λ (u : Operand). sites_in (out-Operand u).operand) us in
     on_ok_weaker c.put_operands.result
-    (two c.args.out.now c.put_expression.new.out c.put_operands.new.out (sites_in c.in-Chain.first) (rest c.as_slice.result.now) (sites_in c.args.expression.now)
+    (two c.args.out.now c.put_expression-in-Chain.new.out c.put_operands.new.out (sites_in c.in-Chain.first) (rest c.as_slice.result.now) (sites_in c.args.expression.now)
     (chain_sites c.args.expression.now c.in-Chain.first c.in-Chain.others c.in-Chain.is ∙ ap (λ (us : List Operand). sites_in c.in-Chain.first ++ rest us) (sym c.as_slice.ensures))
-    (c.in_ok-put_expression-in-Chain.ensures ∙ ap (λ (e : Expression). c.args.out.now ++ sites_in e) c.get.ensures))
+    (c.in_ok-put_expression-in-Chain.ensures ∙ ap (λ (e : Expression). c.args.out.now ++ sites_in e) c.get-in-Chain.ensures))
     c.put_operands.ensures
 
 pub put_expression-returns-in_ok-put_expression-in-Compared :

@@ -9,17 +9,17 @@ pub reads_seen-returns-then-reads_seen : goal.reads_seen-returns-then-reads_seen
 reads_seen-returns-then-reads_seen t c =
     let n = c.args.scope.now in
     let rest = λ (us : List Operand). list_all (λ (u : Operand). reads_seen n (out-Operand u).operand) us in
-    first_holds c.reads_seen.result (reads_seen n c.in-Chain.first) (rest c.in-Chain.others) c.operands_seen.result (reads_seen n c.args.expression.now)
+    first_holds c.reads_seen-in-Chain.result (reads_seen n c.in-Chain.first) (rest c.in-Chain.others) c.operands_seen.result (reads_seen n c.args.expression.now)
     (chain_seen n c.args.expression.now c.in-Chain.first c.in-Chain.others c.in-Chain.is)
-    (c.reads_seen.ensures ∙ ap (reads_seen n) c.get.ensures) c.if-reads_seen.true (c.operands_seen.ensures ∙ ap rest c.as_slice.ensures)
+    (c.reads_seen-in-Chain.ensures ∙ ap (reads_seen n) c.get-in-Chain.ensures) c.if-reads_seen.true (c.operands_seen.ensures ∙ ap rest c.as_slice.ensures)
 
 pub reads_seen-returns-else-reads_seen : goal.reads_seen-returns-else-reads_seen
 reads_seen-returns-else-reads_seen t c =
     let n = c.args.scope.now in
     let rest = λ (us : List Operand). list_all (λ (u : Operand). reads_seen n (out-Operand u).operand) us in
-    first_fails c.reads_seen.result (reads_seen n c.in-Chain.first) (rest c.in-Chain.others) (reads_seen n c.args.expression.now)
+    first_fails c.reads_seen-in-Chain.result (reads_seen n c.in-Chain.first) (rest c.in-Chain.others) (reads_seen n c.args.expression.now)
     (chain_seen n c.args.expression.now c.in-Chain.first c.in-Chain.others c.in-Chain.is)
-    (c.reads_seen.ensures ∙ ap (reads_seen n) c.get.ensures) c.if-reads_seen.false
+    (c.reads_seen-in-Chain.ensures ∙ ap (reads_seen n) c.get-in-Chain.ensures) c.if-reads_seen.false
 
 pub reads_seen-returns-then-reads_seen-2 : goal.reads_seen-returns-then-reads_seen-2
 reads_seen-returns-then-reads_seen-2 t c =

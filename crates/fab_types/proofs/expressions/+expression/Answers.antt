@@ -1,5 +1,6 @@
 use Rattle.std.proofs.Common.{◌∙◌, sym}
 use Rattle.std.specs.List.{flat_map}
+use Rattle.fab_base.specs.declared.object.Width.TheVariants as widths
 use Rattle.fab_language.specs.Kinds.{number}
 use Rattle.fab_language.specs.Types.{given_to, in_expression, typed}
 use Rattle.fab_rules.specs.First.{first_from}
@@ -29,11 +30,11 @@ in_expression-returns-then-asks_same t c =
 
 pub in_expression-returns-else-asks_same : goal.in_expression-returns-else-asks_same
 in_expression-returns-else-asks_same t c =
-    first_in_order c.args.tables.now c.args.known.now c.args.expression.now c.in-Compared.left c.in-Compared.right c.in-Compared.comparison c.args.first c.in_operand-first-else-asks_same.result c.in_operand.result
+    first_in_order c.args.tables.now c.args.known.now c.args.expression.now c.in-Compared.left c.in-Compared.right c.in-Compared.comparison c.args.first c.in_operand-first-else-asks_same.result c.in_operand-else-asks_same.result
     c.in-Compared.is
     (sym c.asks_same.ensures ∙ c.if-asks_same.false)
     c.in_operand-first-else-asks_same.ensures
-    c.in_operand.ensures
+    c.in_operand-else-asks_same.ensures
 
 pub in_operands-loop-other-preserved : goal.in_operands-loop-other-preserved
 in_operands-loop-other-preserved t c =
@@ -44,4 +45,4 @@ in_operands-loop-other-preserved t c =
     c.loop-other-test.true
     c.other-item.is
     c.loop-other.invariant
-    (in_two c.loop-other.first c.in_expression-first.result c.value_given_to-first.result (in_expression s known e) (given_to number (typed s known e)) c.in_expression-first.ensures c.value_given_to-first.ensures)
+    (in_two c.loop-other.first c.in_expression-first.result c.value_given_to-first.result (in_expression s known e) (given_to (number widths.Int) (typed s known e)) c.in_expression-first.ensures c.value_given_to-first.ensures)

@@ -1,7 +1,7 @@
 use Rattle.std.proofs.Common.{◌≡◌, ◌==◌, ℕ, Bool, List, [], length, Option, Some, None, refl, sym, ap, subst, ◌∙◌, true≢false}
 use Rattle.std.specs.Prelude.{IsSome, IfSome, option_map, unwrap_or}
 use Rattle.fab_base.specs.declared.entry.Entry.{Entry}
-use Rattle.fab_base.specs.JournalSpelling.{record_bytes}
+use Rattle.fab_base.specs.JournalSpelling.{record_bytes, journal_version}
 use Rattle.fab_node.specs.declared.role.Role.{Role}
 use Rattle.fab_node.specs.Standing.{NodeModel, RoleStands}
 use Rattle.fab_node.specs.Deeds.{IsPlanOf, entry_in, step_if}
@@ -41,8 +41,8 @@ returns-in-Err-clause-err g c = λ given x act s p.
     (writes_here given x act node s c.args.plan p c.requires.can (g.J.Journal.content c.self.inside.journal) (g.J.Journal.synced c.self.inside.journal) content synced))
 
 -- whether the whole record stays, by the record of the act
-whole_of : (o : Option (List ℕ)) (entry : Option Entry) (keep : ℕ) (whole : Bool) → o ≡ option_map (record_bytes 1) entry → IsSome o
-    → IfSome o (λ bytes. whole ≡ (keep == length bytes)) → whole ≡ (keep == length (unwrap_or (option_map (record_bytes 1) entry) []))
+whole_of : (o : Option (List ℕ)) (entry : Option Entry) (keep : ℕ) (whole : Bool) → o ≡ option_map (record_bytes journal_version) entry → IsSome o
+    → IfSome o (λ bytes. whole ≡ (keep == length bytes)) → whole ≡ (keep == length (unwrap_or (option_map (record_bytes journal_version) entry) []))
 whole_of None entry keep whole e some is = absurd (true≢false (sym some))
 whole_of (Some bytes) entry keep whole e some is = is ∙ ap (λ z. keep == length (unwrap_or z [])) e
 

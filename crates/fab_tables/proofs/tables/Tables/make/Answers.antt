@@ -1,8 +1,13 @@
-use Rattle.std.proofs.Common.{ap, ◌∙◌}
+use Rattle.std.proofs.Common.{◌≤◌, length, ap, ◌∙◌, arith}
 use Rattle.fab_language.specs.Names.{node_name, label_name, class_name, method_name, root_name}
 use Rattle.fab_tables.specs.Places.{texts_of}
 use Rattle.fab_tree.proofs.Within.{is_within}
 use Rattle.fab_tables.proofs.tables.Tables.make.Goals as goal
+
+pub names_of-requires-4 : goal.names_of-requires-4
+names_of-requires-4 c =
+    let few : length c.args.start.now.program.methods ≤ 256 = (is_within c.args.start.now c.requires).methods in
+    omega (arith, few, ap length c.as_slice-4.ensures)
 
 pub invariant_of-result : goal.invariant_of-result
 invariant_of-result c =

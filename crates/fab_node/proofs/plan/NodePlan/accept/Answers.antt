@@ -2,7 +2,7 @@ use Rattle.std.proofs.Common.{sym, subst}
 use Rattle.fab_node.specs.declared.plan.NodePlan.{NodePlan}
 use Rattle.fab_node.specs.Standing.{RoleStands}
 use Rattle.fab_node.specs.Deeds.{IsPlanOf, done_by, readied_for}
-use Rattle.fab_node.proofs.accepting.accept.Goals as goal
+use Rattle.fab_node.proofs.plan.NodePlan.accept.Goals as goal
 
 pub returns-in-Begins-clause-role : goal.returns-in-Begins-clause-role
 returns-in-Begins-clause-role c = λ g x act n s p.

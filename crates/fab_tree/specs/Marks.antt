@@ -1,0 +1,23 @@
+-- The signs and the words that stand for parts of a tree.
+use Rattle.std.specs.Prelude.{Option, Some, None}
+use Rattle.fab_base.specs.declared.object.Width.{Width}
+use Rattle.fab_base.specs.declared.object.Width.TheVariants as widths
+use Rattle.fab_base.specs.declared.token.Mark.{Mark}
+use Rattle.fab_base.specs.declared.token.Mark.TheVariants as m
+use Rattle.fab_tree.specs.declared.expression.UnaryOperator.{UnaryOperator}
+use Rattle.fab_tree.specs.declared.expression.UnaryOperator.TheVariants as unary
+
+-- the sign of an operator in front of its operand
+abbrev pub unary_mark : UnaryOperator → Mark
+unary_mark unary.Negative = m.Minus
+unary_mark unary.Not = m.Bang
+
+-- the operator that a sign stands for in front of an operand, if it stands for one
+abbrev pub unary_of : Mark → Option UnaryOperator
+unary_of m.Minus = Some unary.Negative
+unary_of m.Bang = Some unary.Not
+unary_of _ = None
+
+-- the type of numbers of a width
+abbrev pub width_mark : Width → Mark
+width_mark widths.Int = m.Int
