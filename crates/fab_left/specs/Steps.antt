@@ -13,7 +13,8 @@ use Rattle.fab_left.specs.Deeds.{Deed, afterwards}
 -- what is done at a place goes over more objects as over what is known, and leaves no new objects; where it lacks an object, the
 -- state differs in fuel and touches alone
 pub record Carries {A : Type 0} (tid : Tid) (m : M A) : Type 0 where
-  pub over : (known : FlatMap) (t : State) (more : FlatMap) → Stems tid known t.heap.rows → Fresh tid known more → IsSure (m t) → m (wider more t) ≡ widened more (m t)
+  pub over : (known : FlatMap) (t : State) (more : FlatMap) → Stems tid known t.heap.rows → Fresh tid known more → IsSure (m t)
+      → m (wider more t) ≡ widened more (m t)
   pub stems : (known : FlatMap) (t : State) → Stems tid known t.heap.rows → Stems tid known (state_behind (m t)).heap.rows
   pub misses : (t : State) (site : ℕ) (o : Oid) (u : State) → m t ≡ ends (missing site o) u → DiffersLittle t u
 
