@@ -75,7 +75,9 @@ RoleStands g n x (roles.Worker worker) = WorkerStands g n x worker
 
 -- bytes behind the whole records: a front of a record that isn't the whole of it
 abbrev pub IsTornPart : List ℕ → Type 0
-IsTornPart bytes = (entry : Entry) × (n : ℕ) × IsEntry journal_version entry × (n < length (record_bytes journal_version entry)) × (bytes ≡ take n (record_bytes journal_version entry))
+IsTornPart bytes =
+    (entry : Entry) × (n : ℕ) × IsEntry journal_version entry
+    × (n < length (record_bytes journal_version entry)) × (bytes ≡ take n (record_bytes journal_version entry))
 
 -- the whole records stand at the front
 abbrev pub BeginsWith : ℕ → List Entry → List ℕ → Type 0
