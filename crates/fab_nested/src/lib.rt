@@ -4,6 +4,7 @@
 mod answers;
 mod frame_error;
 mod frames;
+mod known;
 mod log;
 mod objects;
 mod touches;
