@@ -1,6 +1,9 @@
+pub mod Answering
 pub mod Calling
 pub mod Naming
 pub mod Noting
+pub mod Over
+pub mod Starting
 pub mod Stepping
 pub mod Touching
 pub mod Undoing

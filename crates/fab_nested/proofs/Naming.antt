@@ -41,6 +41,10 @@ pub joins : {E : Type 0} (o : Oid) (old new : List Oid) (r : Result Bool E) → 
 joins o old new (Ok b) h e absent = h ∙ rw (among_by o old ∙ absent) refl
 joins o old new (Err x) h e absent = absurd (true≢false e)
 
+pub first_of_two : (a b : Bool) → (a || b) ≡ false → a ≡ false
+first_of_two true b h = absurd (true≢false h)
+first_of_two false b h = refl
+
 pub neither : (a b : Bool) → (a || b) ≡ false → b ≡ false
 neither true b h = absurd (true≢false h)
 neither false b h = h
@@ -56,7 +60,7 @@ version_found (v ∷ vs) o = rw (eq_is o v.0, version_found vs o) (by_test (is_s
     by_test false = refl
 
 -- a name that stands in no entry goes last
-insert_last : (o : Oid) (n : ℕ) (vs : List (Oid × ℕ)) → is_among o (map (λ (v : Oid × ℕ). v.0) vs) ≡ false → insert_entry oids.TheImpl.ghosts.eq vs o n ≡ vs ++ (o, n) ∷ []
+pub insert_last : (o : Oid) (n : ℕ) (vs : List (Oid × ℕ)) → is_among o (map (λ (v : Oid × ℕ). v.0) vs) ≡ false → insert_entry oids.TheImpl.ghosts.eq vs o n ≡ vs ++ (o, n) ∷ []
 insert_last o n [] h = refl
 insert_last o n (v ∷ vs) h = rw (eq_is o v.0) (by_test (is_same v.0 o) h (λ k. insert_last o n vs k))
   where
