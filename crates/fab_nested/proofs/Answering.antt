@@ -40,7 +40,7 @@ absent-put_field p o field v rows e = by (is_same p o) refl
     other (Some x) apart = get-put_other p o x rows apart ∙ e
 
     by : (b : Bool) → is_same p o ≡ b → get (put_field p field v rows) o ≡ None
-    by true same = let name : p ≡ o = one_name p o same in ap (λ m. get m o) (put_field_absent p field v rows (ap (get rows) name ∙ e)) ∙ e
+    by true same = let name : p ≡ o = one_name p o same in ap (λ (m : FlatMap). get m o) (put_field_absent p field v rows (ap (get rows) name ∙ e)) ∙ e
     by false apart = other (with_field_of field v (get rows p)) apart
 
 absent-before : (c : Change) (h : Heap) (o : Oid) → get h.rows o ≡ None → get (before c h).rows o ≡ None
@@ -123,11 +123,11 @@ module _ (o : Oid) (version : ℕ) (x : Object) (versions reserved later : List 
   nowhere = absent_over h.rows known o f.above.now.ascending (ap (λ (m : Nested). get m.now.rows o) seen ∙ absent)
 
   versioned_last : later ≡ versions ++ (o, version) ∷ []
-  versioned_last = inserted ∙ ap (λ vs. insert_entry oids.TheImpl.ghosts.eq vs o version) kept ∙ insert_last o version versions (unversioned versions known o f.below nowhere.1)
+  versioned_last = inserted ∙ ap (λ (vs : List (Oid × ℕ)). insert_entry oids.TheImpl.ghosts.eq vs o version) kept ∙ insert_last o version versions (unversioned versions known o f.below nowhere.1)
 
   pub answered_framed : IsFramed later new log h marks
   answered_framed = record {
-    below = subst (λ m. IsKnown later m) (sym grown) (subst (λ vs. IsKnown vs (put o x known)) (sym versioned_last) (known_more versions known o version x f.below));
+    below = subst (λ (m : FlatMap). IsKnown later m) (sym grown) (subst (λ (vs : List (Oid × ℕ)). IsKnown vs (put o x known)) (sym versioned_last) (known_more versions known o version x f.below));
     above = f.above;
   }
 

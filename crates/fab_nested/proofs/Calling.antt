@@ -11,7 +11,7 @@ use Rattle.fab_language.specs.Heaps.{Heap, Reach, is_among, is_changed, is_full,
 use Rattle.fab_language.specs.Meaning.{field_of, with_field}
 use Rattle.fab_nested.specs.Nested.{Nested, Call, gives, needs, stops, reached, access, settled, read, write, create}
 use Rattle.fab_nested.specs.declared.log.Change.{Change}
-use Rattle.fab_nested.specs.Logs.{saved_in}
+use Rattle.fab_nested.specs.Logs.{saved_in, IsSound}
 use Rattle.fab_nested.specs.Overlay.{over, framed, IsFramed}
 use Rattle.fab_nested.proofs.Naming.{first_of_two}
 use Rattle.fab_nested.proofs.Over.{replaced_over, created_over}
@@ -112,3 +112,22 @@ reach_unchanged fits site o x h touches ts unchanged f t =
     by true false e t = ap (found x) (sym t)
     by false true e t = refl
     by false false e t = absurd (false≢true e)
+
+copied_some : (r : Option (Bor Object)) → is_some (option_copied r) ≡ is_some r
+copied_some None = refl
+copied_some (Some b) = refl
+
+-- what is found among the changed objects tells whether it was changed
+pub changed_if : (b : Bool) (r : Option (Bor Object)) (h : Heap) (o : Oid) → IsSound h → option_copied r ≡ get h.rows o → is_some r ≡ b → is_changed o h ≡ b
+changed_if b r h o s e f = sym (s.there o) ∙ ap is_some (sym e) ∙ copied_some r ∙ f
+
+-- what was changed is there
+pub changed_there : (h : Heap) (o : Oid) → IsSound h → is_changed o h ≡ true → (x : Object) × (get h.rows o ≡ Some x)
+changed_there h o s c = some_of (get h.rows o) (s.there o ∙ c)
+
+none_of : (m : Option Object) → is_some m ≡ false → m ≡ None
+none_of None h = refl
+none_of (Some x) h = absurd (true≢false h)
+
+pub unchanged_absent : (h : Heap) (o : Oid) → IsSound h → is_changed o h ≡ false → get h.rows o ≡ None
+unchanged_absent h o s c = none_of (get h.rows o) (s.there o ∙ c)
