@@ -1,10 +1,11 @@
 //! The objects that are known.
-ghost use Rattle.std.specs.Prelude.{◌≡◌, IfOk, OnOk, OnErr, option_map};
+ghost use Rattle.std.specs.Prelude.{◌≡◌, OnOk, OnErr, option_map};
 ghost use Rattle.fab_base.specs.FlatMap.{get, put, put_all};
 ghost use Rattle.fab_language.specs.Meaning.{field_of};
 ghost use Rattle.fab_nested.specs.Overlay.{rows_of};
 
 use crate::answers::field_of;
+use crate::copies::map_copy;
 use fab_base::{NoMemory, Object, Oid, Value};
 use fab_map::ObjectMap;
 use std::alloc::Global;
@@ -59,23 +60,4 @@ pub(crate) fn field_at(
         return Some(field_of(object, field));
     }
     Some(field_of(known.get(oid)?, field))
-}
-
-/// A copy of a map with its objects.
-fn map_copy(alloc: Global, map: &ObjectMap) -> Result<ObjectMap, NoMemory>
-    ensures { IfOk result (λ m. m ≡ map.now) }
-{
-    let rows = rows_copy(alloc, map.rows())?;
-    Ok(ObjectMap::from_rows(rows))
-}
-
-/// Copies of rows.
-fn rows_copy(alloc: Global, rows: &[(Oid, Object)]) -> Result<Vec<(Oid, Object)>, NoMemory>
-    ensures { IfOk result (λ v. v.items ≡ rows.now) }
-{
-    let mut copies = Vec::new(alloc);
-    for row in rows {
-        copies.push((row.0, row.1.copy(alloc)?))?;
-    }
-    Ok(copies)
 }

@@ -2,6 +2,7 @@
 #![tactic(auto)]
 
 mod answers;
+mod copies;
 mod frame_error;
 mod frames;
 mod known;
