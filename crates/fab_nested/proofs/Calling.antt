@@ -1,5 +1,6 @@
 -- What the calls come to, from what their parts do.
 use Rattle.std.proofs.Common.{◌≡◌, ℕ, Bool, true, false, not, ◌||◌, if◌then◌else◌, List, ◌++◌, ◌∷◌, [], map, Option, Some, None, Bor, is_some, option_copied, refl, sym, ap, ◌∙◌}
+use Rattle.std.specs.Bool.{OnFalse}
 use Rattle.std.specs.Prelude.{option_map}
 use Rattle.std.proofs.lemmas.Bool.{true≢false, false≢true}
 use Rattle.fab_base.specs.declared.object.Oid.{Oid}
@@ -36,7 +37,7 @@ module _ (versions : List (Oid × ℕ)) (known : FlatMap) (log : List Change) (h
 
   -- ---- a field is written
   module _ (site : ℕ) (o : Oid) (field : ℕ) (v : Value) where
-    next : Object → Nested → Call (Unit {0})
+    abbrev next : Object → Nested → Call (Unit {0})
     next y m = settled (replaced o (with_field field v y) m.now) m
 
     pub write_needs : get (over known h).rows o ≡ None → write site o field v n ≡ needs o n
@@ -73,6 +74,15 @@ module _ (versions : List (Oid × ℕ)) (known : FlatMap) (log : List Change) (h
     create_gives later new e stay =
         create_settled (Some new) e
         ∙ (λ i. gives tt (record { versions = versions; now = over known new; saved = map (over known) (sym stay i); touches = touches }))
+
+-- nothing was done
+pub same_left : (versions : List (Oid × ℕ)) (known : FlatMap) (log reserved : List Change) (h : Heap) (marks : List ℕ) (touches ts : List (ℕ × Oid)) (n : Nested) → framed versions known log h marks touches ≡ n → reserved ≡ log → ts ≡ touches
+    → n ≡ framed versions known reserved h marks ts
+same_left versions known log reserved h marks touches ts n seen e t = sym seen ∙ (λ i. framed versions known (sym e i) h marks (sym t i))
+
+pub on_false : (b : Bool) (P : Type 0) → b ≡ false → OnFalse b P → P
+on_false true P e f = absurd (true≢false e)
+on_false false P e f = f
 
 -- ---- what the parts say
 

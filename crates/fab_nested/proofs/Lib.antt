@@ -5,5 +5,6 @@ pub mod Noting
 pub mod Over
 pub mod Starting
 pub mod Stepping
+pub mod Telling
 pub mod Touching
 pub mod Undoing

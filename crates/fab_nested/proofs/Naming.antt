@@ -105,3 +105,8 @@ version_more answers i a vs new apart lt read e f =
         ap (is_among a.0) (keys_kept (λ (x : Oid × ℕ × Object). x.1) (take i answers) ∙ sym (take-map (λ (x : Oid × ℕ × Object). x.0) i answers))
         ∙ ap (λ o. is_among o (take i (names_of answers))) (sym name)
         ∙ new_at (names_of answers) i a.0 apart (let same = length-map answers (λ (x : Oid × ℕ × Object). x.0) in omega arith)
+
+-- what an insertion that succeeded leaves
+pub inserted : {A E : Type 0} (r : Result A E) (left all : List (Oid × ℕ)) → is_err r ≡ false → IfOk r (λ _. left ≡ all) → left ≡ all
+inserted (Ok x) left all e h = h
+inserted (Err x) left all e h = absurd (true≢false e)

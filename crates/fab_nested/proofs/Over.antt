@@ -109,7 +109,7 @@ module _ (t : Oid → Bool) where
   only_past row rows h = rw h refl
 
   pub get_only : (rows : FlatMap) (o : Oid) → get (only rows) o ≡ (if t o then get rows o else None)
-  get_only [] o = elim (t o) as (λ b. None ≡ (if b then None else None)) [ true ↦ refl | false ↦ refl ]
+  get_only [] o = elim (t o) as (λ b. ◌≡◌ {A = Option Object} None (if b then None else None)) [ true ↦ refl | false ↦ refl ]
   get_only (row ∷ rows) o = by (get_only rows o) (t row.0) refl (is_same row.0 o) refl
     where
       by : get (only rows) o ≡ (if t o then get rows o else None) → (a : Bool) → t row.0 ≡ a → (b : Bool) → is_same row.0 o ≡ b → get (only (row ∷ rows)) o ≡ (if t o then get (row ∷ rows) o else None)

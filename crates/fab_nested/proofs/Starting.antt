@@ -34,6 +34,9 @@ answers_known answers apart = record {
   versioned = λ o h. ap is_some (get-map_of (objects_of answers) o (distinct_rows answers apart)) ∙ answered_has answers o h;
 }
 
+pub answers_known_as : (answers : Answers) → IsDistinct is_same (names_of answers) → (versions : List (Oid × ℕ)) (known : FlatMap) → versions ≡ versions_of answers → known ≡ map_of (objects_of answers) → IsKnown versions known
+answers_known_as answers apart versions known e f = rw (e, f) (answers_known answers apart)
+
 -- a map, without versions
 pub map_known : (known : FlatMap) → ascends known ≡ true → IsKnown [] known
 map_known known h = record {

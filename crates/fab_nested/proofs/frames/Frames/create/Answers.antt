@@ -1,4 +1,4 @@
-use Rattle.std.proofs.Common.{Some, None, ◌≡◌, ap, ◌∙◌}
+use Rattle.std.proofs.Common.{ap, ◌∙◌}
 use Rattle.fab_base.specs.FlatMap.{get}
 use Rattle.fab_nested.specs.Logs.{heap_of}
 use Rattle.fab_nested.specs.Nested.{Nested}

@@ -1,4 +1,4 @@
-use Rattle.std.proofs.Common.{List, ℕ, [], ◌∷◌, ◌++◌, ap, sym, ◌∙◌, subst}
+use Rattle.std.proofs.Common.{ℕ, [], ◌∷◌, ◌++◌, ap, sym, ◌∙◌, subst}
 use Rattle.fab_nested.specs.Logs.{heap_of, IsLogged}
 use Rattle.fab_nested.specs.Overlay.{rows_of}
 use Rattle.fab_nested.proofs.Undoing.{logged_entered, entered_is}

@@ -1,4 +1,4 @@
-use Rattle.std.proofs.Common.{List, ◌∷◌, [], ◌++◌, ◌||◌, ap, sym, ◌∙◌}
+use Rattle.std.proofs.Common.{List, ◌∷◌, [], ◌++◌, ap, sym, ◌∙◌}
 use Rattle.fab_base.specs.declared.object.Oid.{Oid}
 use Rattle.fab_language.specs.Heaps.{is_among}
 use Rattle.fab_nested.specs.Logs.{heap_of}
