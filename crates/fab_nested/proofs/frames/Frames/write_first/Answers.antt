@@ -1,4 +1,4 @@
-use Rattle.std.proofs.Common.{◌≡◌, false, if◌then◌else◌, Option, Some, None, option_copied, ap, sym, ◌∙◌}
+use Rattle.std.proofs.Common.{◌≡◌, false, if◌then◌else◌, Option, Some, None, option_copied, refl, ap, sym, ◌∙◌}
 use Rattle.fab_base.specs.declared.object.Object.{Object}
 use Rattle.fab_base.specs.declared.object.Stop.TheVariants.{Reads, Writes}
 use Rattle.fab_base.specs.FlatMap.{FlatMap, get, put_all}
@@ -80,4 +80,9 @@ returns-in-Ok-None c =
     let reaches : reach_in c.args.site c.args.oid (Some c.in-Some.object.now) h.made c.self.inside.touches ≡ (if c.in_ok-reach.field-0 then found c.in-Some.object.now c.reach.new.self else full) =
     reach_unchanged c.in_ok-reach.field-0 c.args.site c.args.oid c.in-Some.object.now h c.self.inside.touches c.reach.new.self unchanged c.in_ok-reach.ensures.fits c.in_ok-reach.ensures.noted in
     let written : c.with_field-object.result ≡ with_field c.args.field c.args.value c.in-Some.object.now = c.with_field-object.ensures ∙ ap (with_field c.args.field c.args.value) c.in_ok-copy.ensures in
-    let a = c.in-Ok-None.is in let b = c.in-Ok-None.field-0-is in let d = c.in-Ok-None.ensures.ok in ?
+    let steps = rw c.in-Ok-None.field-0-is at c.in-Ok-None.ensures.ok in
+    write_stops c.self.inside.versions.entries (rows_of c.self.inside.known) c.self.inside.log.items (heap_of c.self.inside.objects) c.self.inside.marks.items c.self.inside.touches c.args.self.now c.self.view_is
+    c.args.site c.args.oid c.args.field c.args.value c.self.invariant c.in-Some.object.now c.reach.new.self there
+    (found_from c.in_ok-reach.field-0 (reach_in c.args.site c.args.oid (Some c.in-Some.object.now) h.made c.self.inside.touches) c.in-Some.object.now c.reach.new.self c.if-not-branch.false reaches)
+    (ap (λ (x : Object). replaced c.args.oid x h) (sym written) ∙ steps.0)
+    ∙ (λ i. stops Writes (framed c.self.inside.versions.entries (rows_of c.self.inside.known) (sym c.reserve.ensures.items i) (sym steps.1 i) c.self.inside.marks.items c.reach.new.self))
