@@ -31,7 +31,12 @@ fn in_order(
 
 /// One statement.
 #[cycle(run)]
-fn statement(program: &Resolved, depth: u32, state: &mut State<'_>, s: &Statement) -> Result<(), Halt>
+fn statement(
+    program: &Resolved,
+    depth: u32,
+    state: &mut State<'_>,
+    s: &Statement,
+) -> Result<(), Halt>
     ensures gives { Gives result state.new (statement state.old.base.tid (called program.now state.old.base.tid depth) s.now state.old.state) }
     ensures keeps { Keeps result state.old.base state.new.base }
     ensures fuel { state.new.state.fuel ≤ state.old.state.fuel }

@@ -1,11 +1,11 @@
 -- One answer more, which reaches each heap: no changed object has its name, now or before any change.
 use Rattle.std.proofs.Common.{◌≡◌, ℕ, Bool, true, false, not, ◌||◌, if◌then◌else◌, List, [], ◌∷◌, ◌++◌, map, reverse, drop, Option, Some, None, is_some, refl, sym, ap, subst, ◌∙◌}
-use Rattle.std.proofs.lemmas.Bool.{true≢false, false≢true}
+use Rattle.std.proofs.lemmas.Bool.{true≢false}
 use Rattle.std.proofs.lemmas.List.{map_push, reverse-append}
 use Rattle.fab_base.specs.declared.object.Oid.{Oid}
 use Rattle.fab_base.specs.declared.object.Object.{Object}
 use Rattle.fab_base.specs.declared.object.Value.{Value}
-use Rattle.fab_base.specs.FlatMap.{FlatMap, is_same, is_among, get, put, put_all, ascends}
+use Rattle.fab_base.specs.FlatMap.{FlatMap, is_same, is_among, get, put, ascends}
 use Rattle.fab_base.proofs.NameOrder.{one_name}
 use Rattle.fab_base.specs.contracts.object.OidPartialEq as oids
 use Rattle.fab_language.specs.Heaps.{Heap, with_row}
@@ -15,7 +15,7 @@ use Rattle.fab_map.proofs.Changing.{ascends-removed, ascends-put_field, put_fiel
 use Rattle.indexmap.specs.IndexMap.{insert_entry}
 use Rattle.fab_nested.specs.declared.log.Change.{Change}
 use Rattle.fab_nested.specs.declared.log.Change.TheVariants.{Wrote, Joined, Made}
-use Rattle.fab_nested.specs.Logs.{before, before_all, heap_at, saved_in, IsLogged}
+use Rattle.fab_nested.specs.Logs.{before, before_all, heap_at, saved_in}
 use Rattle.fab_nested.specs.Nested.{Nested, answered}
 use Rattle.fab_nested.specs.Overlay.{over, framed, IsKnown, IsFramed}
 use Rattle.fab_nested.proofs.Naming.{among_push, insert_last}
@@ -110,9 +110,9 @@ known_more : (versions : List (Oid × ℕ)) (known : FlatMap) (o : Oid) (version
 known_more versions known o version x k = record {
   ascending = ascends-put o x known k.ascending;
   versioned = λ p h.
-    there_more o p x known
-    ∙ either (is_among p (map (λ (v : Oid × ℕ). v.0) versions)) (is_some (get known p)) (k.versioned p) (is_same o p)
-    (sym (ap (is_among p) (map_push (λ (v : Oid × ℕ). v.0) versions (o, version)) ∙ among_push p o (map (λ (v : Oid × ℕ). v.0) versions)) ∙ h);
+      there_more o p x known
+      ∙ either (is_among p (map (λ (v : Oid × ℕ). v.0) versions)) (is_some (get known p)) (k.versioned p) (is_same o p)
+      (sym (ap (is_among p) (map_push (λ (v : Oid × ℕ). v.0) versions (o, version)) ∙ among_push p o (map (λ (v : Oid × ℕ). v.0) versions)) ∙ h);
 }
 
 -- ---- together

@@ -1,5 +1,5 @@
 -- Names in sets, and versions by name.
-use Rattle.std.proofs.Common.{◌≡◌, ℕ, zero, suc, ◌+◌, ◌-◌, ◌<◌, Bool, true, false, ◌||◌, if◌then◌else◌, List, [], ◌∷◌, ◌++◌, length, get_or, map, take, Option, Some, None, unwrap_or, Result, Ok, Err, IfOk, is_err, refl, sym, ap, ◌∙◌, arith}
+use Rattle.std.proofs.Common.{◌≡◌, ℕ, zero, suc, ◌+◌, ◌-◌, ◌<◌, Bool, true, false, ◌||◌, if◌then◌else◌, List, [], ◌∷◌, ◌++◌, length, get_or, map, take, Some, unwrap_or, Result, Ok, Err, IfOk, is_err, refl, sym, ap, ◌∙◌, arith}
 use Rattle.std.specs.List.{list_any, IsDistinct, AllByRecursion}
 use Rattle.std.specs.Map.{lookup, keys_of}
 use Rattle.std.proofs.lemmas.List.{length_push, length-map, get_or-map, map_more, take-map, take_at}
@@ -14,7 +14,6 @@ use Rattle.fab_base.specs.contracts.object.OidPartialEq as oids
 use Rattle.fab_language.specs.Heaps.{is_among}
 use Rattle.fab_nested.specs.Nested.{Answers, names_of, versions_of, version_of}
 use Rattle.fab_nested.specs.Logs.{but_last}
-use Rattle.fab_base.proofs.Names.{same_flips}
 
 -- the derived comparison of names is that of their parts
 pub eq_is : (o p : Oid) → oids.TheImpl.ghosts.eq o p ≡ is_same p o

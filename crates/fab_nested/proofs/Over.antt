@@ -1,12 +1,12 @@
 -- Objects that were changed, over those that are known.
-use Rattle.std.proofs.Common.{◌≡◌, ◌≢◌, Bool, true, false, ◌||◌, if◌then◌else◌, List, [], ◌∷◌, ◌++◌, map, Option, Some, None, is_some, refl, sym, ap, ◌∙◌}
+use Rattle.std.proofs.Common.{◌≡◌, Bool, true, false, if◌then◌else◌, [], ◌∷◌, ◌++◌, Option, Some, None, is_some, refl, sym, ap, ◌∙◌}
 use Rattle.std.specs.Prelude.{filter, option_map}
-use Rattle.std.proofs.lemmas.Bool.{true≢false, false≢true}
+use Rattle.std.proofs.lemmas.Bool.{false≢true}
 use Rattle.fab_base.specs.declared.object.Oid.{Oid}
 use Rattle.fab_base.specs.declared.object.Object.{Object}
 use Rattle.fab_base.specs.FlatMap.{FlatMap, is_same, get, put, put_all, ascends}
 use Rattle.fab_base.proofs.NameOrder.{one_name}
-use Rattle.fab_language.specs.Heaps.{Heap, is_among, is_changed, is_spent, with_row, newly_written, replaced, created}
+use Rattle.fab_language.specs.Heaps.{Heap, is_changed, is_spent, with_row, newly_written, replaced, created}
 use Rattle.fab_map.proofs.Made.{distinct_from_ascends, first_of, get-put_all}
 use Rattle.fab_map.proofs.Rows.{get_here, get_past, leads, leads_from, ascends_leads, ascends_rest, ascends_cons, ascends-put, ascends-put_all, get-put_other, get-put_same, same_from_get}
 use Rattle.fab_nested.specs.Overlay.{over}

@@ -11,7 +11,7 @@ use Rattle.fab_language.specs.Meaning.{unchanged}
 use Rattle.fab_map.proofs.Made.{get-map_of}
 use Rattle.fab_map.proofs.Rows.{ascends-put_all}
 use Rattle.fab_nested.specs.declared.log.Change.{Change}
-use Rattle.fab_nested.specs.Nested.{Answers, Nested, names_of, objects_of, versions_of}
+use Rattle.fab_nested.specs.Nested.{Answers, names_of, objects_of, versions_of}
 use Rattle.fab_nested.specs.Overlay.{framed, IsKnown, IsFramed}
 use Rattle.fab_nested.proofs.Naming.{keys_kept}
 use Rattle.fab_nested.proofs.Stepping.{sound_none}

@@ -1,5 +1,5 @@
 -- One change of a heap: what it comes to, that it can be undone, and that a sound heap stays sound.
-use Rattle.std.proofs.Common.{◌≡◌, ◌≢◌, ℕ, ◌+◌, ◌≤◌, Bool, true, false, ◌||◌, List, [], ◌∷◌, ◌++◌, length, Option, Some, None, is_some, unwrap_or, refl, sym, ap, subst, ◌∙◌, arith}
+use Rattle.std.proofs.Common.{◌≡◌, ℕ, ◌+◌, ◌≤◌, Bool, true, false, ◌||◌, List, [], ◌∷◌, ◌++◌, length, Some, None, is_some, unwrap_or, refl, sym, ap, subst, ◌∙◌, arith}
 use Rattle.std.proofs.lemmas.List.{length_push}
 use Rattle.std.proofs.lemmas.Option.{none-some, same_Some}
 use Rattle.std.proofs.lemmas.Bool.Decides.{nat_tests}
@@ -13,9 +13,8 @@ use Rattle.fab_language.specs.Meaning.{with_field, unchanged}
 use Rattle.fab_map.specs.Changes.{field_in, put_field, removed}
 use Rattle.fab_map.proofs.Rows.{ascends-put, get-put_same, get-put_other}
 use Rattle.fab_map.proofs.Changing.{put_field_there, put_field-back, removed-put}
-use Rattle.fab_nested.specs.declared.log.Change.{Change}
 use Rattle.fab_nested.specs.declared.log.Change.TheVariants.{Wrote, Joined, Made}
-use Rattle.fab_nested.specs.Logs.{Steps, before, but_last, IsSound}
+use Rattle.fab_nested.specs.Logs.{Steps, but_last, IsSound}
 use Rattle.fab_nested.proofs.Naming.{among_push, but_last-push}
 
 -- ---- an object is written

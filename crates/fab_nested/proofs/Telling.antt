@@ -4,11 +4,11 @@ use Rattle.std.proofs.lemmas.List.{take_all}
 use Rattle.fab_base.specs.declared.object.Oid.{Oid}
 use Rattle.fab_base.specs.declared.object.Object.{Object}
 use Rattle.fab_base.specs.FlatMap.{FlatMap, get}
-use Rattle.fab_language.specs.Heaps.{Heap, is_among, is_changed}
+use Rattle.fab_language.specs.Heaps.{Heap, is_among}
 use Rattle.fab_nested.specs.declared.log.Change.{Change}
 use Rattle.fab_nested.specs.Logs.{IsSound}
 use Rattle.fab_nested.specs.Nested.{Nested, Answers, version_of, writes_in, creates_in}
-use Rattle.fab_nested.specs.Overlay.{over, framed, IsFramed}
+use Rattle.fab_nested.specs.Overlay.{framed, IsFramed}
 use Rattle.fab_nested.proofs.Over.{only_over}
 
 or_first : (a b : Bool) → a ≡ true → (a || b) ≡ true

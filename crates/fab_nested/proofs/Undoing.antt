@@ -1,5 +1,5 @@
 -- The log of changes, with marks: the heaps at the marks are as they were when the marks were set.
-use Rattle.std.proofs.Common.{◌≡◌, ℕ, zero, suc, ◌+◌, ◌≤◌, List, [], ◌∷◌, ◌++◌, length, length-take, map, reverse, take, drop, Option, Some, None, option_to_list, append-nil, refl, sym, ap, ◌∙◌, subst, arith}
+use Rattle.std.proofs.Common.{◌≡◌, ℕ, zero, suc, ◌≤◌, List, [], ◌∷◌, ◌++◌, length, map, reverse, take, drop, Option, Some, None, option_to_list, append-nil, refl, sym, ap, ◌∙◌, subst, arith}
 use Rattle.std.proofs.lemmas.List.{length_push, take-append-le, drop-append-le, drop_all, map_push, reverse-append, length-take-le}
 use Rattle.fab_base.specs.declared.object.Oid.{Oid}
 use Rattle.fab_language.specs.Heaps.{Heap}

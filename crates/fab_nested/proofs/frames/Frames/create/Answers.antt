@@ -24,8 +24,8 @@ invariant_of-self-2 c =
     record {
       below = c.self.invariant.below;
       above = later_logged c.self.inside.log.items c.note.new.log.items c.reserve.new.self.items c.in-Some.change (heap_of c.self.inside.objects) (heap_of c.make.new.self) c.self.inside.marks.items c.deref.result.now
-      c.self.invariant.above steps.1 c.note.ensures c.deref.ensures.value c.reserve.ensures.items
-      (sound_made c.args.oid c.args.object (heap_of c.self.inside.objects) (heap_of c.make.new.self) c.self.invariant.above.now steps.0);
+          c.self.invariant.above steps.1 c.note.ensures c.deref.ensures.value c.reserve.ensures.items
+          (sound_made c.args.oid c.args.object (heap_of c.self.inside.objects) (heap_of c.make.new.self) c.self.invariant.above.now steps.0);
     }
 
 pub returns : goal.returns

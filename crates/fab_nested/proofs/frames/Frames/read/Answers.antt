@@ -1,4 +1,4 @@
-use Rattle.std.proofs.Common.{◌≡◌, Option, Some, None, option_map, refl, ap, sym, ◌∙◌}
+use Rattle.std.proofs.Common.{Some, option_map, refl, ap, ◌∙◌}
 use Rattle.fab_base.specs.declared.object.Stop.TheVariants.{Reads}
 use Rattle.fab_base.specs.declared.object.Value.{Value}
 use Rattle.fab_base.specs.FlatMap.{FlatMap, get, put_all}

@@ -1,7 +1,7 @@
-use Rattle.std.proofs.Common.{◌≡◌, true, Some, ap, sym, ◌∙◌}
+use Rattle.std.proofs.Common.{◌≡◌, true, Some, ap, ◌∙◌}
 use Rattle.fab_base.specs.declared.object.Stop.TheVariants.{Reads}
 use Rattle.fab_base.specs.FlatMap.{get, put_all}
-use Rattle.fab_language.specs.Heaps.{Heap, is_changed, reach_in, replaced}
+use Rattle.fab_language.specs.Heaps.{Heap, is_changed, reach_in}
 use Rattle.fab_language.specs.Meaning.{with_field}
 use Rattle.fab_nested.specs.Logs.{heap_of, IsSound}
 use Rattle.fab_nested.specs.Nested.{Nested, stops}
@@ -34,8 +34,8 @@ invariant_of-self-2 c =
     record {
       below = c.self.invariant.below;
       above = later_logged c.self.inside.log.items c.note.new.log.items c.reserve.new.self.items c.write_field-change.result h (heap_of c.write_field-change.new.self) c.self.inside.marks.items c.deref.result.now
-      c.self.invariant.above steps.1 c.note.ensures c.deref.ensures.value c.reserve.ensures.items
-      (sound_written c.args.oid (with_field c.args.field c.args.value x.0) h (heap_of c.write_field-change.new.self) sound steps.0);
+          c.self.invariant.above steps.1 c.note.ensures c.deref.ensures.value c.reserve.ensures.items
+          (sound_written c.args.oid (with_field c.args.field c.args.value x.0) h (heap_of c.write_field-change.new.self) sound steps.0);
     }
 
 pub returns : goal.returns

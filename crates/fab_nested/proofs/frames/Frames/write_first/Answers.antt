@@ -1,11 +1,10 @@
-use Rattle.std.proofs.Common.{◌≡◌, false, if◌then◌else◌, Option, Some, None, option_copied, refl, ap, sym, ◌∙◌}
+use Rattle.std.proofs.Common.{◌≡◌, false, if◌then◌else◌, Some, None, option_copied, refl, ap, sym, ◌∙◌}
 use Rattle.fab_base.specs.declared.object.Object.{Object}
 use Rattle.fab_base.specs.declared.object.Stop.TheVariants.{Reads, Writes}
 use Rattle.fab_base.specs.FlatMap.{FlatMap, get, put_all}
 use Rattle.fab_language.specs.Heaps.{Heap, found, full, is_changed, reach_in, replaced}
 use Rattle.fab_language.specs.Meaning.{with_field}
-use Rattle.fab_nested.specs.declared.log.Change.{Change}
-use Rattle.fab_nested.specs.Logs.{heap_of, IsSound, Steps}
+use Rattle.fab_nested.specs.Logs.{heap_of, IsSound}
 use Rattle.fab_nested.specs.Nested.{Nested, stops}
 use Rattle.fab_nested.specs.Overlay.{framed, rows_of}
 use Rattle.fab_nested.proofs.Over.{found_known}
@@ -48,8 +47,8 @@ invariant_of-self-in-Ok-Some c =
     record {
       below = c.self.invariant.below;
       above = later_logged c.self.inside.log.items c.note.new.log.items c.reserve.new.self.items c.in-Ok-Some.change h (heap_of c.join.new.self) c.self.inside.marks.items c.deref.result.now
-      c.self.invariant.above steps.1 c.note.ensures c.deref.ensures.value c.reserve.ensures.items
-      (sound_written c.args.oid c.with_field-object.result h (heap_of c.join.new.self) sound steps.0);
+          c.self.invariant.above steps.1 c.note.ensures c.deref.ensures.value c.reserve.ensures.items
+          (sound_written c.args.oid c.with_field-object.result h (heap_of c.join.new.self) sound steps.0);
     }
 
 pub returns-in-Ok-Some : goal.returns-in-Ok-Some
