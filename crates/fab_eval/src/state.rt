@@ -21,16 +21,16 @@ const FUEL: u32 = 1_000_000;
 /// locals of the method that it is in, the objects, and the values that were downgraded. Contracts
 /// see it as the state that the meaning has, over what stays through each step. An object of this
 /// attempt is in no heap of it but where it was made.
-pub(crate) struct State {
+pub(crate) struct State<'a> {
     alloc: Global,
     tid: Tid,
     fuel: u32,
     locals: Vec<Value>,
-    frames: Frames,
+    frames: Frames<'a>,
     downs: Vec<(u16, Value)>,
 }
 
-impl Drop for State {
+impl Drop for State<'_> {
     fn drop(self) {
         let State {
             alloc,
@@ -43,7 +43,7 @@ impl Drop for State {
     }
 }
 
-impl Model for State {
+impl<'a> Model for State<'a> {
     ghost use Rattle.std.specs.Prelude.{[], ◌∷◌};
     ghost use Rattle.fab_eval.specs.Attempts.{AreOfAttempt};
     ghost use Rattle.fab_eval.specs.Points.{Point};
@@ -55,13 +55,13 @@ impl Model for State {
     ghost invariant = { λ s. AreOfAttempt s.tid (s.frames.now ∷ s.frames.saved) };
 }
 
-impl State {
+impl<'a> State<'a> {
     /// The state in which a request begins, over the objects that were answered.
     pub(crate) fn begin(
         alloc: Global,
         tid: Tid,
         answers: &[(Oid, u32, Object)],
-    ) -> Result<State, NoMemory>
+    ) -> Result<State<'a>, NoMemory>
         requires distinct { IsDistinct is_same (names_of answers.now) }
         requires made_before { list_any (λ a. is_made_in tid a.0) answers.now ≡ false }
         ensures { IfOk result (λ s. s ≡ point_at_start tid answers.now) }
@@ -232,8 +232,8 @@ impl State {
 
     /// The touches, and the values that were downgraded.
     pub(crate) fn into_notes(self) -> Result<(Seq<(u16, Oid)>, Seq<(u16, Value)>), NoMemory>
-        ensures touches { IfOk result (λ n. n.0 ≡ self.state.touches) }
-        ensures downs { IfOk result (λ n. n.1 ≡ self.state.downs) }
+        ensures touches { IfOk result (λ n. n.0 ≡ self.entry.state.touches) }
+        ensures downs { IfOk result (λ n. n.1 ≡ self.entry.state.downs) }
     {
         let touches = Seq::from_slice(self.alloc, self.frames.touches())?;
         let State {

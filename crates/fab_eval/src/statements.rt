@@ -16,7 +16,7 @@ use fab_values::{default, holds};
 fn in_order(
     program: &Resolved,
     depth: u32,
-    state: &mut State,
+    state: &mut State<'_>,
     statements: &Seq<Statement>,
 ) -> Result<(), Halt>
     ensures gives { Gives result state.new (block state.old.base.tid (called program.now state.old.base.tid depth) statements.now state.old.state) }
@@ -31,7 +31,12 @@ fn in_order(
 
 /// One statement.
 #[cycle(run)]
-fn statement(program: &Resolved, depth: u32, state: &mut State, s: &Statement) -> Result<(), Halt>
+fn statement(
+    program: &Resolved,
+    depth: u32,
+    state: &mut State<'_>,
+    s: &Statement,
+) -> Result<(), Halt>
     ensures gives { Gives result state.new (statement state.old.base.tid (called program.now state.old.base.tid depth) s.now state.old.state) }
     ensures keeps { Keeps result state.old.base state.new.base }
     ensures fuel { state.new.state.fuel ≤ state.old.state.fuel }
@@ -78,7 +83,7 @@ fn statement(program: &Resolved, depth: u32, state: &mut State, s: &Statement) -
 fn assignment(
     program: &Resolved,
     depth: u32,
-    state: &mut State,
+    state: &mut State<'_>,
     local: u16,
     r: &Right,
 ) -> Result<(), Halt>
@@ -94,7 +99,7 @@ fn assignment(
 
 /// What is assigned to a local.
 #[cycle(run)]
-fn right(program: &Resolved, depth: u32, state: &mut State, r: &Right) -> Result<Value, Halt>
+fn right(program: &Resolved, depth: u32, state: &mut State<'_>, r: &Right) -> Result<Value, Halt>
     ensures gives { Gives result state.new (right state.old.base.tid (called program.now state.old.base.tid depth) r.now state.old.state) }
     ensures keeps { Keeps result state.old.base state.new.base }
     ensures fuel { state.new.state.fuel ≤ state.old.state.fuel }
@@ -130,7 +135,7 @@ fn right(program: &Resolved, depth: u32, state: &mut State, r: &Right) -> Result
 
 /// Makes an object of what arguments come to.
 fn making(
-    state: &mut State,
+    state: &mut State<'_>,
     store: u16,
     class: u16,
     site: u16,
@@ -149,7 +154,7 @@ fn making(
 fn choice(
     program: &Resolved,
     depth: u32,
-    state: &mut State,
+    state: &mut State<'_>,
     condition: &Expression,
     body: &Seq<Statement>,
     otherwise: &Seq<Statement>,
@@ -172,7 +177,7 @@ fn choice(
 fn repeat(
     program: &Resolved,
     depth: u32,
-    state: &mut State,
+    state: &mut State<'_>,
     condition: &Expression,
     body: &Seq<Statement>,
 ) -> Result<(), Halt>
@@ -195,7 +200,7 @@ fn repeat(
 fn atomic(
     program: &Resolved,
     depth: u32,
-    state: &mut State,
+    state: &mut State<'_>,
     body: &Seq<Statement>,
     otherwise: &Seq<Statement>,
 ) -> Result<(), Halt>
@@ -232,7 +237,7 @@ fn went_on(outcome: Result<(), Halt>) -> Result<bool, Halt>
 pub(crate) fn called(
     program: &Resolved,
     depth: u32,
-    state: &mut State,
+    state: &mut State<'_>,
     method: u16,
     args: Seq<Value>,
 ) -> Result<Option<Value>, Halt>
@@ -254,7 +259,7 @@ pub(crate) fn called(
 fn entered(
     program: &Resolved,
     depth: u32,
-    state: &mut State,
+    state: &mut State<'_>,
     method: &Method,
     args: Seq<Value>,
 ) -> Result<Option<Value>, Halt>
@@ -274,7 +279,7 @@ fn entered(
 fn body_of(
     program: &Resolved,
     depth: u32,
-    state: &mut State,
+    state: &mut State<'_>,
     method: &Method,
 ) -> Result<Option<Value>, Halt>
     ensures gives { Gives result state.new (body_of state.old.base.tid (called program.now state.old.base.tid depth) method.now state.old.state) }

@@ -64,8 +64,8 @@ fn over_a_copy(alloc: Global, job: &Job) -> Result<Found, NoMemory>
 }
 
 /// What a run came to, from how it ended and the state at its end.
-fn settled(ended: Result<Option<Value>, Halt>, state: State) -> Result<Found, NoMemory>
-    ensures { IfOk result (λ f. Settles ended state f.outcome f.touches f.downs) }
+fn settled(ended: Result<Option<Value>, Halt>, state: State<'_>) -> Result<Found, NoMemory>
+    ensures { IfOk result (λ f. Settles ended state.entry f.outcome f.touches f.downs) }
 {
     let outcome = match ended {
         Ok(value) => {

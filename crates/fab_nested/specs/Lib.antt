@@ -1,3 +1,4 @@
 pub mod Calls
 pub mod Logs
 pub mod Nested
+pub mod Overlay
