@@ -124,6 +124,7 @@ module _ (program : Resolved) (tid : Tid) where
     same = λ t. record { grown = same_map t.heap.rows };
     then_on = λ t u v g h. record { grown = grown_on t.heap.rows u.heap.rows v.heap.rows g.grown h.grown };
     of_number = λ t w v e. number_leads_nowhere _ w v e;
+    operated = λ t k l a b v i h g. number_leads_nowhere _ i.width v i.is_one;
     of_null = λ t. tt;
     still = λ t u k v g h. there_still t.heap.rows u.heap.rows v g.grown h;
     fitted = λ t taker k v m h. h;

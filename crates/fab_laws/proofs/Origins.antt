@@ -189,6 +189,7 @@ module _ (known : FlatMap) (args : List Value) where
       same = λ t. same t t refl refl;
       then_on = then_on;
       of_number = λ t w v e. number_leads_nowhere _ w v e;
+      operated = λ t k l a b v i h g. number_leads_nowhere _ i.width v i.is_one;
       of_null = λ t. tt;
       still = λ t u k v g h. still t u v g h;
       fitted = λ t taker k v m h. h;

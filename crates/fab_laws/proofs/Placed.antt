@@ -116,6 +116,7 @@ module _ (p : Oid → Bool) where
       same = λ t. tt;
       then_on = λ t u v g h. tt;
       of_number = λ t w v e. number_leads_nowhere _ w v e;
+      operated = λ t k l a b v i h g. number_leads_nowhere _ i.width v i.is_one;
       of_null = λ t. tt;
       still = λ t u k v g h. h;
       fitted = λ t taker k v m h. h;

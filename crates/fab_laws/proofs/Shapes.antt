@@ -25,7 +25,7 @@ use Rattle.fab_language.specs.declared.ending.Ending.TheVariants.{Ended, Failed,
 use Rattle.fab_language.specs.Heaps.{Heap}
 use Rattle.fab_language.specs.Meaning.{State, failed, stopped, missing, Run, field_of, with_field, next_name, default, locals_at_start, requested, meant_by, meaning, state_at_start}
 use Rattle.fab_language.specs.Evaluation.{tid_of, meant, if_ended, map_behind, in_turn}
-use Rattle.fab_laws.specs.Kinds.{Kind, number, object, nothing, unknown, takes, kind_of_sort, kind_at, class_kinds, field_kind, local_kinds, parameter_kinds, result_kind, Claim, method_claims, claims_of}
+use Rattle.fab_laws.specs.Kinds.{Kind, number, object, nothing, unknown, takes, joined, kind_of_sort, kind_at, class_kinds, field_kind, local_kinds, parameter_kinds, result_kind, Claim, method_claims, claims_of}
 use Rattle.fab_laws.specs.Shapes.{suits, AllSuit, IsShaped, AreShaped, is_met, is_fitting, IsFitting, KeepsShape}
 use Rattle.fab_laws.proofs.Walk as w
 use Rattle.fab_laws.proofs.Walk.{claims_at, Result, on, off, Finds, made_one, touched_one, Replaces, again, fresh}
@@ -89,6 +89,16 @@ taken nothing (object y) v h p = absurd (true≢false (sym h))
 taken nothing nothing v h p = p
 taken nothing unknown v h p = absurd (true≢false (sym h))
 taken unknown k v h p = absurd (true≢false (sym h))
+
+-- what an operator makes of values of two kinds is of the kind that it gives
+joined_suits : (k l : Kind) (a b v : Value) → w.IsJoined a b v → suits k a ≡ true → suits l b ≡ true → suits (joined k l) v ≡ true
+joined_suits (number widths.Int) (number widths.Int) a b v i p q = i.as_both widths.Int p q
+joined_suits (number x) (object y) a b v i p q = refl
+joined_suits (number x) nothing a b v i p q = refl
+joined_suits (number x) unknown a b v i p q = refl
+joined_suits (object x) l a b v i p q = refl
+joined_suits nothing l a b v i p q = refl
+joined_suits unknown l a b v i p q = refl
 
 -- ---- objects
 
@@ -179,6 +189,7 @@ module _ (program : Resolved) (tid : Tid) where
     same = λ t. tt;
     then_on = λ t u v g h. tt;
     of_number = λ t w v e. e;
+    operated = λ t k l a b v i p q. joined_suits k l a b v i p q;
     of_null = λ t. refl;
     still = λ t u k v g h. h;
     fitted = λ t taker k v m h. taken taker k v m h;
