@@ -22,6 +22,7 @@ use Rattle.fab_language.specs.Meaning.{State, failed, stopped, missing, Run, wit
 use Rattle.fab_language.specs.Evaluation.{tid_of, meant, if_ended, map_behind, in_turn}
 use Rattle.fab_laws.specs.Kinds.{Kind, Claim, parameter_kinds}
 use Rattle.fab_laws.specs.Closed.{HasOne, IsThere, AreThere, IsClosed, IsFound, IsClosedBehind}
+use Rattle.fab_laws.proofs.Maps.{put_keeps}
 use Rattle.fab_laws.proofs.Values.{at_place, all_set, all_at_start, all_more, number_leads_nowhere}
 use Rattle.fab_laws.proofs.Walk as w
 use Rattle.fab_laws.proofs.Walk.{Result, on, off, Finds, made_one, touched_one, Replaces, again, fresh}
@@ -47,24 +48,17 @@ same_map m = record { still = λ o x e. (x, e) }
 grown_on : (m n k : FlatMap) → Grown m n → Grown n k → Grown m k
 grown_on m n k g h = record { still = λ o x e. let t = g.still o x e in h.still o t.0 t.1 }
 
-put_grown : (o : Oid) (y : Object) (m : FlatMap) → Grown m (put o y m)
+pub put_grown : (o : Oid) (y : Object) (m : FlatMap) → Grown m (put o y m)
 put_grown o y m = record { still = λ p x e. at p x e (is_same o p) refl }
   where
     at : (p : Oid) (x : Object) → get m p ≡ Some x → (b : Bool) → is_same o p ≡ b → HasOne (put o y m) p
     at p x e true i = (y, ap (get (put o y m)) (sym (one_name o p i)) ∙ get-put_same o y m)
     at p x e false i = (x, get-put_other o p y m i ∙ e)
 
-some_one : {A : Type 0} (x y : A) → Some x ≡ Some y → x ≡ y
-some_one x y h = cc
-
 put_closed : (o : Oid) (y : Object) (m : FlatMap) → IsClosed m → AreThere m y.fields → IsClosed (put o y m)
-put_closed o y m c h p z e = at (is_same o p) refl
-  where
-    at : (b : Bool) → is_same o p ≡ b → AreThere (put o y m) z.fields
-    at true i =
-        let f : y ≡ z = some_one y z (sym (ap (get (put o y m)) (sym (one_name o p i)) ∙ get-put_same o y m) ∙ e) in
-        subst (λ x. AreThere (put o y m) x.fields) f (all_still m (put o y m) y.fields (put_grown o y m) h)
-    at false i = all_still m (put o y m) z.fields (put_grown o y m) (c p z (sym (get-put_other o p y m i) ∙ e))
+put_closed o y m c h =
+    let still : (x : Object) → AreThere m x.fields → AreThere (put o y m) x.fields = λ x. all_still m (put o y m) x.fields (put_grown o y m) in
+    put_keeps (λ p x. AreThere (put o y m) x.fields) o y m (λ p x e. still x (c p x e)) (still y h)
 
 -- what holds along a run
 pub record Good (ls : List Kind) (t : State) : Type 0 where

@@ -8,6 +8,7 @@ pub mod Fuel
 pub mod Grows
 pub mod Kept
 pub mod Locality
+pub mod Maps
 pub mod Names
 pub mod Origins
 pub mod Placed

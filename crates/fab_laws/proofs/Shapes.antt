@@ -10,9 +10,7 @@ use Rattle.fab_base.specs.declared.object.Tid.{Tid}
 use Rattle.fab_base.specs.declared.object.Value.{Value}
 use Rattle.fab_base.specs.declared.object.Value.TheVariants.{Int, Null, Ref}
 use Rattle.fab_base.specs.declared.object.Width.TheVariants as widths
-use Rattle.fab_base.specs.FlatMap.{FlatMap, get, put, is_same}
-use Rattle.fab_base.proofs.NameOrder.{one_name}
-use Rattle.fab_map.proofs.Rows.{get-put_same, get-put_other}
+use Rattle.fab_base.specs.FlatMap.{FlatMap, get, put}
 use Rattle.fab_tree.specs.declared.resolved.Class.{Class}
 use Rattle.fab_tree.specs.declared.resolved.Sort.{Sort}
 use Rattle.fab_tree.specs.declared.resolved.Sort.TheVariants as sorts
@@ -27,6 +25,7 @@ use Rattle.fab_language.specs.Meaning.{State, failed, stopped, missing, Run, fie
 use Rattle.fab_language.specs.Evaluation.{tid_of, meant, if_ended, map_behind, in_turn}
 use Rattle.fab_laws.specs.Kinds.{Kind, number, object, nothing, unknown, takes, joined, kind_of_sort, kind_at, class_kinds, field_kind, local_kinds, parameter_kinds, result_kind, Claim, method_claims, claims_of}
 use Rattle.fab_laws.specs.Shapes.{suits, AllSuit, IsShaped, AreShaped, is_met, is_fitting, IsFitting, KeepsShape}
+use Rattle.fab_laws.proofs.Maps.{put_keeps}
 use Rattle.fab_laws.proofs.Walk as w
 use Rattle.fab_laws.proofs.Walk.{claims_at, Result, on, off, Finds, made_one, touched_one, Replaces, again, fresh}
 
@@ -103,16 +102,7 @@ joined_suits unknown l a b v i p q = refl
 -- ---- objects
 
 pub put_shaped : (classes : List Class) (o : Oid) (y : Object) (m : FlatMap) → AreShaped classes m → IsShaped classes o y → AreShaped classes (put o y m)
-put_shaped classes o y m a i p z e = by_same (is_same o p) refl
-  where
-    one : (x : Object) → Some x ≡ Some z → x ≡ z
-    one x h = cc
-
-    by_same : (b : Bool) → is_same o p ≡ b → IsShaped classes p z
-    by_same true j =
-        let f : y ≡ z = one y (sym (ap (get (put o y m)) (sym (one_name o p j)) ∙ get-put_same o y m) ∙ e) in
-        subst (λ x. IsShaped classes p x) f (subst (λ q. IsShaped classes q y) (one_name o p j) i)
-    by_same false j = a p z (sym (get-put_other o p y m j) ∙ e)
+put_shaped classes o y m a i = put_keeps (IsShaped classes) o y m a i
 
 -- a field of an object that is had as one of a kind
 pub field_suits : (classes : List Class) (k : Kind) (field : ℕ) (o : Oid) (x : Object) → suits k (Ref o) ≡ true → IsShaped classes o x → suits (field_kind classes k field) (field_of field x) ≡ true

@@ -5,6 +5,7 @@
 use Rattle.std.proofs.Common.{◌≡◌, ℕ, zero, suc, ◌-◌, List, [], ◌∷◌, ◌++◌, length, Option, Some, None, ℤ, Bool, true, false, ◌==◌, cond, if◌then◌else◌, map, refl, sym, ap, subst, arith}
 use Rattle.std.specs.Prelude.{slice_get, slice_set, unwrap_or}
 use Rattle.std.specs.List.{AllByRecursion, flat_map}
+use Rattle.fab_base.proofs.Lists.{all_split}
 use Rattle.fab_base.specs.declared.object.Oid.{Oid}
 use Rattle.fab_base.specs.declared.object.Object.{Object}
 use Rattle.fab_base.specs.declared.object.Tid.{Tid}
@@ -40,19 +41,14 @@ use Rattle.fab_laws.proofs.Values.{all_any}
 use Rattle.fab_base.specs.Values.{is_number_of}
 use Rattle.fab_tree.specs.Numbers.{width_of, number_value}
 
--- each claim of both lists
-all_parts : {A : Type 0} (P : A → Type 0) (xs ys : List A) → AllByRecursion P (xs ++ ys) → AllByRecursion P xs × AllByRecursion P ys
-all_parts P [] ys h = (tt, h)
-all_parts P (x ∷ xs) ys h = let t = all_parts P xs ys h.1 in ((h.0, t.0), t.1)
-
 -- each claim of a method of a program
 pub claims_at : (P : Claim → Type 0) (g : Method → List Claim) (ms : List Method) (i : ℕ) (m : Method) → AllByRecursion P (flat_map g ms) → slice_get ms i ≡ Some m → AllByRecursion P (g m)
 claims_at P g [] i m h e = cc
 claims_at P g (x ∷ ms) zero m h e =
-    let p = all_parts P (g x) (flat_map g ms) h in
+    let p = all_split P (g x) (flat_map g ms) h in
     let q : x ≡ m = cc in
     subst (λ y. AllByRecursion P (g y)) q p.0
-claims_at P g (x ∷ ms) (suc i) m h e = claims_at P g ms i m (all_parts P (g x) (flat_map g ms) h).1 e
+claims_at P g (x ∷ ms) (suc i) m h e = claims_at P g ms i m (all_split P (g x) (flat_map g ms) h).1 e
 
 -- where nothing is asked of claims
 pub unasked : (program : Resolved) (m : Method) → AllByRecursion (λ (c : Claim). Unit {0}) (method_claims program.classes program.methods m)
@@ -499,7 +495,7 @@ module _ (program : Resolved) (tid : Tid) (Holds : List Kind → State → Type 
 
       each : (ks : List Known) → AllMet (all_of program.classes program.methods ls (map claims (map (λ (k : Known). k.0) ks))) → Each (map (statement tid call) (map (λ (k : Known). k.0) ks))
       each [] c = tt
-      each (k ∷ ks) c = let p = all_parts Meets (claims k.0) (all_of program.classes program.methods ls (map claims (map (λ (j : Known). j.0) ks))) c in (k.1.goes p.0, each ks p.1)
+      each (k ∷ ks) c = let p = all_split Meets (claims k.0) (all_of program.classes program.methods ls (map claims (map (λ (j : Known). j.0) ks))) c in (k.1.goes p.0, each ks p.1)
 
       abbrev parts : s.Statement-F Known → s.Statement-F Statement
       parts y = map-Statement Known Statement (λ k. k.0) y
@@ -517,11 +513,11 @@ module _ (program : Resolved) (tid : Tid) (Holds : List Kind → State → Type 
       })
       layer (s.Call m args) c = paid _ (record { by = λ t h. run_call Any m.number args t (λ r. gives tt) c h (λ r u o i. done ls u Any tt o tt) })
       layer (s.If e a b) c =
-          let p = all_parts Meets (all_of program.classes program.methods ls (map claims (map (λ (k : Known). k.0) a))) (all_of program.classes program.methods ls (map claims (map (λ (k : Known). k.0) b))) c in
+          let p = all_split Meets (all_of program.classes program.methods ls (map claims (map (λ (k : Known). k.0) a))) (all_of program.classes program.methods ls (map claims (map (λ (k : Known). k.0) b))) c in
           paid _ (record { by = λ t h. run_value Any e t _ h (λ v u o i. (choice (holds v) _ _ (orders _ (each a p.0)) (orders _ (each b p.1))).by u o) })
       layer (s.While e a) c = record { by = λ t h. (all_turns t.fuel e _ (orders _ (each a c))).by t h }
       layer (s.Atomic label a b at) c =
-          let p = all_parts Meets (all_of program.classes program.methods ls (map claims (map (λ (k : Known). k.0) a))) (all_of program.classes program.methods ls (map claims (map (λ (k : Known). k.0) b))) c in
+          let p = all_split Meets (all_of program.classes program.methods ls (map claims (map (λ (k : Known). k.0) a))) (all_of program.classes program.methods ls (map claims (map (λ (k : Known). k.0) b))) c in
           paid _ (atomics _ _ (orders _ (each a p.0)) (orders _ (each b p.1)))
       layer (s.Fail at) c = paid _ (record { by = λ t h. over ls t Any failed h tt })
 
@@ -534,7 +530,7 @@ module _ (program : Resolved) (tid : Tid) (Holds : List Kind → State → Type 
       pub blocks : (xs : List Statement) → AllMet (block_claims program.classes program.methods ls xs) → Goes (block tid call xs)
       blocks [] c = orders [] tt
       blocks (x ∷ xs) c =
-          let p = all_parts Meets (claims x) (block_claims program.classes program.methods ls xs) c in
+          let p = all_split Meets (claims x) (block_claims program.classes program.methods ls xs) c in
           record { by = λ t h. run_then ls t Any Any (statement tid call x t) (λ _. block tid call xs) (((statements x).goes p.0).by t h) (λ a u n q. (blocks xs p.1).by u n.holds) }
 
       pub all_returned : (r : Option Return) (t : State) → Holds ls t → Result ls t (λ u v. Has u (returned_kind program.classes program.methods ls r) (unwrap_or v Null)) (returned r t)

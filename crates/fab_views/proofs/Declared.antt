@@ -3,7 +3,7 @@ use Rattle.std.proofs.Common.{◌≡◌, ℕ, suc, ◌<◌, List, [], ◌∷◌,
 use Rattle.std.specs.Prelude.{slice_get}
 use Rattle.std.specs.List.{AllByRecursion, flat_map}
 use Rattle.std.proofs.lemmas.List.{length-map}
-use Rattle.fab_base.proofs.Lists.{left_nil, right_nil, each_nil, all_split, all_map, at_index}
+use Rattle.fab_base.proofs.Lists.{all_append, left_nil, right_nil, each_nil, all_split, all_map, at_index}
 use Rattle.fab_tree.specs.declared.name.Name.{Name}
 use Rattle.fab_tree.specs.declared.declaration.Class.{Class}
 use Rattle.fab_tree.specs.declared.declaration.Field.{Field}
@@ -35,7 +35,7 @@ use Rattle.fab_language.specs.Numbers.{label_of, class_of, resolved}
 use Rattle.fab_language.proofs.NumberedForms.{statement_numbers}
 use Rattle.fab_language.proofs.Named.{number_below}
 use Rattle.fab_labelling.specs.Obligations.{label_of_returns}
-use Rattle.fab_laws.proofs.Values.{all_joined, all_more}
+use Rattle.fab_laws.proofs.Values.{all_more}
 use Rattle.fab_views.proofs.Labels.{named_by_right, labels_step, labels_in, labels_in_block, AreBelow, IsLabelledLocal, IsLabelledClass, IsLabelledMethod, HasLabels}
 
 module _ (s : Start) where
@@ -96,8 +96,8 @@ module _ (s : Start) where
           let next = (statement_of s locals (statement x) k).1 in
           let here = of_statement x known k hs.0 in
           let rest = block_layer xs (walk (statement x) known).behind next hs.1 in (
-            all_joined (λ p. in_label s p.label ≡ []) (declared_in (statement x)) (declares xs) here.0 rest.0,
-            all_joined (λ l. l < many) (labels_in (statement_of s locals (statement x) k).0) (labels_in_block (made xs next).0) here.1 rest.1,
+            all_append (λ p. in_label s p.label ≡ []) (declared_in (statement x)) (declares xs) here.0 rest.0,
+            all_append (λ l. l < many) (labels_in (statement_of s locals (statement x) k).0) (labels_in_block (made xs next).0) here.1 rest.1,
           )
 
       -- what two blocks declare and name
@@ -107,8 +107,8 @@ module _ (s : Start) where
           let hs = all_split (λ h. in_head s h.0 h.1 ≡ []) (walked xs known).heads (walked ys known).heads r in
           let a = block_layer xs known k hs.0 in
           let b = block_layer ys known (made xs k).1 hs.1 in (
-            all_joined (λ p. in_label s p.label ≡ []) (declares xs) (declares ys) a.0 b.0,
-            all_joined (λ l. l < many) (labels_in_block (made xs k).0) (labels_in_block (made ys (made xs k).1).0) a.1 b.1,
+            all_append (λ p. in_label s p.label ≡ []) (declares xs) (declares ys) a.0 b.0,
+            all_append (λ l. l < many) (labels_in_block (made xs k).0) (labels_in_block (made ys (made xs k).1).0) a.1 b.1,
           )
 
       abbrev walk_layer : o.Statement-F S → Walk
@@ -140,7 +140,7 @@ module _ (s : Start) where
           let b = made xs c.1 in
           let hs = all_split (λ h. in_head s h.0 h.1 ≡ []) (walked xs known).heads [] r.1 in
           let t = block_layer xs known c.1 hs.0 in
-          (t.0, below_by (ns.If c.0 b.0 []) (nso.If c.0 b.0 []) (sym (ns.rolls-If c.0 b.0 [])) (all_joined (λ l. l < many) (labels_in_block b.0) [] t.1 tt))
+          (t.0, below_by (ns.If c.0 b.0 []) (nso.If c.0 b.0 []) (sym (ns.rolls-If c.0 b.0 [])) (all_append (λ l. l < many) (labels_in_block b.0) [] t.1 tt))
       statement_layer (o.If e xs (Some ys)) known k r =
           let c = expression_of s locals e k in
           let b = made xs c.1 in
@@ -177,8 +177,8 @@ module _ (s : Start) where
         let next = (statement_of s locals x k).1 in
         let here = statement_names x known k hs.0 in
         let rest = block_names xs (walk x known).behind next hs.1 in (
-          all_joined (λ p. in_label s p.label ≡ []) (declared_in x) (flat_map declared_in xs) here.0 rest.0,
-          all_joined (λ l. l < many) (labels_in (statement_of s locals x k).0) (labels_in_block (block_of s locals xs next).0) here.1 rest.1,
+          all_append (λ p. in_label s p.label ≡ []) (declared_in x) (flat_map declared_in xs) here.0 rest.0,
+          all_append (λ l. l < many) (labels_in (statement_of s locals x k).0) (labels_in_block (block_of s locals xs next).0) here.1 rest.1,
         )
 
   -- ---- methods and classes
@@ -202,7 +202,7 @@ module _ (s : Start) where
       record {
         locals = all_map (IsLabelledLocal many) (numbered_local s) (locals_of m)
             (all_more (λ p. in_label s p.label ≡ []) (λ p. (label_use s p.label).number < many) (locals_of m) (λ p h. label_below p.label h)
-            (all_joined (λ p. in_label s p.label ≡ []) m.parameters (flat_map declared_in m.body) parameters names.0));
+            (all_append (λ p. in_label s p.label ≡ []) m.parameters (flat_map declared_in m.body) parameters names.0));
         returns = returns_below m.returns (right_nil ps rs two);
         begin = label_below m.begin (right_nil (ps ++ rs) (in_label s m.begin) three);
         body = names.1;
