@@ -51,6 +51,7 @@ use Rattle.fab_integrity.proofs.Lasting.{kept_behind}
 use Rattle.fab_integrity.proofs.Lists.{each_of, number_in}
 use Rattle.fab_integrity.proofs.Replays.{ended_is}
 use Rattle.fab_integrity.proofs.Runs.{no_classes}
+use Rattle.fab_integrity.proofs.Roles.{heard_by_store}
 use Rattle.fab_integrity.proofs.Tids.{tid_itself}
 use Rattle.fab_integrity.proofs.Transport.{bytes_for, other_queue, taken_queue}
 use Rattle.fab_integrity.proofs.WorkerSpelling.{prepare_spelled}
@@ -60,7 +61,7 @@ use Rattle.fab_base.specs.FlatMap.{is_same}
 use Rattle.fab_outcomes.proofs.Stored.{IsGood}
 use Rattle.fab_outcomes.proofs.Tidy.{Good, Made, Tidy}
 use Rattle.fab_ended.specs.Silence.{NoneIsHostile}
-use Rattle.fab_ended.proofs.Served.{answers_fit, answers_low, few_asked, missing_name, no_worker, not_store, ok, rows_answer, store_act, store_is, store_node, taking_part, tid_fits, worker_is}
+use Rattle.fab_ended.proofs.Served.{answers_fit, answers_low, few_asked, missing_name, not_store, ok, rows_answer, store_act, store_is, store_node, taking_part, tid_fits, worker_is}
 use Rattle.fab_ended.proofs.Short.{fetch_short, prepare_short, vote_short}
 use Rattle.fab_ended.proofs.Waiting.{read_itself}
 use Rattle.fab_alone.specs.Alone.{HasRights, IsAlone, IsSameOverMore, NoneLacks, first_tid, map_behind, meant_behind}
@@ -644,6 +645,5 @@ module _ (S : Setting) (given : IsSetting S) (law : IsEvaluation S) (honest : No
         stays_so : (message : Option Message) → hears S w x s message ≡ stays (w.node s).attempt
         stays_so None = refl
         stays_so (Some message) =
-            ap (λ b. if b then takes S.rights S.cache s (kept S w s) x message (w.node s).attempt (parts S w s)
-            else of_store S (w.node s).attempt (says S.rights s x message (shelf S w s))) (no_worker S given law honest s store)
+            heard_by_store S given w s x store (Some message)
             ∙ ap (λ b. of_store S (w.node s).attempt (if b && is_own x message then does S.rights s x message (shelf S w s) else silent)) no_work

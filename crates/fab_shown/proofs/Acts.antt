@@ -40,6 +40,7 @@ use Rattle.fab_integrity.proofs.Invariant.{WorkerOk, standing}
 use Rattle.fab_integrity.proofs.Lists.{all_of}
 use Rattle.fab_integrity.proofs.Maps.{all_put}
 use Rattle.fab_integrity.proofs.Readings.{counts_of, spelled_so}
+use Rattle.fab_integrity.proofs.Roles.{heard_by_store, no_worker}
 use Rattle.fab_integrity.proofs.Runs.{no_classes}
 use Rattle.fab_integrity.proofs.Steps.{may_node}
 use Rattle.fab_integrity.proofs.Tids.{tid_spelled}
@@ -100,9 +101,6 @@ module _ (S : Setting) where
   ]
 
   module _ (given : IsSetting S) where
-    pub no_worker : (s : ℕ) → Store S s → is_worker S.rights s ≡ false
-    no_worker s me = false_from_ne_true (is_worker S.rights s) (λ is. both_ways (is_store S.rights s) (given.apart s is) me.kind)
-
     module _ (law : IsEvaluation S) (w : World) (cs : List Commit) (good : Good S w cs) where
       -- ---- a worker
 
@@ -195,14 +193,13 @@ module _ (S : Setting) where
         heard_filed a (Some message) read =
             let counts : KeepsCounts message = counts_of message (spelled_so S given (front_of (w.queue a s)) message read).body in
             let modest = modest_says S.rights s (shelf S w s) shelf_ok.fields a message in
-            subst (λ b. IsFiled s (if b then takes S.rights S.cache s (kept S w s) a message (w.node s).attempt (parts S w s)
-            else of_store S (w.node s).attempt (says S.rights s a message (shelf S w s)))) (sym (no_worker s me))
+            subst (IsFiled s) (sym (heard_by_store S given w s a me.kind (Some message)))
             (record { keeps = λ entry h. says_can_keep S.rights s (shelf S w s) entry a message counts h; sends = modest.sends })
 
         woken_filed : IsFiled s (if is_worker S.rights s then wakes S.rights S.cache s (kept S w s) else of_store S (w.node s).attempt (asks (shelf S w s)))
         woken_filed =
             let modest = modest_asks S.rights s (shelf S w s) shelf_ok.fields in
-            subst (λ b. IsFiled s (if b then wakes S.rights S.cache s (kept S w s) else of_store S (w.node s).attempt (asks (shelf S w s)))) (sym (no_worker s me))
+            subst (λ b. IsFiled s (if b then wakes S.rights S.cache s (kept S w s) else of_store S (w.node s).attempt (asks (shelf S w s)))) (sym (no_worker S given s me.kind))
             (record { keeps = λ entry h. none_kept entry h; sends = modest.sends })
 
       idle_evaluates : (phase : Phase) → phase ≡ workers.Idle → is_evaluating phase ≡ true → ⊥
@@ -212,7 +209,7 @@ module _ (S : Setting) where
       idle_lacks x phase idle h = true≢false (sym h ∙ ap (lacks x) idle)
 
       pub store_filed : (e : Inner) → Store S (node_of e) → IsTrue (may S w e) → IsFiled (node_of e) (act S w e)
-      store_filed (i.Begin n) me can = absurd (both_ways (is_worker S.rights n) (no_worker n me) (and_parts _ _ (and_parts _ _ (and_parts _ _ can).0).0).1)
+      store_filed (i.Begin n) me can = absurd (both_ways (is_worker S.rights n) (no_worker S given n me.kind) (and_parts _ _ (and_parts _ _ (and_parts _ _ can).0).0).1)
       store_filed (i.Resume n) me can = absurd (idle_evaluates (w.node n).attempt.phase (good.idle n me) (and_parts _ _ can).1)
       store_filed (i.Idle n x) me can = absurd (idle_lacks x (w.node n).attempt.phase (good.idle n me) (and_parts _ _ (and_parts _ _ can).0).1)
       store_filed (i.Deliver a n) me can = heard_filed n me a (S.read (front_of (w.queue a n))) refl
