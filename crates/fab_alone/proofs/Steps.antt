@@ -40,6 +40,7 @@ use Rattle.fab_protocol.specs.Tables.{OnlyOnce, row_of}
 use Rattle.fab_protocol.specs.Versions.{Row, Rows, is_tid, maker_of, name_of, names_of, objects_of}
 use Rattle.fab_protocol.proofs.Records.{worker_below}
 use Rattle.fab_protocol.proofs.TableLaws.{row_of_all, row_of_name}
+use Rattle.fab_protocol.proofs.Commits.{tid_itself}
 use Rattle.fab_world.specs.Attempts.{parts_of, value_of}
 use Rattle.fab_world.specs.Machine.{Setting, World, Does, act, front_of, hears, is_empty, kept, lands, may, meant, node_of, of_store, parts, ready, rest_of, shelf, steps}
 use Rattle.fab_world.specs.Serial.{AreFit, IsEvaluation, IsFitName, IsSetting}
@@ -52,7 +53,6 @@ use Rattle.fab_integrity.proofs.Lists.{each_of, number_in}
 use Rattle.fab_integrity.proofs.Replays.{ended_is}
 use Rattle.fab_integrity.proofs.Runs.{no_classes}
 use Rattle.fab_integrity.proofs.Roles.{heard_by_store}
-use Rattle.fab_integrity.proofs.Tids.{tid_itself}
 use Rattle.fab_integrity.proofs.Transport.{bytes_for, other_queue, taken_queue}
 use Rattle.fab_integrity.proofs.WorkerSpelling.{prepare_spelled}
 use Rattle.fab_integrity.proofs.WorkerSteps.{is_evaluating_at, is_idle_at}
