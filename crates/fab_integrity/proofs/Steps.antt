@@ -64,6 +64,17 @@ may_node S w (i.Deliver a b) can = (and_parts _ _ (and_parts _ _ (and_parts _ _ 
 may_node S w (i.Idle n s) can = (and_parts _ _ (and_parts _ _ (and_parts _ _ (and_parts _ _ (and_parts _ _ can).0).0).0).0).0
 may_node S w (i.Recover n) can = (and_parts _ _ (and_parts _ _ (and_parts _ _ can).0).0).0
 
+-- and of a node alone that isn't hostile
+pub running_honest : (S : Setting) (w : World) (n : ℕ) → IsTrue (is_running S w n) → S.hostile n ≡ false
+running_honest S w n h = not-true (S.hostile n) (and_parts _ _ (and_parts _ _ h).0).1
+
+pub may_honest : (S : Setting) (w : World) (e : Inner) → IsTrue (may S w e) → S.hostile (node_of e) ≡ false
+may_honest S w (i.Begin n) can = running_honest S w n (and_parts _ _ (and_parts _ _ (and_parts _ _ can).0).0).0
+may_honest S w (i.Resume n) can = running_honest S w n (and_parts _ _ can).0
+may_honest S w (i.Deliver a b) can = running_honest S w b (and_parts _ _ (and_parts _ _ can).0).0
+may_honest S w (i.Idle n s) can = running_honest S w n (and_parts _ _ (and_parts _ _ (and_parts _ _ can).0).0).0
+may_honest S w (i.Recover n) can = not-true (S.hostile n) (and_parts _ _ (and_parts _ _ (and_parts _ _ can).0).0).1
+
 -- ---- what an event's act decides is its node's, and but for a restart a worker sends no Boot
 
 module _ (S : Setting) where

@@ -15,6 +15,7 @@ use Rattle.fab_net.specs.declared.event.Inner.{Inner}
 use Rattle.fab_net.specs.declared.event.Inner.TheVariants as i
 use Rattle.fab_world.specs.Machine.{Setting, World, Move, Form, Does, Cuts, Fails, Posts, Crashes, Never, with_at, form_of, ready, posted, steps, step, enabled, are_enabled, runs, at_start, is_empty}
 use Rattle.fab_settings.specs.Settings.{posts_of, setting_of}
+use Rattle.fab_integrity.proofs.Changes.{ready_posts}
 use Rattle.fab_integrity.proofs.Roles.{node_below}
 use Rattle.fab_release.specs.Isolation.{posts_at}
 use Rattle.fab_isolation.specs.Law.{BundlesPostFew}
@@ -57,20 +58,13 @@ module _ (S : Setting) (below : (n : ℕ) → is_node S.rights n ≡ true → n 
   abbrev left : World → ℕ
   left v = left_below v.posts 64
 
-  ready_posts : (v : World) (e : Inner) → (ready S v e).posts ≡ v.posts
-  ready_posts v (i.Begin n) = refl
-  ready_posts v (i.Resume n) = refl
-  ready_posts v (i.Deliver a b) = refl
-  ready_posts v (i.Idle n s) = refl
-  ready_posts v (i.Recover n) = refl
-
   posted_one : (v : World) (h : ℕ) → h < 64 → (posts : List (ℕ × List ℕ)) → v.posts h ≡ posts → not (is_empty posts) ≡ true → suc (left (posted S v h posts)) ≡ left v
   posted_one v h low [] e some = absurd (false≢true some)
   posted_one v h low (post ∷ more) e some = one_less v.posts h post more e 64 low
 
   step_left : (v : World) (form : Form) → IsTrue (enabled S v form) → left (steps S v form) + posts_at form ≡ left v
-  step_left v (Does e) can = let h = ap (λ (f : ℕ → List (ℕ × List ℕ)). left_below f 64) (ready_posts v e) in omega (arith, h)
-  step_left v (Cuts keep e) can = let h = ap (λ (f : ℕ → List (ℕ × List ℕ)). left_below f 64) (ready_posts v e) in omega (arith, h)
+  step_left v (Does e) can = let h = ap (λ (f : ℕ → List (ℕ × List ℕ)). left_below f 64) (ready_posts S v e) in omega (arith, h)
+  step_left v (Cuts keep e) can = let h = ap (λ (f : ℕ → List (ℕ × List ℕ)). left_below f 64) (ready_posts S v e) in omega (arith, h)
   step_left v (Fails keep e) can = omega arith
   step_left v (Posts h) can =
       let p = and_parts (is_node S.rights h && S.hostile h) (not (is_empty (v.posts h))) can in

@@ -42,7 +42,7 @@ use Rattle.fab_integrity.proofs.Maps.{all_put}
 use Rattle.fab_integrity.proofs.Readings.{counts_of, spelled_so}
 use Rattle.fab_integrity.proofs.Roles.{heard_by_store, no_worker}
 use Rattle.fab_integrity.proofs.Runs.{no_classes}
-use Rattle.fab_integrity.proofs.Steps.{may_node}
+use Rattle.fab_integrity.proofs.Steps.{may_node, may_honest}
 use Rattle.fab_integrity.proofs.Tids.{tid_spelled}
 use Rattle.fab_integrity.proofs.WorkerSpelling.{ArePlain, parts_plain, prepare_spelled}
 use Rattle.fab_outcomes.proofs.Tidy.{Good, Store, Worker}
@@ -82,22 +82,11 @@ few_stores p plain =
 -- ---- kinds of nodes
 
 module _ (S : Setting) where
-  running_honest : (w : World) (n : ℕ) → is_running S w n ≡ true → S.hostile n ≡ false
-  running_honest w n h = not-true (S.hostile n) (and_parts _ _ (and_parts _ _ h).0).1
-
-  -- an event may come of a node alone that isn't hostile
-  pub may_honest : (w : World) (e : Inner) → may S w e ≡ true → S.hostile (node_of e) ≡ false
-  may_honest w (i.Begin n) h = running_honest w n (and_parts _ _ (and_parts _ _ (and_parts _ _ h).0).0).0
-  may_honest w (i.Resume n) h = running_honest w n (and_parts _ _ h).0
-  may_honest w (i.Deliver a b) h = running_honest w b (and_parts _ _ (and_parts _ _ h).0).0
-  may_honest w (i.Idle n s) h = running_honest w n (and_parts _ _ (and_parts _ _ (and_parts _ _ h).0).0).0
-  may_honest w (i.Recover n) h = not-true (S.hostile n) (and_parts _ _ (and_parts _ _ (and_parts _ _ h).0).0).1
-
-  -- it is of a worker or of a store
+  -- an event that may come is of a worker or of a store
   pub kind_of : (w : World) (e : Inner) → IsTrue (may S w e) → Worker S (node_of e) ⊎ Store S (node_of e)
   kind_of w e can = elim (or_cases (is_worker S.rights (node_of e)) (is_store S.rights (node_of e)) (may_node S w e can)) [
-    | inl worker ↦ inl (record { kind = worker; outside = may_honest w e can })
-    | inr store ↦ inr (record { kind = store; outside = may_honest w e can })
+    | inl worker ↦ inl (record { kind = worker; outside = may_honest S w e can })
+    | inr store ↦ inr (record { kind = store; outside = may_honest S w e can })
   ]
 
   module _ (given : IsSetting S) where
