@@ -3,7 +3,7 @@ use Rattle.std.proofs.Common.{ℕ, List, [], ◌∷◌, ◌++◌, map, length, O
 use Rattle.std.specs.Prelude.{slice_get}
 use Rattle.std.specs.List.{AllByRecursion, flat_map}
 use Rattle.std.proofs.lemmas.List.Elements.{recursion_from_All}
-use Rattle.fab_base.proofs.Lists.{all_append, all_split, all_flat}
+use Rattle.fab_base.proofs.Lists.{all_append, all_split, all_flat, all_along}
 use Rattle.fab_tree.specs.declared.resolved.Right.{Right}
 use Rattle.fab_tree.specs.declared.resolved.Right.TheVariants as rights
 use Rattle.fab_tree.specs.declared.resolved.Statement.{Statement, ind-Statement, roll-Statement, fold-roll-Statement, map-Statement}
@@ -16,7 +16,6 @@ use Rattle.fab_labelling.specs.declared.rule.LabelRule.TheVariants.{Write, Atomi
 use Rattle.fab_labelling.specs.Obligations.{Owed, part, under, all_flow, to_each, label_of_local, right_labels, right_owes, Owes, in_order, statement_step, statement_owes, block_owes, return_owes, failure_of, authority_of, method_owes, root_owes, session_owes, owed}
 use Rattle.fab_labelling.specs.Claims.{Holds, IsWellLabelled}
 use Rattle.fab_laws.specs.Kinds.{Kind, parameter_kinds, class_kinds, local_kinds, Claim, each_given, kind_of, right_claims, all_of, statement_claims_step, statement_claims, block_claims, method_claims, claims_of}
-use Rattle.fab_laws.proofs.Values.{all_more}
 use Rattle.fab_shapes.proofs.Lists.{in_each}
 use Rattle.fab_held.specs.Held.{IsHeld, MakesHeld}
 
@@ -132,7 +131,7 @@ module _ (r : Resolved) where
     pub all_made : AllMade (claims_of r)
     all_made =
         all_flat (MakesHeld r) (method_claims r.classes r.methods) r.methods
-        (all_more (λ m. AllKept (method_owes r.classes r.methods m)) (λ m. AllMade (method_claims r.classes r.methods m)) r.methods method_made
+        (all_along (λ m. AllKept (method_owes r.classes r.methods m)) (λ m. AllMade (method_claims r.classes r.methods m)) method_made r.methods
         (in_each Kept (method_owes r.classes r.methods) r.methods methods_and_roots.0))
 
     each_root : (xs : List Root) → AllKept (map root_owes xs) → AllByRecursion (λ x. IsHeld r x.oid) xs

@@ -22,10 +22,10 @@ use Rattle.fab_laws.specs.Kinds.{Claim, given, counted, made, claims_of}
 use Rattle.fab_laws.specs.Origins.{Passes, MakesPassing, OnlyPassing}
 use Rattle.fab_laws.proofs.Changes.{leaves}
 use Rattle.fab_laws.proofs.Placed.{meant_passes}
-use Rattle.fab_laws.proofs.Values.{all_more}
 use Rattle.fab_held.specs.Held.{IsHeld, RefersToHeld, AllHeld, HasOnlyHeld, MakesHeld, OnlyHeld}
 use Rattle.fab_held.proofs.Made.{all_made}
 use Rattle.fab_base.specs.Values.{referred}
+use Rattle.fab_base.proofs.Lists.{all_along}
 use Rattle.std.specs.Prelude.{IfSome}
 
 module _ (r : Resolved) where
@@ -68,9 +68,9 @@ module _ (r : Resolved) where
     pub meant_held : (known : FlatMap) (request : Request) (tid : Tid) (fuel : ℕ) → AllHeld r request.args → HasOnlyHeld r known → OnlyHeld r (meaning r known request tid fuel)
     meant_held known request tid fuel args h =
         let p : OnlyPassing is_held (meaning r known request tid fuel) =
-        meant_passes is_held r tid (all_more (MakesHeld r) (MakesPassing is_held tid) (claims_of r) (making tid) (all_made r well)) known request fuel
-        (all_more (RefersToHeld r) (Passes is_held) request.args passing args)
-        (λ o x e. all_more (RefersToHeld r) (Passes is_held) x.fields passing (h.references o x e)) in
+        meant_passes is_held r tid (all_along (MakesHeld r) (MakesPassing is_held tid) (making tid) (claims_of r) (all_made r well)) known request fuel
+        (all_along (RefersToHeld r) (Passes is_held) passing request.args args)
+        (λ o x e. all_along (RefersToHeld r) (Passes is_held) passing x.fields (h.references o x e)) in
         record {
           touched = λ o e. is_so o (p.touched o e);
           written = λ o e. is_so o (p.written o e);
@@ -78,7 +78,7 @@ module _ (r : Resolved) where
           missing = λ site o e. is_so o (p.missing site o e);
           objects = record {
             names = name_behind known (meaning r known request tid fuel) h (leaves known r tid request fuel).changes p;
-            references = λ o x e. all_more (Passes is_held) (RefersToHeld r) x.fields from_passing (p.objects o x e);
+            references = λ o x e. all_along (Passes is_held) (RefersToHeld r) from_passing x.fields (p.objects o x e);
           };
           result = λ v e. from_passing v (p.result v e);
         }

@@ -23,10 +23,11 @@ use Rattle.fab_language.specs.Evaluation.{tid_of, meant, if_ended, map_behind, i
 use Rattle.fab_laws.specs.Kinds.{Kind, Claim, parameter_kinds}
 use Rattle.fab_laws.specs.Closed.{HasOne, IsThere, AreThere, IsClosed, IsFound, IsClosedBehind}
 use Rattle.fab_laws.proofs.Maps.{put_keeps}
-use Rattle.fab_laws.proofs.Values.{at_place, all_set, all_at_start, all_more, number_leads_nowhere}
+use Rattle.fab_laws.proofs.Values.{at_place, all_set, all_at_start, number_leads_nowhere}
 use Rattle.fab_laws.proofs.Walk as w
 use Rattle.fab_laws.proofs.Walk.{Result, on, off, Finds, made_one, touched_one, Replaces, again, fresh}
 use Rattle.fab_base.specs.Values.{referred}
+use Rattle.fab_base.proofs.Lists.{all_along}
 
 -- each object of the one map has its name in the other
 pub record Grown (m n : FlatMap) : Type 0 where
@@ -40,7 +41,7 @@ there_still m n v g = by (referred v)
     by (Some o) h = g.still o h.0 h.1
 
 all_still : (m n : FlatMap) (vs : List Value) → Grown m n → AreThere m vs → AreThere n vs
-all_still m n vs g h = all_more (IsThere m) (IsThere n) vs (λ v p. there_still m n v g p) h
+all_still m n vs g h = all_along (IsThere m) (IsThere n) (λ v p. there_still m n v g p) vs h
 
 same_map : (m : FlatMap) → Grown m m
 same_map m = record { still = λ o x e. (x, e) }
@@ -180,7 +181,7 @@ module _ (program : Resolved) (tid : Tid) where
 -- ---- requests one after the other
 
 args_still : (m n : FlatMap) (requests : List Request) → Grown m n → AllByRecursion (λ r. AreThere m r.args) requests → AllByRecursion (λ r. AreThere n r.args) requests
-args_still m n requests g h = all_more (λ r. AreThere m r.args) (λ r. AreThere n r.args) requests (λ r p. all_still m n r.args g p) h
+args_still m n requests g h = all_along (λ r. AreThere m r.args) (λ r. AreThere n r.args) (λ r p. all_still m n r.args g p) requests h
 
 module _ (program : Resolved) where
   behind_ending : (e : Ending) (m n : FlatMap) → IsClosed m → IsClosed n → Grown n m → IsClosed (if_ended e m n) × Grown n (if_ended e m n)

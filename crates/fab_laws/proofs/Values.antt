@@ -37,10 +37,6 @@ pub all_map : {A B : Type 0} (P : B → Type 0) (g : A → B) (xs : List A) → 
 all_map P g [] h = tt
 all_map P g (x ∷ xs) h = (h x, all_map P g xs h)
 
-pub all_more : {A : Type 0} (P Q : A → Type 0) (xs : List A) → ((x : A) → P x → Q x) → AllByRecursion P xs → AllByRecursion Q xs
-all_more P Q [] f h = tt
-all_more P Q (x ∷ xs) f h = (f x h.0, all_more P Q xs f h.1)
-
 -- what nothing is asked of
 pub all_any : {A : Type 0} (xs : List A) → AllByRecursion (λ x. Unit {0}) xs
 all_any [] = tt

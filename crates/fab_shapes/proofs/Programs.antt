@@ -2,7 +2,7 @@
 use Rattle.std.proofs.Common.{◌≡◌, ℕ, true, List, [], ◌∷◌, option_map, Option, Some, None, refl}
 use Rattle.std.specs.List.{AllByRecursion, flat_map}
 use Rattle.std.proofs.lemmas.Bool.{false≢true}
-use Rattle.fab_base.proofs.Lists.{all_append, left_nil, right_nil, all_split}
+use Rattle.fab_base.proofs.Lists.{all_append, left_nil, right_nil, all_split, all_along}
 use Rattle.fab_tree.specs.declared.program.Parameter.{Parameter}
 use Rattle.fab_tree.specs.declared.program.Returns.{Returns}
 use Rattle.fab_tree.specs.declared.program.Return.{Return}
@@ -20,7 +20,6 @@ use Rattle.fab_language.specs.MethodNumbers.{block_of, result_of, returns_of, me
 use Rattle.fab_language.specs.Numbers.{resolved}
 use Rattle.fab_laws.specs.Kinds as n
 use Rattle.fab_laws.specs.Shapes.{is_met, is_fitting}
-use Rattle.fab_laws.proofs.Values.{all_more}
 use Rattle.fab_shapes.proofs.Agreement.{sort_holds}
 use Rattle.fab_shapes.proofs.Faultless.{IsRightMethod, IsFaultless, faultless}
 use Rattle.fab_shapes.proofs.Lists.{from_two, all_pass}
@@ -64,7 +63,7 @@ module _ (s : Start) (classes : AllByRecursion (IsDeclared s) s.program.classes)
 
 -- the methods of a bundle that breaks no rule have headings whose types are declared
 pub headings_of : (s : Start) → IsFaultless s → AllByRecursion (HasHeading s) s.program.methods
-headings_of s right = all_more (IsRightMethod s) (HasHeading s) s.program.methods (λ m h. h.heading) right.methods
+headings_of s right = all_along (IsRightMethod s) (HasHeading s) (λ m h. h.heading) s.program.methods right.methods
 
 pub program_fits : (s : Start) → faults s ≡ [] → is_fitting (resolved s) ≡ true
 program_fits s e =

@@ -3,7 +3,7 @@ use Rattle.std.proofs.Common.{◌≡◌, ℕ, suc, ◌<◌, List, [], ◌∷◌,
 use Rattle.std.specs.Prelude.{slice_get}
 use Rattle.std.specs.List.{AllByRecursion, flat_map}
 use Rattle.std.proofs.lemmas.List.{length-map}
-use Rattle.fab_base.proofs.Lists.{all_append, left_nil, right_nil, each_nil, all_split, all_map, at_index}
+use Rattle.fab_base.proofs.Lists.{all_append, left_nil, right_nil, each_nil, all_split, all_map, at_index, all_along}
 use Rattle.fab_tree.specs.declared.name.Name.{Name}
 use Rattle.fab_tree.specs.declared.declaration.Class.{Class}
 use Rattle.fab_tree.specs.declared.declaration.Field.{Field}
@@ -35,7 +35,6 @@ use Rattle.fab_language.specs.Numbers.{label_of, class_of, resolved}
 use Rattle.fab_language.proofs.NumberedForms.{statement_numbers}
 use Rattle.fab_language.proofs.Named.{number_below}
 use Rattle.fab_labelling.specs.Obligations.{label_of_returns}
-use Rattle.fab_laws.proofs.Values.{all_more}
 use Rattle.fab_views.proofs.Labels.{named_by_right, labels_step, labels_in, labels_in_block, AreBelow, IsLabelledLocal, IsLabelledClass, IsLabelledMethod, HasLabels}
 
 module _ (s : Start) where
@@ -198,10 +197,10 @@ module _ (s : Start) where
       let body = heads_in m.body m.parameters in
       let heads = all_split (λ h. in_head s h.0 h.1 ≡ []) body.heads (result_heads m.result body.behind) (each_nil (λ (h : Locals × Head). in_head s h.0 h.1) (heads_of m) (right_nil (in_heading s m) in_heads e)) in
       let names = block_names (locals_of m) m.body m.parameters k heads.0 in
-      let parameters = all_more (λ p. in_parameter s p ≡ []) (λ p. in_label s p.label ≡ []) m.parameters (λ p h. right_nil (in_sort s p.sort) (in_label s p.label) h) (each_nil (in_parameter s) m.parameters (left_nil ps rs two)) in
+      let parameters = all_along (λ p. in_parameter s p ≡ []) (λ p. in_label s p.label ≡ []) (λ p h. right_nil (in_sort s p.sort) (in_label s p.label) h) m.parameters (each_nil (in_parameter s) m.parameters (left_nil ps rs two)) in
       record {
         locals = all_map (IsLabelledLocal many) (numbered_local s) (locals_of m)
-            (all_more (λ p. in_label s p.label ≡ []) (λ p. (label_use s p.label).number < many) (locals_of m) (λ p h. label_below p.label h)
+            (all_along (λ p. in_label s p.label ≡ []) (λ p. (label_use s p.label).number < many) (λ p h. label_below p.label h) (locals_of m)
             (all_append (λ p. in_label s p.label ≡ []) m.parameters (flat_map declared_in m.body) parameters names.0));
         returns = returns_below m.returns (right_nil ps rs two);
         begin = label_below m.begin (right_nil (ps ++ rs) (in_label s m.begin) three);
@@ -252,7 +251,7 @@ labels_declared s e =
     let names = unknowns s (no_unknowns s e) in
     record {
       classes = all_map (IsLabelledClass (many s)) (class_of s) s.program.classes
-          (all_more (λ c. in_class s c ≡ []) (λ c. IsLabelledClass (many s) (class_of s c)) s.program.classes (class_labelled s) (each_nil (in_class s) s.program.classes names.classes));
+          (all_along (λ c. in_class s c ≡ []) (λ c. IsLabelledClass (many s) (class_of s c)) (class_labelled s) s.program.classes (each_nil (in_class s) s.program.classes names.classes));
       methods = methods_labelled s s.program.methods 0 (each_nil (in_method s) s.program.methods names.methods);
     }
 
