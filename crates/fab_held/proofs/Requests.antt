@@ -8,9 +8,7 @@ use Rattle.fab_base.specs.declared.object.Value.{Value}
 use Rattle.fab_base.specs.FlatMap.{FlatMap, get}
 use Rattle.fab_tree.specs.declared.resolved.Request.{Request}
 use Rattle.fab_tree.specs.declared.resolved.Resolved.{Resolved}
-use Rattle.fab_language.specs.declared.ending.Ending.{Ending}
-use Rattle.fab_language.specs.declared.ending.Ending.TheVariants.{Ended, Failed, Stopped, Missing}
-use Rattle.fab_language.specs.Evaluation.{tid_of, meant, if_ended, map_behind, in_turn}
+use Rattle.fab_language.specs.Evaluation.{tid_of, in_turn}
 use Rattle.fab_language.specs.Heaps.{is_among}
 use Rattle.fab_language.specs.Meaning.{Meant, meaning}
 use Rattle.fab_labelling.specs.Claims.{IsWellLabelled}
@@ -21,6 +19,7 @@ use Rattle.fab_laws.specs.Changes.{OnlyChanges}
 use Rattle.fab_laws.specs.Kinds.{Claim, given, counted, made, claims_of}
 use Rattle.fab_laws.specs.Origins.{Passes, MakesPassing, OnlyPassing}
 use Rattle.fab_laws.proofs.Changes.{leaves}
+use Rattle.fab_laws.proofs.Courses.{course_keeps}
 use Rattle.fab_laws.proofs.Placed.{meant_passes}
 use Rattle.fab_held.specs.Held.{IsHeld, RefersToHeld, AllHeld, HasOnlyHeld, MakesHeld, OnlyHeld}
 use Rattle.fab_held.proofs.Made.{all_made}
@@ -83,14 +82,6 @@ module _ (r : Resolved) where
           result = λ v e. from_passing v (p.result v e);
         }
 
-    behind_ending : (e : Ending) (m n : FlatMap) → HasOnlyHeld r m → HasOnlyHeld r n → HasOnlyHeld r (if_ended e m n)
-    behind_ending (Ended result) m n h k = h
-    behind_ending Failed m n h k = k
-    behind_ending (Stopped stop) m n h k = k
-    behind_ending (Missing site o) m n h k = k
-
     pub course_held : (known : FlatMap) (requests : List Request) → AllByRecursion (λ q. AllHeld r q.args) requests → HasOnlyHeld r known → HasOnlyHeld r (in_turn r known requests).map
-    course_held known [] a h = h
-    course_held known (request ∷ requests) a h =
-        let k = meant_held known request (tid_of request) 1000000 a.0 h in
-        course_held (map_behind r known request) requests a.1 (behind_ending (meant r known request).ending (meant r known request).map known k.objects h)
+    course_held known requests a h =
+        (course_keeps r (HasOnlyHeld r) (λ q. AllHeld r q.args) (λ e. Unit {0}) (λ m request k args. (tt, (meant_held m request (tid_of request) 1000000 args k).objects)) known requests h a).1

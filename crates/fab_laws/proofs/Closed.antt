@@ -15,13 +15,13 @@ use Rattle.fab_tree.specs.declared.resolved.Sort.{Sort}
 use Rattle.fab_tree.specs.declared.resolved.Sort.TheVariants as sorts
 use Rattle.fab_tree.specs.declared.resolved.Request.{Request}
 use Rattle.fab_tree.specs.declared.resolved.Resolved.{Resolved}
-use Rattle.fab_language.specs.declared.ending.Ending.{Ending}
-use Rattle.fab_language.specs.declared.ending.Ending.TheVariants.{Ended, Failed, Stopped, Missing}
+use Rattle.fab_language.specs.declared.ending.Ending.TheVariants.{Ended}
 use Rattle.fab_language.specs.Heaps.{Heap}
 use Rattle.fab_language.specs.Meaning.{State, failed, stopped, missing, Run, with_field, next_name, default, locals_at_start, requested, meant_by, meaning, state_at_start}
-use Rattle.fab_language.specs.Evaluation.{tid_of, meant, if_ended, map_behind, in_turn}
+use Rattle.fab_language.specs.Evaluation.{tid_of, meant, in_turn}
 use Rattle.fab_laws.specs.Kinds.{Kind, Claim, parameter_kinds}
 use Rattle.fab_laws.specs.Closed.{HasOne, IsThere, AreThere, IsClosed, IsFound, IsClosedBehind}
+use Rattle.fab_laws.proofs.Courses.{course_keeps}
 use Rattle.fab_laws.proofs.Maps.{put_keeps}
 use Rattle.fab_laws.proofs.Values.{at_place, all_set, all_at_start, number_leads_nowhere}
 use Rattle.fab_laws.proofs.Walk as w
@@ -180,20 +180,13 @@ module _ (program : Resolved) (tid : Tid) where
 
 -- ---- requests one after the other
 
-args_still : (m n : FlatMap) (requests : List Request) → Grown m n → AllByRecursion (λ r. AreThere m r.args) requests → AllByRecursion (λ r. AreThere n r.args) requests
-args_still m n requests g h = all_along (λ r. AreThere m r.args) (λ r. AreThere n r.args) (λ r p. all_still m n r.args g p) requests h
-
 module _ (program : Resolved) where
-  behind_ending : (e : Ending) (m n : FlatMap) → IsClosed m → IsClosed n → Grown n m → IsClosed (if_ended e m n) × Grown n (if_ended e m n)
-  behind_ending (Ended r) m n h k g = (h, g)
-  behind_ending Failed m n h k g = (k, same_map n)
-  behind_ending (Stopped stop) m n h k g = (k, same_map n)
-  behind_ending (Missing site o) m n h k g = (k, same_map n)
-
   pub course_closed : (known : FlatMap) (requests : List Request) → IsClosed known → AllByRecursion (λ r. AreThere known r.args) requests → AllByRecursion IsFound (in_turn program known requests).endings × IsClosed (in_turn program known requests).map
-  course_closed known [] h a = (tt, h)
-  course_closed known (request ∷ requests) h a =
-      let c = meant_closed program (tid_of request) known request 1000000 h a.0 in
-      let b = behind_ending (meant program known request).ending (meant program known request).map known c.closed h (record { still = c.still }) in
-      let t = course_closed (map_behind program known request) requests b.0 (args_still known (map_behind program known request) requests b.1 a.1) in
-      ((c.found, t.0), t.1)
+  course_closed known requests h a =
+      let t = course_keeps program (λ m. IsClosed m × Grown known m) (λ r. AreThere known r.args) IsFound one known requests (h, same_map known) a in
+      (t.0, t.1.0)
+    where
+      one : (m : FlatMap) (request : Request) → IsClosed m × Grown known m → AreThere known request.args → IsFound (meant program m request).ending × (IsClosed (meant program m request).map × Grown known (meant program m request).map)
+      one m request k args =
+          let c = meant_closed program (tid_of request) m request 1000000 k.0 (all_still known m request.args k.1 args) in
+          (c.found, (c.closed, grown_on known m (meant program m request).map k.1 (record { still = c.still })))

@@ -1,6 +1,7 @@
 pub mod Carried
 pub mod Changes
 pub mod Closed
+pub mod Courses
 pub mod Everywhere
 pub mod Fewer
 mod FittingExamples

@@ -18,13 +18,13 @@ use Rattle.fab_tree.specs.declared.resolved.Local.{Local}
 use Rattle.fab_tree.specs.declared.resolved.Method.{Method}
 use Rattle.fab_tree.specs.declared.resolved.Request.{Request}
 use Rattle.fab_tree.specs.declared.resolved.Resolved.{Resolved}
-use Rattle.fab_language.specs.declared.ending.Ending.{Ending}
-use Rattle.fab_language.specs.declared.ending.Ending.TheVariants.{Ended, Failed, Stopped, Missing}
+use Rattle.fab_language.specs.declared.ending.Ending.TheVariants.{Ended}
 use Rattle.fab_language.specs.Heaps.{Heap}
 use Rattle.fab_language.specs.Meaning.{State, failed, stopped, missing, Run, field_of, with_field, next_name, default, locals_at_start, requested, meant_by, meaning, state_at_start}
-use Rattle.fab_language.specs.Evaluation.{tid_of, meant, if_ended, map_behind, in_turn}
+use Rattle.fab_language.specs.Evaluation.{tid_of, in_turn}
 use Rattle.fab_laws.specs.Kinds.{Kind, number, object, nothing, unknown, takes, joined, kind_of_sort, kind_at, class_kinds, field_kind, local_kinds, parameter_kinds, result_kind, Claim, method_claims, claims_of}
 use Rattle.fab_laws.specs.Shapes.{suits, AllSuit, IsShaped, AreShaped, is_met, is_fitting, IsFitting, KeepsShape}
+use Rattle.fab_laws.proofs.Courses.{course_keeps}
 use Rattle.fab_laws.proofs.Maps.{put_keeps}
 use Rattle.fab_laws.proofs.Walk as w
 use Rattle.fab_laws.proofs.Walk.{claims_at, Result, on, off, Finds, made_one, touched_one, Replaces, again, fresh}
@@ -238,14 +238,5 @@ module _ (program : Resolved) (fitting : is_fitting program ≡ true) where
     pub shape_kept : KeepsShape program request (meaning program known request tid fuel)
     shape_kept = record { objects = objects_by (requested program tid request start) out; result = result_by (requested program tid request start) out }
 
-  behind_ending : (e : Ending) (m n : FlatMap) → AreShaped program.classes m → AreShaped program.classes n → AreShaped program.classes (if_ended e m n)
-  behind_ending (Ended r) m n h k = h
-  behind_ending Failed m n h k = k
-  behind_ending (Stopped stop) m n h k = k
-  behind_ending (Missing site o) m n h k = k
-
   pub course_shaped : (known : FlatMap) (requests : List Request) → AreShaped program.classes known → AllByRecursion (IsFitting program) requests → AreShaped program.classes (in_turn program known requests).map
-  course_shaped known [] h a = h
-  course_shaped known (request ∷ requests) h a =
-      let k = shape_kept (tid_of request) known request 1000000 h a.0 in
-      course_shaped (map_behind program known request) requests (behind_ending (meant program known request).ending (meant program known request).map known k.objects h) a.1
+  course_shaped known requests h a = (course_keeps program (AreShaped program.classes) (IsFitting program) (λ e. Unit {0}) (λ m request k fits. (tt, (shape_kept (tid_of request) m request 1000000 k fits).objects)) known requests h a).1
