@@ -164,7 +164,7 @@ sums_null : fits (s.Write (used 0) 0 (sum (local 1) null) 7) ≡ false
 sums_null = layer (s.Write (used 0) 0 (sum (local 1) null) 7) ∙ rw (sum_kind (local 1) null, local_kind 1, null_kind) refl
 
 sums_object : fits (s.Write (used 0) 0 (sum (local 0) (local 1)) 7) ≡ false
-sums_object = layer (s.Write (used 0) 0 (sum (local 0) (local 1)) 7) ∙ rw (sum_kind (local 0) (local 1), local_kind 0, local_kind 1) refl
+sums_object = layer (s.Write (used 0) 0 (sum (local 0) (local 1)) 7) ∙ rw (sum_kind (local 0) (local 1), local_kind 0) refl
 
 sums_objects : fits (s.Write (used 0) 1 (sum (local 0) (local 0)) 7) ≡ false
 sums_objects = layer (s.Write (used 0) 1 (sum (local 0) (local 0)) 7) ∙ rw (sum_kind (local 0) (local 0), local_kind 0) refl

@@ -1,5 +1,5 @@
 -- What holds of each value of a list.
-use Rattle.std.proofs.Common.{◌≡◌, ℕ, zero, suc, true, List, [], ◌∷◌, ◌++◌, map, drop, length, sym, true≢false}
+use Rattle.std.proofs.Common.{◌≡◌, ℕ, zero, suc, true, List, [], ◌∷◌, map, drop, length, sym, true≢false}
 use Rattle.std.specs.Prelude.{slice_get, slice_set, unwrap_or, IfSome}
 use Rattle.std.specs.List.{AllByRecursion}
 use Rattle.fab_base.proofs.Lists.{all_append}
@@ -13,7 +13,6 @@ use Rattle.fab_tree.specs.declared.resolved.Sort.{Sort}
 use Rattle.fab_tree.specs.declared.resolved.Local.{Local}
 use Rattle.fab_tree.specs.declared.resolved.Method.{Method}
 use Rattle.fab_language.specs.Meaning.{default, locals_at_start}
-
 -- what holds of two lists, by the name that it had here
 pub use Rattle.fab_base.proofs.Lists.{all_append as all_joined}
 

@@ -109,9 +109,9 @@ module _ (s : Start) (classes : AllByRecursion (IsDeclared s) s.program.classes)
       let x : Operand-F Form Expression Operand = record { operator = operator; at = at; operand = e } in
       let v = (expression_of s locals e k).0 in
       let unknown : unknown_in_operand (operand_at at operator e) ≡ u.in_expression s known e =
-          fold-roll-Operand (List Fault) (List Fault) (List Fault) (u.in_form s known) (λ e. e.form) (λ o. o.operand) x in
+      fold-roll-Operand (List Fault) (List Fault) (List Fault) (u.in_form s known) (λ e. e.form) (λ o. o.operand) x in
       let checked : checked_operand (operand_at at operator e) ≡ t.checked s known e =
-          fold-roll-Operand (ℕ → Checked) Checked Checked (t.in_form s known) (λ e. e.form e.at) (λ o. o.operand) x in
+      fold-roll-Operand (ℕ → Checked) Checked Checked (t.in_form s known) (λ e. e.form e.at) (λ o. o.operand) x in
       ap (λ (made : Numbered NumberedOperand). kind_of_operand (made k).0) (operand_numbers s locals at operator e)
       ∙ fold-roll-NumberedOperand n.Kind n.Kind n.Kind kind_step (λ e. e.form) (λ o. o.operand) (record { operator = operator; at = at; operand = v })
       ∙ operand_is e k h (sym unknown ∙ a) (sym (ap (operand s known) checked) ∙ b)

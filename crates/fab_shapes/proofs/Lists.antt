@@ -1,5 +1,5 @@
 -- Lists that are empty together, and what holds of each element.
-use Rattle.std.proofs.Common.{◌≡◌, Bool, true, List, [], ◌∷◌, refl, arith}
+use Rattle.std.proofs.Common.{◌≡◌, Bool, true, List, [], ◌∷◌, refl}
 use Rattle.std.specs.List.{flat_map, AllByRecursion, list_all}
 use Rattle.std.proofs.lemmas.Bool.{and_from}
 use Rattle.fab_base.proofs.Lists.{all_append, all_split}
