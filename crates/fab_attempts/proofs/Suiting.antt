@@ -1,5 +1,5 @@
 -- An object that suits its name by the rights of a program has the shape of its class, and no more than 16 fields.
-use Rattle.std.proofs.Common.{◌≡◌, ℕ, zero, suc, ◌≤◌, ◌==◌, true, IsTrue, List, [], ◌∷◌, map, length, refl, sym, ap, subst, arith}
+use Rattle.std.proofs.Common.{◌≡◌, ℕ, zero, suc, ◌≤◌, ◌==◌, true, IsTrue, List, [], ◌∷◌, map, length, refl, sym, subst, arith}
 use Rattle.std.specs.Prelude.{slice_get}
 use Rattle.std.specs.List.{AllByRecursion}
 use Rattle.std.proofs.lemmas.Bool.{true≢false, and_parts}
@@ -14,7 +14,7 @@ use Rattle.fab_tree.specs.declared.resolved.Field.{Field}
 use Rattle.fab_tree.specs.declared.resolved.Resolved.{Resolved}
 use Rattle.fab_tree.specs.declared.resolved.Sort.{Sort}
 use Rattle.fab_tree.specs.declared.resolved.Sort.TheVariants as sorts
-use Rattle.fab_laws.specs.Kinds.{Kind, kind_of_sort, class_kinds}
+use Rattle.fab_laws.specs.Kinds.{kind_of_sort, class_kinds}
 use Rattle.fab_laws.specs.Shapes.{suits, AllSuit, IsShaped}
 use Rattle.fab_laws.proofs.Shapes.{suit_length}
 use Rattle.fab_places.specs.Places as places

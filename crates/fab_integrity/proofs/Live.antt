@@ -13,7 +13,7 @@ use Rattle.fab_net.specs.declared.event.Inner.{Inner}
 use Rattle.fab_net.specs.declared.event.Inner.TheVariants as i
 use Rattle.fab_net.specs.declared.note.Commit.{Commit}
 use Rattle.fab_rights.specs.Computed.{is_node, is_store, is_worker, nodes_in}
-use Rattle.fab_world.specs.Machine.{Setting, World, Node, Move, Form, Does, Cuts, Fails, Posts, Crashes, Never, form_of, act, node_of, ready, at_start, step, steps}
+use Rattle.fab_world.specs.Machine.{Setting, World, Node, Move, Form, Does, Cuts, Fails, Posts, Crashes, Never, form_of, act, node_of, at_start, step, steps}
 use Rattle.fab_world.specs.Machine.{posted, enabled, are_enabled, may, record_at, kept, lacks, is_idle, is_evaluating, is_empty, is_running, is_settled}
 use Rattle.fab_world.specs.Serial.{IsSetting, IsEvaluation, Excludes, IsRun, IsLive, IsWaiting, GoesOn, ArePosts, world_of, commits_in}
 use Rattle.fab_world.specs.Workers as workers

@@ -2,12 +2,12 @@
 --
 -- An ordinary event that may come is due as it is, or as the cut that a line makes of it, or its node's crash is due.
 use Rattle.std.proofs.Common.{◌≡◌, ℕ, ◌<◌, ◌^◌, List, Bool, true, false, not, ◌&&◌, nat_lt}
-use Rattle.std.proofs.Common.{if◌then◌else◌, IsTrue, IsFalse, Option, Some, None, is_some, length, min, refl, ap, ◌∙◌, inl, inr, arith, true≢false, sym}
-use Rattle.std.specs.List.{list_all, range_with_len}
-use Rattle.std.proofs.lemmas.Bool.{cases_Bool, and_from, and_parts, or_cases, both_ways, eq-eqb, not_from_false, not-true}
+use Rattle.std.proofs.Common.{if◌then◌else◌, IsTrue, IsFalse, Option, Some, None, is_some, length, min, refl, ap, ◌∙◌, inl, inr, true≢false, sym}
+use Rattle.std.specs.List.{list_all}
+use Rattle.std.proofs.lemmas.Bool.{cases_Bool, and_from, and_parts, both_ways, eq-eqb, not_from_false, not-true}
 use Rattle.fab_net.specs.declared.event.Inner.{Inner}
 use Rattle.fab_net.specs.declared.event.Inner.TheVariants as i
-use Rattle.fab_rights.specs.Computed.{is_node, is_store, is_worker, nodes_in}
+use Rattle.fab_rights.specs.Computed.{is_node, is_worker, nodes_in}
 use Rattle.fab_world.specs.Machine.{Setting, World, Move, Form, Does, Cuts, Fails, Posts, Crashes, Never, node_of, enabled, may, record_at, is_running}
 use Rattle.fab_world.specs.Machine.{kept, lacks, is_idle, is_evaluating, is_empty, is_settled}
 use Rattle.fab_world.specs.Serial.{IsSetting, IsEvaluation, IsRun, IsWaiting, IsOrdinary, ArePosts, world_of}

@@ -3,7 +3,7 @@ use Rattle.std.specs.Prelude.{◌≡◌, ◌⊎◌, ℕ, ◌+◌, ◌≤◌, Boo
 use Rattle.std.specs.Prelude.{List, [], ◌∷◌, ◌++◌, length, Option, Some, None, fold}
 use Rattle.std.specs.List.{filter, flat_map, AllByRecursion}
 use Rattle.std.proofs.Common.{refl, sym, ap, ◌∙◌, subst, inl, inr, arith}
-use Rattle.std.proofs.lemmas.Bool.{cases_eq, cases_Bool, and_parts, both_ways, or_cases, not-true, false_from_ne_true, true≢false}
+use Rattle.std.proofs.lemmas.Bool.{cases_eq, cases_Bool, and_parts, both_ways, or_cases, not-true, true≢false}
 use Rattle.std.proofs.lemmas.List.{append-nil}
 use Rattle.fab_base.specs.declared.object.Tid.{Tid}
 use Rattle.fab_base.specs.declared.message.Message.{Message}
@@ -15,7 +15,7 @@ use Rattle.fab_net.specs.declared.event.Inner.{Inner}
 use Rattle.fab_net.specs.declared.event.Inner.TheVariants as i
 use Rattle.fab_net.specs.declared.note.Commit.{Commit}
 use Rattle.fab_rights.specs.Computed.{is_node, is_worker, is_store}
-use Rattle.fab_protocol.specs.Stores.{Shelf, says, asks, does, is_own}
+use Rattle.fab_protocol.specs.Stores.{Shelf, asks, does, is_own}
 use Rattle.fab_protocol.specs.Stores.{silent, hears}
 use Rattle.fab_world.specs.Machine.{Setting, World, Node, Form, Does, Cuts, Fails, Posts, Crashes, Never, with_at, rest_of, front_of, is_empty}
 use Rattle.fab_world.specs.Machine.{option_list, record_behind, record_at, kept, shelf, act, node_of, ready, lands, cut, at_node, down, steps, posted}
