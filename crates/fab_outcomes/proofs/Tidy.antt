@@ -2,7 +2,7 @@
 use Rattle.std.proofs.Common.{◌≡◌, ◌⊎◌, inl, inr, ℕ, List, [], ◌∷◌, ◌++◌, true, false, not, ◌==◌, IsTrue, if◌then◌else◌}
 use Rattle.std.proofs.Common.{Option, Some, None, refl, sym, ap, ◌∙◌, subst, arith, append-nil, append_assoc, true≢false}
 use Rattle.std.specs.List.{AllByRecursion, filter, flat_map}
-use Rattle.std.proofs.lemmas.Bool.{and_parts, both_ways, false_from_ne_true}
+use Rattle.std.proofs.lemmas.Bool.{and_parts, both_ways}
 use Rattle.std.proofs.lemmas.List.Elements.{filter-append}
 use Rattle.fab_base.specs.declared.entry.Entry.{Entry}
 use Rattle.fab_base.specs.declared.message.Message.{Message}
@@ -15,14 +15,13 @@ use Rattle.fab_net.specs.declared.event.Inner.{Inner}
 use Rattle.fab_net.specs.declared.event.Inner.TheVariants as i
 use Rattle.fab_net.specs.declared.note.Commit.{Commit}
 use Rattle.fab_net.specs.declared.note.Logged.{Logged}
-use Rattle.fab_rights.specs.Computed.{is_store, is_worker}
+use Rattle.fab_rights.specs.Computed.{is_worker}
 use Rattle.fab_protocol.specs.declared.said.Said.{Said}
 use Rattle.fab_protocol.specs.Shelves.{IsShelf}
-use Rattle.fab_protocol.specs.Stores.{Shelf, asks, hears, keeps_said, says, shelf_at_start, shelf_of}
+use Rattle.fab_protocol.specs.Stores.{Shelf, asks, hears, keeps_said, shelf_at_start, shelf_of}
 use Rattle.fab_protocol.specs.Versions.{begun, is_made_in, maker_of}
-use Rattle.fab_world.specs.Machine.{Setting, World, Node, Move, Form, Does, act, are_enabled, at_start, enabled, form_of, front_of, is_empty, is_evaluating, kept, lacks}
-use Rattle.fab_world.specs.Machine.{logged, logs, may, meant, node_of, notes_at, of_store, option_list, parts, runs, shelf, step, steps}
-use Rattle.fab_world.specs.Machine as machine
+use Rattle.fab_world.specs.Machine.{Setting, World, Move, Form, act, at_start, enabled, form_of, front_of, is_evaluating, kept, lacks}
+use Rattle.fab_world.specs.Machine.{logged, logs, may, node_of, of_store, option_list, runs, shelf, step, steps}
 use Rattle.fab_world.specs.Serial.{IsSetting, IsEvaluation, IsFit, IsRun, commit_in, commits_in, commits_of, world_of}
 use Rattle.fab_world.specs.Workers as workers
 use Rattle.fab_world.specs.Workers.{Act, Phase, takes, wakes}

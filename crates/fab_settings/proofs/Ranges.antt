@@ -1,6 +1,6 @@
 -- Numbers stay within 32 bits: where those that stand in a program are, those that a request gives and those of known objects,
 -- so are those of the objects behind it and what it returned.
-use Rattle.std.proofs.Common.{◌≡◌, ℕ, zero, suc, ◌-◌, ◌/◌, ◌^◌, ◌<◌, ℤ, pos, negsuc, neg_ℤ, ◌+ℤ◌, ◌-ℤ◌, ◌*ℤ◌, Bool, true, false, ◌==◌, cond, if◌then◌else◌, List, [], ◌∷◌, ◌++◌, map, Option, Some, None, refl, sym, ap, ◌∙◌, subst, arith}
+use Rattle.std.proofs.Common.{◌≡◌, ℕ, zero, suc, ◌-◌, ◌/◌, ◌^◌, ◌<◌, ℤ, pos, negsuc, neg_ℤ, ◌+ℤ◌, ◌-ℤ◌, ◌*ℤ◌, Bool, true, false, ◌==◌, cond, if◌then◌else◌, List, [], ◌∷◌, ◌++◌, map, Option, Some, None, refl, sym, subst, arith}
 use Rattle.std.specs.Prelude.{slice_get, slice_set, unwrap_or, bit_and, int_div, FitsSigned, not}
 use Rattle.std.specs.Int.{w32, int_bit_and, int_bit_or, int_wrapping_div, cast_signed, cast_unsigned}
 use Rattle.std.specs.List.{flat_map}
