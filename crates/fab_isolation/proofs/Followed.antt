@@ -3,13 +3,11 @@ use Rattle.std.proofs.Common.{◌≡◌, ℕ, ◌||◌, Bool, true, false, cond,
 use Rattle.std.specs.Prelude.{option_map, slice_get}
 use Rattle.std.specs.List.{filter, AllByRecursion}
 use Rattle.std.proofs.lemmas.Bool.{false≢true, and_from, or_right}
-use Rattle.fab_base.specs.declared.object.Object.{Object}
 use Rattle.fab_base.specs.declared.object.Oid.{Oid}
 use Rattle.fab_base.specs.declared.object.Tid.{Tid}
 use Rattle.fab_base.specs.declared.object.Value.{Value}
 use Rattle.fab_base.specs.FieldSpelling.{IsTid}
-use Rattle.fab_base.specs.FlatMap.{FlatMap, get, is_among, is_same, ascends}
-use Rattle.fab_base.proofs.NameOrder.{one_name}
+use Rattle.fab_base.specs.FlatMap.{FlatMap, is_among, is_same, ascends}
 use Rattle.fab_base.proofs.Names.{same_self}
 use Rattle.fab_base.proofs.Lists.{all_along}
 use Rattle.fab_tree.specs.declared.start.Start.{Start}

@@ -1,5 +1,5 @@
 -- A run posts no more than its bundle has to post.
-use Rattle.std.proofs.Common.{◌≡◌, ◌⊎◌, inl, inr, ℕ, zero, suc, ◌+◌, ◌≤◌, ◌<◌, ◌==◌, ◌&&◌, ◌||◌, ◌^◌, not, Bool, true, false, cond, IsTrue, List, [], ◌∷◌, fold, length, None, refl, ap, ◌∙◌, arith}
+use Rattle.std.proofs.Common.{◌≡◌, ◌⊎◌, inl, inr, ℕ, zero, suc, ◌+◌, ◌≤◌, ◌<◌, ◌==◌, ◌&&◌, not, true, false, cond, IsTrue, List, [], ◌∷◌, fold, length, None, refl, ap, ◌∙◌, arith}
 use Rattle.std.specs.List.{filter}
 use Rattle.std.proofs.lemmas.Bool.{false≢true, and_parts, cases_eq, eq-eqb, ne_eqb}
 use Rattle.std.proofs.lemmas.List.{length-map}
@@ -9,11 +9,8 @@ use Rattle.fab_tree.specs.declared.resolved.Post.{Post}
 use Rattle.fab_tree.specs.Limits.{first_passed}
 use Rattle.fab_tree.proofs.Within.{is_within}
 use Rattle.fab_language.specs.Numbers.{resolved, post_of}
-use Rattle.fab_rights.specs.declared.rights.Rights.{Rights}
-use Rattle.fab_rights.specs.Computed.{is_node, has_bit}
-use Rattle.fab_net.specs.declared.event.Inner.{Inner}
-use Rattle.fab_net.specs.declared.event.Inner.TheVariants as i
-use Rattle.fab_world.specs.Machine.{Setting, World, Move, Form, Does, Cuts, Fails, Posts, Crashes, Never, with_at, form_of, ready, posted, steps, step, enabled, are_enabled, runs, at_start, is_empty}
+use Rattle.fab_rights.specs.Computed.{is_node}
+use Rattle.fab_world.specs.Machine.{Setting, World, Move, Form, Does, Cuts, Fails, Posts, Crashes, Never, with_at, form_of, posted, steps, step, enabled, are_enabled, runs, at_start, is_empty}
 use Rattle.fab_settings.specs.Settings.{posts_of, setting_of}
 use Rattle.fab_integrity.proofs.Changes.{ready_posts}
 use Rattle.fab_integrity.proofs.Roles.{node_below}

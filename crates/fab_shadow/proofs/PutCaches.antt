@@ -1,5 +1,5 @@
 -- Caches behind puts: the cache of a store depends on its own puts alone.
-use Rattle.std.proofs.Common.{◌≡◌, ℕ, zero, suc, ◌+◌, List, [], ◌∷◌, ◌++◌, length, refl, ap, arith}
+use Rattle.std.proofs.Common.{◌≡◌, ℕ, zero, suc, ◌+◌, List, [], ◌∷◌, ◌++◌, length, refl, arith}
 use Rattle.fab_protocol.specs.Caches.{at_store, cached, last_distinct}
 use Rattle.fab_protocol.specs.Versions.{Rows}
 use Rattle.fab_shadow.proofs.Shadow.{cache_of}
