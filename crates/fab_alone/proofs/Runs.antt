@@ -29,6 +29,7 @@ use Rattle.fab_protocol.specs.Stores.{Prepared, behind, last_of, sender_in, shel
 use Rattle.fab_protocol.specs.Tables.{row_of}
 use Rattle.fab_protocol.specs.Versions.{Row, Rows, begun, is_tid, name_of}
 use Rattle.fab_protocol.proofs.Records.{worker_below}
+use Rattle.fab_protocol.proofs.Commits.{tid_itself}
 use Rattle.fab_world.specs.Crashing.{CrashLine, IsOver}
 use Rattle.fab_world.specs.Machine.{Setting, World, Move, Form, Does, Cuts, Fails, Posts, Crashes, Never, act, at_start, enabled, form_of, held_at, is_decided, is_empty, is_evaluating, is_idle, is_running}
 use Rattle.fab_world.specs.Machine.{kept, lands, may, option_list, outcome, outcome_of, ready, shelf, step, steps}
@@ -44,7 +45,6 @@ use Rattle.fab_integrity.proofs.Lists.{each_of}
 use Rattle.fab_integrity.proofs.Over.{over_is_done}
 use Rattle.fab_integrity.proofs.Runs.{front_run, holds_run}
 use Rattle.fab_integrity.proofs.Steps.{Holds}
-use Rattle.fab_integrity.proofs.Tids.{tid_itself}
 use Rattle.fab_integrity.proofs.WorkerSteps.{is_evaluating_at, is_idle_at}
 use Rattle.fab_outcomes.proofs.Outcomes.{move_enabled, run_append}
 use Rattle.fab_outcomes.proofs.Slots.{slot_left, slot_next}

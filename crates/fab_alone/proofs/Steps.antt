@@ -40,6 +40,7 @@ use Rattle.fab_protocol.specs.Tables.{OnlyOnce, row_of}
 use Rattle.fab_protocol.specs.Versions.{Row, Rows, is_tid, maker_of, name_of, names_of, objects_of}
 use Rattle.fab_protocol.proofs.Records.{worker_below}
 use Rattle.fab_protocol.proofs.TableLaws.{row_of_all, row_of_name}
+use Rattle.fab_protocol.proofs.Commits.{tid_itself}
 use Rattle.fab_world.specs.Attempts.{parts_of, value_of}
 use Rattle.fab_world.specs.Machine.{Setting, World, Does, act, front_of, hears, is_empty, kept, lands, may, meant, node_of, of_store, parts, ready, rest_of, shelf, steps}
 use Rattle.fab_world.specs.Serial.{AreFit, IsEvaluation, IsFitName, IsSetting}
@@ -51,7 +52,7 @@ use Rattle.fab_integrity.proofs.Lasting.{kept_behind}
 use Rattle.fab_integrity.proofs.Lists.{each_of, number_in}
 use Rattle.fab_integrity.proofs.Replays.{ended_is}
 use Rattle.fab_integrity.proofs.Runs.{no_classes}
-use Rattle.fab_integrity.proofs.Tids.{tid_itself}
+use Rattle.fab_integrity.proofs.Roles.{heard_by_store}
 use Rattle.fab_integrity.proofs.Transport.{bytes_for, other_queue, taken_queue}
 use Rattle.fab_integrity.proofs.WorkerSpelling.{prepare_spelled}
 use Rattle.fab_integrity.proofs.WorkerSteps.{is_evaluating_at, is_idle_at}
@@ -60,7 +61,7 @@ use Rattle.fab_base.specs.FlatMap.{is_same}
 use Rattle.fab_outcomes.proofs.Stored.{IsGood}
 use Rattle.fab_outcomes.proofs.Tidy.{Good, Made, Tidy}
 use Rattle.fab_ended.specs.Silence.{NoneIsHostile}
-use Rattle.fab_ended.proofs.Served.{answers_fit, answers_low, few_asked, missing_name, no_worker, not_store, ok, rows_answer, store_act, store_is, store_node, taking_part, tid_fits, worker_is}
+use Rattle.fab_ended.proofs.Served.{answers_fit, answers_low, few_asked, missing_name, not_store, ok, rows_answer, store_act, store_is, store_node, taking_part, tid_fits, worker_is}
 use Rattle.fab_ended.proofs.Short.{fetch_short, prepare_short, vote_short}
 use Rattle.fab_ended.proofs.Waiting.{read_itself}
 use Rattle.fab_alone.specs.Alone.{HasRights, IsAlone, IsSameOverMore, NoneLacks, first_tid, map_behind, meant_behind}
@@ -644,6 +645,5 @@ module _ (S : Setting) (given : IsSetting S) (law : IsEvaluation S) (honest : No
         stays_so : (message : Option Message) → hears S w x s message ≡ stays (w.node s).attempt
         stays_so None = refl
         stays_so (Some message) =
-            ap (λ b. if b then takes S.rights S.cache s (kept S w s) x message (w.node s).attempt (parts S w s)
-            else of_store S (w.node s).attempt (says S.rights s x message (shelf S w s))) (no_worker S given law honest s store)
+            heard_by_store S given w s x store (Some message)
             ∙ ap (λ b. of_store S (w.node s).attempt (if b && is_own x message then does S.rights s x message (shelf S w s) else silent)) no_work

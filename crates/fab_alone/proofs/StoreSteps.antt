@@ -30,13 +30,13 @@ use Rattle.fab_protocol.specs.Tables.{row_of}
 use Rattle.fab_protocol.specs.Versions.{Row, Rows, is_tid, name_of}
 use Rattle.fab_protocol.proofs.Senders.{AreRemembered, as_many, sender_at}
 use Rattle.fab_protocol.proofs.TableLaws.{row_of_all, row_of_name}
+use Rattle.fab_protocol.proofs.Commits.{tid_itself}
 use Rattle.fab_world.specs.Machine.{Setting, front_of, is_empty, option_list, rest_of}
 use Rattle.fab_world.specs.Serial.{IsSetting}
 use Rattle.fab_world.specs.Workers as workers
 use Rattle.fab_world.specs.Workers.{Phase}
 use Rattle.fab_integrity.proofs.Invariant.{In}
 use Rattle.fab_integrity.proofs.Readings.{spelled_so}
-use Rattle.fab_integrity.proofs.Tids.{tid_itself}
 use Rattle.fab_integrity.proofs.Transport.{bytes_for}
 use Rattle.fab_ended.proofs.Replies.{CanAnswer}
 use Rattle.fab_ended.proofs.Short.{object_short, vote_short}

@@ -34,10 +34,6 @@ pub cached_once : (k : ℕ) (puts : Rows) (s : ℕ) (caches : List Rows) → Are
 cached_once k puts s [] = tt
 cached_once k puts s (cache ∷ caches) = (last_once k (cache ++ at_store s puts), cached_once k puts (suc s) caches)
 
-pub cached_as_many : (k : ℕ) (puts : Rows) (s : ℕ) (caches : List Rows) → length (cached k puts s caches) ≡ length caches
-cached_as_many k puts s [] = refl
-cached_as_many k puts s (cache ∷ caches) = ap suc (cached_as_many k puts (suc s) caches)
-
 pub empty_last : {A : Type 0} (k : ℕ) (xs : List A) → AreLast k (map (λ x. []) xs)
 empty_last k [] = tt
 empty_last k (x ∷ xs) = (refl, empty_last k xs)

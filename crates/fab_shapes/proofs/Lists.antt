@@ -1,9 +1,8 @@
 -- Lists that are empty together, and what holds of each element.
-use Rattle.std.proofs.Common.{◌≡◌, Bool, true, List, [], ◌∷◌, refl, arith}
+use Rattle.std.proofs.Common.{◌≡◌, Bool, true, List, [], ◌∷◌, refl}
 use Rattle.std.specs.List.{flat_map, AllByRecursion, list_all}
 use Rattle.std.proofs.lemmas.Bool.{and_from}
-use Rattle.fab_base.proofs.Lists.{all_split}
-use Rattle.fab_laws.proofs.Values.{all_joined}
+use Rattle.fab_base.proofs.Lists.{all_append, all_split}
 
 -- what holds of all that is made of each element
 pub in_each : {X A : Type 0} (P : A → Type 0) (f : X → List A) (xs : List X) → AllByRecursion P (flat_map f xs) → AllByRecursion (λ x. AllByRecursion P (f x)) xs
@@ -12,7 +11,7 @@ in_each P f (x ∷ xs) h = let t = all_split P (f x) (flat_map f xs) h in (t.0, 
 
 pub of_all : {X A : Type 0} (P : A → Type 0) (f : X → List A) (xs : List X) → ((x : X) → AllByRecursion P (f x)) → AllByRecursion P (flat_map f xs)
 of_all P f [] h = tt
-of_all P f (x ∷ xs) h = all_joined P (f x) (flat_map f xs) (h x) (of_all P f xs h)
+of_all P f (x ∷ xs) h = all_append P (f x) (flat_map f xs) (h x) (of_all P f xs h)
 
 pub all_pass : {A : Type 0} (f : A → Bool) (xs : List A) → AllByRecursion (λ x. f x ≡ true) xs → list_all f xs ≡ true
 all_pass f [] h = refl

@@ -2,7 +2,7 @@
 use Rattle.std.proofs.Common.{◌≡◌, ℕ, true, List, [], ◌∷◌, option_map, Option, Some, None, refl}
 use Rattle.std.specs.List.{AllByRecursion, flat_map}
 use Rattle.std.proofs.lemmas.Bool.{false≢true}
-use Rattle.fab_base.proofs.Lists.{left_nil, right_nil, all_split}
+use Rattle.fab_base.proofs.Lists.{all_append, left_nil, right_nil, all_split, all_along}
 use Rattle.fab_tree.specs.declared.program.Parameter.{Parameter}
 use Rattle.fab_tree.specs.declared.program.Returns.{Returns}
 use Rattle.fab_tree.specs.declared.program.Return.{Return}
@@ -20,7 +20,6 @@ use Rattle.fab_language.specs.MethodNumbers.{block_of, result_of, returns_of, me
 use Rattle.fab_language.specs.Numbers.{resolved}
 use Rattle.fab_laws.specs.Kinds as n
 use Rattle.fab_laws.specs.Shapes.{is_met, is_fitting}
-use Rattle.fab_laws.proofs.Values.{all_joined, all_more}
 use Rattle.fab_shapes.proofs.Agreement.{sort_holds}
 use Rattle.fab_shapes.proofs.Faultless.{IsRightMethod, IsFaultless, faultless}
 use Rattle.fab_shapes.proofs.Lists.{from_two, all_pass}
@@ -59,12 +58,12 @@ module _ (s : Start) (classes : AllByRecursion (IsDeclared s) s.program.classes)
   methods_fit : (ms : List Method) (k : ℕ) → AllByRecursion (IsRightMethod s) ms → AllByRecursion Met (flat_map (n.method_claims (classes_in s) (methods_in s)) (methods_of s ms k).0)
   methods_fit [] k h = tt
   methods_fit (m ∷ ms) k h =
-      all_joined Met (n.method_claims (classes_in s) (methods_in s) (method_of s m k).0) (flat_map (n.method_claims (classes_in s) (methods_in s)) (methods_of s ms (method_of s m k).1).0)
+      all_append Met (n.method_claims (classes_in s) (methods_in s) (method_of s m k).0) (flat_map (n.method_claims (classes_in s) (methods_in s)) (methods_of s ms (method_of s m k).1).0)
       (method_fits m k h.0) (methods_fit ms (method_of s m k).1 h.1)
 
 -- the methods of a bundle that breaks no rule have headings whose types are declared
 pub headings_of : (s : Start) → IsFaultless s → AllByRecursion (HasHeading s) s.program.methods
-headings_of s right = all_more (IsRightMethod s) (HasHeading s) s.program.methods (λ m h. h.heading) right.methods
+headings_of s right = all_along (IsRightMethod s) (HasHeading s) (λ m h. h.heading) s.program.methods right.methods
 
 pub program_fits : (s : Start) → faults s ≡ [] → is_fitting (resolved s) ≡ true
 program_fits s e =
