@@ -29,14 +29,6 @@ names_next ts i d old new lt before put = put ∙ ap (λ names. insert_key oids.
 
 -- ---- touches are taken back
 
--- what is noted goes behind
-pub noted_begins : (site : ℕ) (o : Oid) (ts : List (ℕ × Oid)) → take (length ts) (noted site o ts) ≡ ts
-noted_begins site o ts =
-    elim (list_any (λ (t : ℕ × Oid). (t.0 == site) && is_same t.1 o) ts) as (λ b. take (length ts) (if b then ts else ts ++ (site, o) ∷ []) ≡ ts) [
-      | true ↦ take_all (length ts) ts (omega arith)
-      | false ↦ take_at ts ((site, o) ∷ []) (length ts) refl
-    ]
-
 -- names that come later come last
 once_begins : (os ps : List Oid) → (rest : List Oid) × (each_once (os ++ ps) ≡ each_once os ++ rest)
 once_begins os [] = ([], ap each_once (append-nil os) ∙ sym (append-nil (each_once os)))
