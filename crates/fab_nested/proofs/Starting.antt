@@ -5,14 +5,14 @@ use Rattle.std.specs.Map.{keys_of}
 use Rattle.std.proofs.lemmas.Bool.{false≢true}
 use Rattle.fab_base.specs.declared.object.Oid.{Oid}
 use Rattle.fab_base.specs.declared.object.Object.{Object}
-use Rattle.fab_base.specs.FlatMap.{FlatMap, is_same, is_among, get, map_of, ascends}
+use Rattle.fab_base.specs.FlatMap.{FlatMap, is_same, is_among, get, map_of}
 use Rattle.fab_language.specs.Heaps.{Heap}
 use Rattle.fab_language.specs.Meaning.{unchanged}
 use Rattle.fab_map.proofs.Made.{get-map_of}
 use Rattle.fab_map.proofs.Rows.{ascends-put_all}
 use Rattle.fab_nested.specs.declared.log.Change.{Change}
 use Rattle.fab_nested.specs.Nested.{Answers, names_of, objects_of, versions_of}
-use Rattle.fab_nested.specs.Overlay.{framed, IsKnown, IsFramed}
+use Rattle.fab_nested.specs.Overlay.{IsKnown, IsFramed}
 use Rattle.fab_nested.proofs.Naming.{keys_kept}
 use Rattle.fab_nested.proofs.Stepping.{sound_none}
 

@@ -44,9 +44,6 @@ module _ (o : Oid) (x : Object) (h : Heap) where
 
 -- ---- an object is made
 module _ (o : Oid) (x : Object) (h : Heap) where
-  pub not_made : (new : Heap) → is_spent h ≡ true → new ≡ h → Steps (created o x h) h new None
-  not_made new s e = (rw s refl, e)
-
   pub made : (rows : FlatMap) (names : List Oid) → is_spent h ≡ false → get h.rows o ≡ None → rows ≡ put o x h.rows → names ≡ h.made ++ o ∷ [] → Steps (created o x h) h (record h { rows = rows; made = names }) (Some (Made o))
   made rows names s absent e f = (
     rw s (λ i. Some (record h { rows = sym e i; made = sym f i })),

@@ -1,12 +1,12 @@
 -- Objects that are touched, as a set of names takes them, and touches that are taken back.
-use Rattle.std.proofs.Common.{◌≡◌, ℕ, ◌+◌, ◌<◌, Bool, true, false, ◌&&◌, ◌==◌, if◌then◌else◌, List, [], ◌∷◌, ◌++◌, length, get_or, map, take, drop, append-nil, refl, sym, ap, ◌∙◌, arith}
+use Rattle.std.proofs.Common.{◌≡◌, ℕ, ◌+◌, ◌<◌, Bool, true, false, if◌then◌else◌, List, [], ◌∷◌, ◌++◌, length, get_or, map, take, drop, append-nil, refl, sym, ap, ◌∙◌}
 use Rattle.std.specs.List.{list_any}
-use Rattle.std.proofs.lemmas.List.{append_assoc, map-append, take_more, take_all, take_at, take-append-drop}
+use Rattle.std.proofs.lemmas.List.{append_assoc, map-append, take_more, take_at, take-append-drop}
 use Rattle.indexmap.specs.IndexSet.{insert_key}
 use Rattle.fab_base.specs.declared.object.Oid.{Oid}
-use Rattle.fab_base.specs.FlatMap.{is_among, is_same}
+use Rattle.fab_base.specs.FlatMap.{is_among}
 use Rattle.fab_base.specs.contracts.object.OidPartialEq as oids
-use Rattle.fab_language.specs.Heaps.{each_once, noted, touched}
+use Rattle.fab_language.specs.Heaps.{each_once, touched}
 use Rattle.fab_language.proofs.Touches.{once_more, among_once}
 use Rattle.fab_nested.proofs.Naming.{among_by}
 

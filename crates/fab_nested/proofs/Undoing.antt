@@ -5,7 +5,7 @@ use Rattle.fab_base.specs.declared.object.Oid.{Oid}
 use Rattle.fab_language.specs.Heaps.{Heap}
 use Rattle.fab_nested.specs.declared.log.Change.{Change}
 use Rattle.fab_base.specs.FlatMap.{FlatMap}
-use Rattle.fab_nested.specs.Nested.{Nested, entered, aborted, merged, back_to, kept_from}
+use Rattle.fab_nested.specs.Nested.{Nested, entered, aborted, back_to}
 use Rattle.fab_nested.specs.Logs.{before, before_all, heap_at, saved_in, noted_change, IsBelow, AreMarks, IsSound, AreSound, IsLogged}
 use Rattle.fab_nested.specs.Overlay.{over, framed}
 
