@@ -67,9 +67,6 @@ module _ (versions : List (Oid × ℕ)) (known : FlatMap) (log : List Change) (h
         ap (create o x) (sym seen)
         ∙ ap (λ r. settled r (framed versions known log h marks touches)) (sym (created_over known o x h f.below.ascending f.above.now.ascending) ∙ ap (option_map (over known)) e)
 
-    pub create_stops : created o x h ≡ None → create o x n ≡ stops Writes n
-    create_stops e = create_settled None e ∙ ap (stops Writes) seen
-
     pub create_gives : (later : List Change) (new : Heap) → created o x h ≡ Some new → saved_in later new marks ≡ saved_in log h marks → create o x n ≡ gives tt (framed versions known later new marks touches)
     create_gives later new e stay =
         create_settled (Some new) e
@@ -85,11 +82,6 @@ on_false true P e f = absurd (true≢false e)
 on_false false P e f = f
 
 -- ---- what the parts say
-
--- what is there is some object
-pub there_of : (r : Option (Bor Object)) (m : Option Object) → is_some r ≡ true → option_copied r ≡ m → (x : Object) × (m ≡ Some x)
-there_of None m h e = absurd (false≢true h)
-there_of (Some b) m h e = (b.now, sym e)
 
 pub some_of : (m : Option Object) → is_some m ≡ true → (x : Object) × (m ≡ Some x)
 some_of None h = absurd (false≢true h)

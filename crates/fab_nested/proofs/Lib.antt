@@ -3,6 +3,7 @@ pub mod Calling
 pub mod Naming
 pub mod Noting
 pub mod Over
+pub mod Rows
 pub mod Starting
 pub mod Stepping
 pub mod Telling

@@ -5,14 +5,14 @@ use Rattle.std.specs.Map.{keys_of}
 use Rattle.std.proofs.lemmas.Bool.{false≢true}
 use Rattle.fab_base.specs.declared.object.Oid.{Oid}
 use Rattle.fab_base.specs.declared.object.Object.{Object}
-use Rattle.fab_base.specs.FlatMap.{FlatMap, is_same, is_among, get, map_of, ascends}
+use Rattle.fab_base.specs.FlatMap.{FlatMap, is_same, is_among, get, map_of}
 use Rattle.fab_language.specs.Heaps.{Heap}
 use Rattle.fab_language.specs.Meaning.{unchanged}
 use Rattle.fab_map.proofs.Made.{get-map_of}
 use Rattle.fab_map.proofs.Rows.{ascends-put_all}
 use Rattle.fab_nested.specs.declared.log.Change.{Change}
 use Rattle.fab_nested.specs.Nested.{Answers, names_of, objects_of, versions_of}
-use Rattle.fab_nested.specs.Overlay.{framed, IsKnown, IsFramed}
+use Rattle.fab_nested.specs.Overlay.{IsKnown, IsFramed}
 use Rattle.fab_nested.proofs.Naming.{keys_kept}
 use Rattle.fab_nested.proofs.Stepping.{sound_none}
 
@@ -37,17 +37,7 @@ answers_known answers apart = record {
 pub answers_known_as : (answers : Answers) → IsDistinct is_same (names_of answers) → (versions : List (Oid × ℕ)) (known : FlatMap) → versions ≡ versions_of answers → known ≡ map_of (objects_of answers) → IsKnown versions known
 answers_known_as answers apart versions known e f = rw (e, f) (answers_known answers apart)
 
--- a map, without versions
-pub map_known : (known : FlatMap) → ascends known ≡ true → IsKnown [] known
-map_known known h = record {
-  ascending = h;
-  versioned = λ o e. absurd (false≢true e);
-}
-
 -- nothing is changed yet
 module _ (versions : List (Oid × ℕ)) (known : FlatMap) (log : List Change) (h : Heap) (marks : List ℕ) (no_log : log ≡ []) (none : h ≡ unchanged []) (no_marks : marks ≡ []) where
   pub framed_start : IsKnown versions known → IsFramed versions known log h marks
   framed_start k = rw (no_log, none, no_marks) (record { below = k; above = record { in_order = tt; now = sound_none; saved = tt } })
-
-  pub start_is : (touches : List (ℕ × Oid)) → touches ≡ [] → framed versions known log h marks touches ≡ record { versions = versions; now = unchanged known; saved = []; touches = [] }
-  start_is touches e = rw (no_log, none, no_marks, e) refl

@@ -36,9 +36,6 @@ module _ (o : Oid) (field : ℕ) (v : Value) (x : Object) (h : Heap) where
 
 -- for the first time
 module _ (o : Oid) (x : Object) (h : Heap) where
-  pub not_joined : (new : Heap) → is_changed o h ≡ false → is_spent h ≡ true → new ≡ h → Steps (replaced o x h) h new None
-  not_joined new c s e = (rw (c, s) refl, e)
-
   pub joined : (rows : FlatMap) (names : List Oid) → is_changed o h ≡ false → is_spent h ≡ false → get h.rows o ≡ None → rows ≡ put o x h.rows → names ≡ h.written ++ o ∷ [] → Steps (replaced o x h) h (record h { rows = rows; written = names }) (Some (Joined o))
   joined rows names c s absent e f = (
     replaced_first o h x c s ∙ (λ i. Some (record h { rows = sym e i; written = sym f i })),
@@ -47,9 +44,6 @@ module _ (o : Oid) (x : Object) (h : Heap) where
 
 -- ---- an object is made
 module _ (o : Oid) (x : Object) (h : Heap) where
-  pub not_made : (new : Heap) → is_spent h ≡ true → new ≡ h → Steps (created o x h) h new None
-  not_made new s e = (rw s refl, e)
-
   pub made : (rows : FlatMap) (names : List Oid) → is_spent h ≡ false → get h.rows o ≡ None → rows ≡ put o x h.rows → names ≡ h.made ++ o ∷ [] → Steps (created o x h) h (record h { rows = rows; made = names }) (Some (Made o))
   made rows names s absent e f = (
     rw s (λ i. Some (record h { rows = sym e i; made = sym f i })),

@@ -14,14 +14,14 @@ use Rattle.fab_nested.proofs.Over.{only_over}
 or_first : (a b : Bool) → a ≡ true → (a || b) ≡ true
 or_first a b e = ap (λ c. c || b) e
 
-or_second : (a b : Bool) → b ≡ true → (a || b) ≡ true
+pub or_second : (a b : Bool) → b ≡ true → (a || b) ≡ true
 or_second true b e = refl
 or_second false b e = e
 
-written_there : (h : Heap) → IsSound h → (o : Oid) → is_among o h.written ≡ true → is_some (get h.rows o) ≡ true
+pub written_there : (h : Heap) → IsSound h → (o : Oid) → is_among o h.written ≡ true → is_some (get h.rows o) ≡ true
 written_there h s o e = s.there o ∙ or_second (is_among o h.made) (is_among o h.written) e
 
-made_there : (h : Heap) → IsSound h → (o : Oid) → is_among o h.made ≡ true → is_some (get h.rows o) ≡ true
+pub made_there : (h : Heap) → IsSound h → (o : Oid) → is_among o h.made ≡ true → is_some (get h.rows o) ≡ true
 made_there h s o e = s.there o ∙ or_first (is_among o h.made) (is_among o h.written) e
 
 module _ (versions : List (Oid × ℕ)) (known : FlatMap) (log : List Change) (h : Heap) (marks : List ℕ) (touches : List (ℕ × Oid)) (n : Nested) (seen : framed versions known log h marks touches ≡ n) (f : IsFramed versions known log h marks)

@@ -1,12 +1,12 @@
 -- Objects that are touched, as a set of names takes them, and touches that are taken back.
-use Rattle.std.proofs.Common.{◌≡◌, ℕ, ◌+◌, ◌<◌, Bool, true, false, ◌&&◌, ◌==◌, if◌then◌else◌, List, [], ◌∷◌, ◌++◌, length, get_or, map, take, drop, append-nil, refl, sym, ap, ◌∙◌, arith}
+use Rattle.std.proofs.Common.{◌≡◌, ℕ, ◌+◌, ◌<◌, Bool, true, false, if◌then◌else◌, List, [], ◌∷◌, ◌++◌, length, get_or, map, take, drop, append-nil, refl, sym, ap, ◌∙◌}
 use Rattle.std.specs.List.{list_any}
-use Rattle.std.proofs.lemmas.List.{append_assoc, map-append, take_more, take_all, take_at, take-append-drop}
+use Rattle.std.proofs.lemmas.List.{append_assoc, map-append, take_more, take_at, take-append-drop}
 use Rattle.indexmap.specs.IndexSet.{insert_key}
 use Rattle.fab_base.specs.declared.object.Oid.{Oid}
-use Rattle.fab_base.specs.FlatMap.{is_among, is_same}
+use Rattle.fab_base.specs.FlatMap.{is_among}
 use Rattle.fab_base.specs.contracts.object.OidPartialEq as oids
-use Rattle.fab_language.specs.Heaps.{each_once, noted, touched}
+use Rattle.fab_language.specs.Heaps.{each_once, touched}
 use Rattle.fab_language.proofs.Touches.{once_more, among_once}
 use Rattle.fab_nested.proofs.Naming.{among_by}
 
@@ -28,14 +28,6 @@ pub names_next : (ts : List (ℕ × Oid)) (i : ℕ) (d : ℕ × Oid) (old new : 
 names_next ts i d old new lt before put = put ∙ ap (λ names. insert_key oids.TheImpl.ghosts.eq names (get_or ts i d).1) before ∙ sym (touched_next ts i d lt)
 
 -- ---- touches are taken back
-
--- what is noted goes behind
-pub noted_begins : (site : ℕ) (o : Oid) (ts : List (ℕ × Oid)) → take (length ts) (noted site o ts) ≡ ts
-noted_begins site o ts =
-    elim (list_any (λ (t : ℕ × Oid). (t.0 == site) && is_same t.1 o) ts) as (λ b. take (length ts) (if b then ts else ts ++ (site, o) ∷ []) ≡ ts) [
-      | true ↦ take_all (length ts) ts (omega arith)
-      | false ↦ take_at ts ((site, o) ∷ []) (length ts) refl
-    ]
 
 -- names that come later come last
 once_begins : (os ps : List Oid) → (rest : List Oid) × (each_once (os ++ ps) ≡ each_once os ++ rest)

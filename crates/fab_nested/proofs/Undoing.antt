@@ -5,7 +5,7 @@ use Rattle.fab_base.specs.declared.object.Oid.{Oid}
 use Rattle.fab_language.specs.Heaps.{Heap}
 use Rattle.fab_nested.specs.declared.log.Change.{Change}
 use Rattle.fab_base.specs.FlatMap.{FlatMap}
-use Rattle.fab_nested.specs.Nested.{Nested, entered, aborted, merged, back_to, kept_from}
+use Rattle.fab_nested.specs.Nested.{Nested, entered, aborted, back_to}
 use Rattle.fab_nested.specs.Logs.{before, before_all, heap_at, saved_in, noted_change, IsBelow, AreMarks, IsSound, AreSound, IsLogged}
 use Rattle.fab_nested.specs.Overlay.{over, framed}
 
@@ -172,28 +172,10 @@ module _ (log : List Change) (h : Heap) (marks others : List ℕ) (k : ℕ) (l :
         ∙ ap (λ hs. back_to (map (over known) hs) (framed versions known log h marks touches)) (sym (ap (saved_in log h) e ∙ saved_last log h others k))
         ∙ ap aborted seen
 
-  pub merged_is : (versions : List (Oid × ℕ)) (known : FlatMap) (touches : List (ℕ × Oid)) (n : Nested) → framed versions known log h marks touches ≡ n → framed versions known log h others touches ≡ merged n
-  merged_is versions known touches n seen =
-      ap (λ hs. kept_from (map (over known) hs) (framed versions known log h marks touches)) (sym (ap (saved_in log h) e ∙ saved_last log h others k))
-      ∙ ap merged seen
-
 -- whether there is a mark or not
 pub popped_logged : (log : List Change) (h : Heap) (marks others : List ℕ) (r : Option ℕ) → IsLogged log h marks → marks ≡ others ++ option_to_list r → IsLogged log h others
 popped_logged log h marks others None l e = subst (IsLogged log h) (e ∙ append-nil others) l
 popped_logged log h marks others (Some k) l e = merged_logged log h marks others k l e
-
--- where there is no mark, the log may be any
-pub bare_is : (versions : List (Oid × ℕ)) (known : FlatMap) (log other : List Change) (h : Heap) (marks : List ℕ) (touches : List (ℕ × Oid)) → marks ≡ [] → framed versions known other h marks touches ≡ framed versions known log h marks touches
-bare_is versions known log other h marks touches e = rw e refl
-
--- the last mark is taken off, if there is one
-pub popped_is : (versions : List (Oid × ℕ)) (known : FlatMap) (log : List Change) (h : Heap) (marks others : List ℕ) (r : Option ℕ) (touches : List (ℕ × Oid)) (n : Nested) → IsLogged log h marks → marks ≡ others ++ option_to_list r → (r ≡ None → marks ≡ []) → framed versions known log h marks touches ≡ n → framed versions known log h others touches ≡ merged n
-popped_is versions known log h marks others None touches n l e none seen =
-    let same : others ≡ marks = sym (e ∙ append-nil others) in
-    (λ i. framed versions known log h (same i) touches)
-    ∙ ap (λ ks. kept_from (map (over known) (saved_in log h ks)) (framed versions known log h marks touches)) (sym (none refl))
-    ∙ ap merged seen
-popped_is versions known log h marks others (Some k) touches n l e none seen = merged_is log h marks others k l e versions known touches n seen
 
 -- the heap is saved
 pub entered_is : (versions : List (Oid × ℕ)) (known : FlatMap) (log : List Change) (h : Heap) (marks later : List ℕ) (touches : List (ℕ × Oid)) (n : Nested) → later ≡ marks ++ length log ∷ [] → framed versions known log h marks touches ≡ n → framed versions known log h later touches ≡ entered n

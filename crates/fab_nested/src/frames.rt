@@ -1,14 +1,16 @@
 //! Frames: one heap, with the heaps to which a failure may have to go back.
-ghost use Rattle.std.specs.Prelude.{◌≡◌, [], length, take, true, false, None, Some, IfOk, OnOk, OnErr, if◌then◌else◌};
+ghost use Rattle.std.specs.Prelude.{◌≡◌, ◌++◌, [], length, take, true, false, None, Some, IfOk, OnOk, OnErr, if◌then◌else◌};
 ghost use Rattle.std.specs.Bool.{OnFalse};
 ghost use Rattle.std.specs.List.{IsDistinct};
 ghost use Rattle.fab_base.specs.declared.object.Object.{Object as AnyObject};
-ghost use Rattle.fab_base.specs.FlatMap.{get, is_same};
+ghost use Rattle.fab_base.specs.FlatMap.{ascends, get, is_same};
 ghost use Rattle.fab_language.specs.Heaps.{found, full, index_at, is_changed, reach_in, touched};
 ghost use Rattle.fab_nested.specs.Calls.{Gives};
+ghost use Rattle.fab_nested.specs.Effects.{objects_at};
 ghost use Rattle.fab_nested.specs.Nested.{aborted, answered, create, creates_in, entered, merged, names_of, nested_of, nested_over, read, write, writes_in};
 
 use crate::answers::{copies, version_of, versions_of, with_field};
+use crate::copies::{map_copy, put_all_found, put_rows};
 use crate::frame_error::FrameError;
 use crate::known::{Known, field_at};
 use crate::log::{Change, note, undo_to};
@@ -267,6 +269,39 @@ impl<'a> Frames<'a> {
             }
         }
         Ok((writes, creates))
+    }
+
+    /// Copies of the objects that were written, and then of those that were made, in the order in which
+    /// they came.
+    pub fn changes(&self) -> Result<Seq<(Oid, Object)>, NoMemory>
+        ensures rows { IfOk result (λ rows. rows ≡ objects_at self.now.now.rows (self.now.now.written ++ self.now.now.made)) }
+        ensures ascends { ascends self.now.now.rows ≡ true }
+    {
+        let alloc = *self.log.allocator();
+        let objects = &self.objects;
+        let mut rows = Seq::new(alloc);
+        put_all_found(
+            alloc,
+            &mut rows,
+            &objects.changed,
+            objects.written.as_slice(),
+        )?;
+        put_all_found(alloc, &mut rows, &objects.changed, objects.made.as_slice())?;
+        Ok(rows)
+    }
+
+    /// All objects as they are now, and the names that were written and made.
+    pub fn parts(&self) -> Result<(ObjectMap, Seq<Oid>, Seq<Oid>), NoMemory>
+        ensures rows { IfOk result (λ r. r.0 ≡ self.now.now.rows) }
+        ensures written { IfOk result (λ r. r.1 ≡ self.now.now.written) }
+        ensures made { IfOk result (λ r. r.2 ≡ self.now.now.made) }
+    {
+        let alloc = *self.log.allocator();
+        let mut rows = map_copy(alloc, self.known.map())?;
+        put_rows(alloc, &mut rows, self.objects.changed.rows())?;
+        let written = Seq::from_slice(alloc, self.objects.written.as_slice())?;
+        let made = Seq::from_slice(alloc, self.objects.made.as_slice())?;
+        Ok((rows, written, made))
     }
 }
 
