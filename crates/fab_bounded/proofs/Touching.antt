@@ -1,5 +1,5 @@
 -- What a request lacks it touches, once it is there.
-use Rattle.std.proofs.Common.{◌≡◌, ℕ, ◌<◌, Bool, true, false, if◌then◌else◌, List, [], ◌∷◌, ◌++◌, map, length, Option, Some, None, refl, sym, ap, ◌∙◌, subst, arith, append-nil, length-append}
+use Rattle.std.proofs.Common.{◌≡◌, ℕ, ◌<◌, Bool, true, false, List, [], ◌∷◌, ◌++◌, map, length, Option, Some, None, refl, sym, ap, ◌∙◌, subst, arith, append-nil, length-append}
 use Rattle.std.proofs.lemmas.List.{map-append}
 use Rattle.fab_base.specs.declared.object.Oid.{Oid}
 use Rattle.fab_base.specs.declared.object.Object.{Object}
@@ -11,7 +11,7 @@ use Rattle.fab_tree.specs.declared.resolved.Request.{Request}
 use Rattle.fab_tree.specs.declared.resolved.Resolved.{Resolved}
 use Rattle.fab_tree.specs.declared.start.Start.{Start}
 use Rattle.fab_language.specs.declared.ending.Ending.TheVariants.{Stopped, Missing}
-use Rattle.fab_language.specs.Heaps.{each_once, touched, without}
+use Rattle.fab_language.specs.Heaps.{each_once, touched}
 use Rattle.fab_language.specs.Meaning.{Meant, meaning}
 use Rattle.fab_language.specs.Numbers.{resolved}
 use Rattle.fab_laws.specs.Locality.{AgreesOn, IsPart, IsSameOver}

@@ -1,14 +1,14 @@
 -- What waits in a queue stays there until it is delivered, and what is sent to a node that is up waits.
-use Rattle.std.proofs.Common.{◌≡◌, ◌⊎◌, inl, inr, ℕ, List, [], ◌∷◌, map, Bool, true, false, not, ◌&&◌, ◌==◌, IsTrue}
-use Rattle.std.proofs.Common.{◌<◌, Some, refl, sym, ap, ◌∙◌, subst, true≢false, if◌then◌else◌, arith}
-use Rattle.std.specs.List.{filter, list_all, range_with_len}
-use Rattle.std.proofs.lemmas.Bool.{and_from, cases_eq, eq-eqb, not_from_false, or_cases}
+use Rattle.std.proofs.Common.{◌≡◌, ◌⊎◌, inl, inr, ℕ, List, [], ◌∷◌, map, true, false, not, ◌&&◌, ◌==◌, IsTrue}
+use Rattle.std.proofs.Common.{Some, refl, sym, ap, ◌∙◌, subst, true≢false, if◌then◌else◌}
+use Rattle.std.specs.List.{filter}
+use Rattle.std.proofs.lemmas.Bool.{and_from, cases_eq, eq-eqb, not_from_false}
 use Rattle.fab_base.specs.declared.message.Message.{Message}
 use Rattle.fab_base.specs.MessageSpelling.{IsBody, spelled}
 use Rattle.fab_base.specs.FieldSpelling.{sent_version}
 use Rattle.fab_net.specs.declared.event.Inner.{Inner}
 use Rattle.fab_net.specs.declared.event.Inner.TheVariants as i
-use Rattle.fab_rights.specs.Computed.{is_node, is_store, is_worker, nodes_in}
+use Rattle.fab_rights.specs.Computed.{is_node}
 use Rattle.fab_world.specs.Machine.{Setting, World, bytes_to, front_of, is_empty, lands, node_of, ready, rest_of}
 use Rattle.fab_world.specs.Serial.{IsSetting}
 use Rattle.fab_world.specs.Workers.{Act}

@@ -35,7 +35,8 @@ use Rattle.fab_tree.specs.declared.expression.UnaryOperator.TheVariants as unary
 use Rattle.fab_language.specs.Heaps.{Heap, full, found, reach_in, reach_before, is_among, is_full, touched, noted, with_row, is_changed, is_spent}
 use Rattle.fab_language.specs.Meaning.{State, End, failed, stopped, missing, Run, goes, ends, M, and_then, gives, ◌>>=◌, ◌>>◌, charge, local, assign, reached, access, field_of, with_field, read, settled, replace, write, applied}
 use Rattle.fab_language.specs.Meaning.{next_name, create, noted_down, holds, quotient, operate, chained, form_step, value, values, in_order, turns, or_else, atomically, right, statement_step, statement, block, returned, body_of, locals_at_start, back_with, entered, called}
-use Rattle.fab_laws.specs.Kinds.{Kind, number, object, nothing, unknown, kind_at, class_kinds, field_kind, local_kinds, parameter_kinds, returns_kind, result_kind, Claim, given, counted, made, each_given, all_given, joined, chain_kind, applied_kind, form_kind, kind_of, right_kind, right_claims, call_claims, all_of, statement_claims_step, statement_claims, block_claims, returned_kind, method_claims}
+use Rattle.fab_laws.specs.Kinds.{Kind, number, object, nothing, unknown, kind_at, class_kinds, field_kind, local_kinds, parameter_kinds, returns_kind, result_kind}
+use Rattle.fab_laws.specs.Kinds.{Claim, given, counted, made, each_given, all_given, joined, chain_kind, applied_kind, form_kind, kind_of, right_kind, right_claims, call_claims, all_of, statement_claims_step, statement_claims, block_claims, returned_kind, method_claims}
 use Rattle.fab_laws.proofs.Names.{with_written, with_new}
 use Rattle.fab_laws.proofs.Values.{all_any}
 use Rattle.fab_base.specs.Values.{is_number_of}

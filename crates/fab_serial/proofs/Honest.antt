@@ -1,18 +1,15 @@
 -- The commits of a run are of nodes that aren't hostile.
-use Rattle.std.proofs.Common.{◌≡◌, ℕ, Bool, true, false, List, [], ◌∷◌, ◌++◌, length, refl, sym, ap, subst, inl, inr, ◌∙◌}
-use Rattle.std.specs.Prelude.{not, ◌&&◌, nat_lt, nat_le, if◌then◌else◌, filter, flat_map, IsTrue, is_some}
-use Rattle.std.specs.List.{list_all}
-use Rattle.std.proofs.lemmas.Bool.{and_parts, not-true}
+use Rattle.std.proofs.Common.{◌≡◌, Bool, true, false, List, [], ◌∷◌, ◌++◌, length, refl, sym, ap, subst, inl, inr, ◌∙◌}
+use Rattle.std.specs.Prelude.{not, ◌&&◌, nat_le, if◌then◌else◌, filter, flat_map, IsTrue, is_some}
+use Rattle.std.proofs.lemmas.Bool.{and_parts}
 use Rattle.std.proofs.lemmas.List.Elements.{filter-append}
 use Rattle.fab_net.specs.declared.event.Inner.{Inner}
-use Rattle.fab_net.specs.declared.event.Inner.TheVariants as i
 use Rattle.fab_net.specs.declared.note.Commit.{Commit}
-use Rattle.fab_rights.specs.Computed.{is_node, is_worker, nodes_in}
 use Rattle.fab_integrity.proofs.Costs.{commit_at, goes_act}
 use Rattle.fab_integrity.proofs.Steps.{may_honest}
 use Rattle.fab_world.specs.Machine.{Setting, World, Move, Form, Does, Cuts, Fails, Posts, Crashes, Never}
-use Rattle.fab_world.specs.Machine.{act, are_enabled, at_start, enabled, form_of, is_empty, is_evaluating, is_idle, is_running, is_settled, is_whole}
-use Rattle.fab_world.specs.Machine.{kept, lacks, logged, logs, may, node_of, notes_at, notes_if, record_at, step}
+use Rattle.fab_world.specs.Machine.{act, are_enabled, at_start, enabled, form_of, is_whole}
+use Rattle.fab_world.specs.Machine.{kept, logged, logs, may, node_of, notes_at, notes_if, record_at, step}
 use Rattle.fab_world.specs.Serial.{commit_in, commits_in}
 use Rattle.fab_serial.specs.Replays.{commits_at}
 use Rattle.fab_serial.proofs.Steps.{all_pass}
@@ -35,8 +32,7 @@ module _ (S : Setting) where
       → filter is_honest (flat_map commit_in (notes_at S w form)) ≡ flat_map commit_in (notes_at S w form)
   notes_honest w (Does e) h = act_honest w e (may_honest S w e h)
   notes_honest w (Cuts keep e) h =
-      let can = first_of_two (may S w e) (is_some (act S w e).entry)
-      (first_of_two (may S w e && is_some (act S w e).entry) (nat_le keep (length (record_at S w e))) h) in
+      let can = (and_parts (may S w e) (is_some (act S w e).entry) (and_parts (may S w e && is_some (act S w e).entry) (nat_le keep (length (record_at S w e))) h).0).0 in
       elim (is_whole S w (Cuts keep e)) as (λ b. filter is_honest (flat_map commit_in (notes_if S b (act S w e).notes)) ≡ flat_map commit_in (notes_if S b (act S w e).notes)) [
         | true ↦ act_honest w e (may_honest S w e can)
         | false ↦ refl

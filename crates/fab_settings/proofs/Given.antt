@@ -7,7 +7,7 @@ use Rattle.fab_base.specs.declared.object.Oid.{Oid}
 use Rattle.fab_base.specs.declared.object.Object.{Object}
 use Rattle.fab_base.specs.declared.object.Value.{Value}
 use Rattle.fab_base.specs.FlatMap.{FlatMap, get, ascends}
-use Rattle.fab_base.proofs.Lists.{all_split, at_index}
+use Rattle.fab_base.proofs.Lists.{all_split, at_index, all_two}
 use Rattle.fab_map.proofs.Rows.{ascends-put_all}
 use Rattle.fab_tree.specs.declared.start.Literal.{Literal}
 use Rattle.fab_tree.specs.declared.start.Literal.TheVariants as literals
@@ -27,7 +27,6 @@ use Rattle.fab_language.specs.Names.{named, number_of, root_name}
 use Rattle.fab_language.specs.Numbers.{oid_of, reference_to, value_of, values_of, root_of, roots_from, asked_from, session_of, resolved}
 use Rattle.fab_laws.specs.Origins.{Passes, AllPass}
 use Rattle.fab_laws.specs.Shapes.{IsFitting}
-use Rattle.fab_shapes.proofs.Lists.{from_two}
 use Rattle.fab_shapes.proofs.Maps.{each_of_map}
 use Rattle.fab_shapes.proofs.Named.{at_number}
 use Rattle.fab_shapes.proofs.Objects.{objects_have_shapes}
@@ -137,9 +136,9 @@ module _ (s : Start) (rights : Rights) (a : IsAcceptedWith s rights) where
 
   roots_pass : AllByRecursion (λ x. p x.oid ≡ true) bundle.roots
   roots_pass =
-      from_two (λ x. IsHeld bundle x.oid) (λ x. is_spelled x.oid ≡ true) (λ x. p x.oid ≡ true) bundle.roots
-      (λ x held spelled. and_from (may_hold rights x.oid.store x.oid.class) (is_spelled x.oid)
+      all_two (λ x. IsHeld bundle x.oid) (λ x. is_spelled x.oid ≡ true) (λ x. p x.oid ≡ true) (λ x held spelled. and_from (may_hold rights x.oid.store x.oid.class) (is_spelled x.oid)
       (number_holds bundle rights a.rights_are x.oid.store x.oid.class held) spelled)
+      bundle.roots
       (roots_held bundle a.labelled)
       (spelled_from s s.roots 0 (let n = few_roots s a.within in omega (arith, n)))
 

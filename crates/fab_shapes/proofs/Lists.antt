@@ -17,11 +17,7 @@ pub all_pass : {A : Type 0} (f : A → Bool) (xs : List A) → AllByRecursion (�
 all_pass f [] h = refl
 all_pass f (x ∷ xs) h = and_from (f x) (list_all f xs) h.0 (all_pass f xs h.1)
 
--- what follows from two or three facts of one element
-pub from_two : {A : Type 0} (P Q R : A → Type 0) (xs : List A) → ((x : A) → P x → Q x → R x) → AllByRecursion P xs → AllByRecursion Q xs → AllByRecursion R xs
-from_two P Q R [] f p q = tt
-from_two P Q R (x ∷ xs) f p q = (f x p.0 q.0, from_two P Q R xs f p.1 q.1)
-
+-- what follows from three facts of one element
 pub from_three : {A : Type 0} (P Q R S : A → Type 0) (xs : List A) → ((x : A) → P x → Q x → R x → S x) → AllByRecursion P xs → AllByRecursion Q xs → AllByRecursion R xs → AllByRecursion S xs
 from_three P Q R S [] f p q r = tt
 from_three P Q R S (x ∷ xs) f p q r = (f x p.0 q.0 r.0, from_three P Q R S xs f p.1 q.1 r.1)

@@ -2,7 +2,7 @@
 use Rattle.std.proofs.Common.{◌≡◌, ℕ, true, List, [], ◌∷◌, option_map, Option, Some, None, refl}
 use Rattle.std.specs.List.{AllByRecursion, flat_map}
 use Rattle.std.proofs.lemmas.Bool.{false≢true}
-use Rattle.fab_base.proofs.Lists.{all_append, left_nil, right_nil, all_split, all_along}
+use Rattle.fab_base.proofs.Lists.{all_append, left_nil, right_nil, all_split, all_along, all_two}
 use Rattle.fab_tree.specs.declared.program.Parameter.{Parameter}
 use Rattle.fab_tree.specs.declared.program.Returns.{Returns}
 use Rattle.fab_tree.specs.declared.program.Return.{Return}
@@ -22,7 +22,7 @@ use Rattle.fab_laws.specs.Kinds as n
 use Rattle.fab_laws.specs.Shapes.{is_met, is_fitting}
 use Rattle.fab_shapes.proofs.Agreement.{sort_holds}
 use Rattle.fab_shapes.proofs.Faultless.{IsRightMethod, IsFaultless, faultless}
-use Rattle.fab_shapes.proofs.Lists.{from_two, all_pass}
+use Rattle.fab_shapes.proofs.Lists.{all_pass}
 use Rattle.fab_shapes.proofs.Locals.{classes_in, IsDeclared, IsKnown, local_kinds}
 use Rattle.fab_shapes.proofs.Methods.{Met, HasHeading, methods_in, given_fits}
 use Rattle.fab_shapes.proofs.Statements.{IsRight, IsFirst, block_fits}
@@ -49,7 +49,7 @@ module _ (s : Start) (classes : AllByRecursion (IsDeclared s) s.program.classes)
   method_fits m k right =
       let locals = locals_of m in
       let ps = all_split (IsFirst locals) m.parameters (flat_map declared_in m.body) right.once in
-      let known : AllByRecursion (IsKnown s locals) m.parameters = from_two (IsFirst locals) (λ (p : Parameter). in_sort s p.sort ≡ []) (IsKnown s locals) m.parameters (λ p i d. record { itself = i; declared = d }) ps.0 right.heading.parameters in
+      let known : AllByRecursion (IsKnown s locals) m.parameters = all_two (IsFirst locals) (λ (p : Parameter). in_sort s p.sort ≡ []) (IsKnown s locals) (λ p i d. record { itself = i; declared = d }) m.parameters ps.0 right.heading.parameters in
       let body = heads_in m.body m.parameters in
       let hs = all_split (IsRight s m.returns) body.heads (result_heads m.result body.behind) right.heads in
       let b = block_fits s classes headings locals m.returns m.body m.parameters k known ps.1 hs.0 in

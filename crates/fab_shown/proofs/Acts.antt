@@ -3,7 +3,7 @@ use Rattle.std.proofs.Common.{◌≡◌, ◌⊎◌, inl, inr, ℕ, suc, ◌+◌,
 use Rattle.std.proofs.Common.{Option, Some, None, refl, sym, ap, ◌∙◌, subst, true≢false, arith}
 use Rattle.std.specs.Prelude.{fold, nat_lt}
 use Rattle.std.specs.List.{AllByRecursion}
-use Rattle.std.proofs.lemmas.Bool.{and_parts, both_ways, false_from_ne_true, not-true, or_cases}
+use Rattle.std.proofs.lemmas.Bool.{and_parts, both_ways, or_cases}
 use Rattle.std.proofs.lemmas.List.{length-append, length-map}
 use Rattle.fab_base.specs.declared.entry.Entry.{Entry}
 use Rattle.fab_base.specs.declared.entry.Entry.TheVariants as e
@@ -32,7 +32,7 @@ use Rattle.fab_protocol.specs.Versions.{Row, objects_of}
 use Rattle.fab_protocol.proofs.Kept.{says_can_keep}
 use Rattle.fab_protocol.proofs.Records.{worker_below}
 use Rattle.fab_world.specs.Attempts.{value_of}
-use Rattle.fab_world.specs.Machine.{Setting, World, act, front_of, hears, is_evaluating, is_running, kept, lacks, may, meant, node_of, of_store, parts, shelf}
+use Rattle.fab_world.specs.Machine.{Setting, World, act, front_of, hears, is_evaluating, kept, lacks, may, meant, node_of, of_store, parts, shelf}
 use Rattle.fab_world.specs.Serial.{AreFit, IsEvaluation, IsFit, IsSetting}
 use Rattle.fab_world.specs.Workers as workers
 use Rattle.fab_world.specs.Workers.{Act, Attempt, Phase, request_of, stays, takes, tid_of, wakes}
