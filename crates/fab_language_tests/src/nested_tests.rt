@@ -1,7 +1,6 @@
 //! An account that was answered and one that is made, with a write that is undone and one that is kept.
 
 use fab_base::{NoMemory, Object, Oid, Seq, Value};
-use fab_map::ObjectMap;
 use fab_nested::{FrameError, Frames};
 use std::alloc::Global;
 use std::test::Fail;
@@ -65,23 +64,5 @@ fn a_write_is_undone_and_one_is_kept(rt: HostRuntime) -> Result<(), Fail> {
     assert!(rt; undone(&mut frames)? == Value::Int(100));
     assert!(rt; kept(&mut frames)? == Value::Int(95));
     assert!(rt; counts(&frames)? == (1, 1));
-    Ok(())
-}
-
-/// Another account is answered while a heap is saved, over a map that is lent.
-fn answered_later(alloc: Global) -> Result<(Value, Value), FrameError> {
-    let mut known = ObjectMap::new(alloc);
-    known.put(ACCOUNT, account(alloc, 100)?)?;
-    let mut frames = Frames::over(alloc, &known);
-    frames.enter()?;
-    frames.answer(NEW, 7, account(alloc, 20)?)?;
-    frames.write(3, ACCOUNT, 0, Value::Int(95))?;
-    frames.abort();
-    Ok((frames.read(5, ACCOUNT, 0)?, frames.read(5, NEW, 0)?))
-}
-
-#[test]
-fn an_answer_is_in_each_heap(rt: HostRuntime) -> Result<(), Fail> {
-    assert!(rt; answered_later(rt.alloc())? == (Value::Int(100), Value::Int(20)));
     Ok(())
 }
