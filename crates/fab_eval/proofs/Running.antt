@@ -1,109 +1,125 @@
--- Statements and calls: what is left of each piece once the calls before have given what they did.
-use Rattle.std.proofs.Common.{◌≡◌, ℕ, zero, suc, ◌<◌, ◌≤◌, Bool, true, false, List, drop, length, get_or, Option, Result, Ok, Err, refl, sym, ap, ◌∙◌, subst, arith}
+-- Steps one after another, and the ends of a run.
+use Rattle.std.proofs.Common.{◌≡◌, ℕ, suc, List, [], ◌∷◌, ◌++◌, length, Option, Some, None, Result, Ok, Err, Bool, true, false, refl, sym, ap, ◌∙◌, subst, arith}
+use Rattle.std.specs.declared.alloc.AllocError.{AllocError}
+use Rattle.fab_base.specs.declared.object.Oid.{Oid}
 use Rattle.fab_base.specs.declared.object.Tid.{Tid}
 use Rattle.fab_base.specs.declared.object.Value.{Value}
+use Rattle.fab_base.specs.declared.object.Stop.{Stop}
+use Rattle.fab_base.specs.FlatMap.{FlatMap}
 use Rattle.fab_tree.specs.declared.resolved.Statement.{Statement}
 use Rattle.fab_tree.specs.declared.resolved.Resolved.{Resolved}
-use Rattle.fab_language.specs.Meaning.{State, Run, goes, M, charge, holds, turns, or_else, statement, block, called, back_with}
+use Rattle.fab_language.specs.Heaps.{Heap}
+use Rattle.fab_language.specs.Meaning.{State, Run, goes, ends, End, failed, stopped, missing, back_with, returned}
+use Rattle.fab_left.specs.Acts.{meanings}
+use Rattle.fab_left.specs.Left as left
+use Rattle.fab_left.specs.Left.{Place, Means, left, rest, tried, returning, AllStem, DiffersLittle, before}
+use Rattle.fab_left.specs.Steps.{EndsSo, ended}
+use Rattle.fab_left.proofs.Split.{plain_split}
+use Rattle.fab_left.proofs.Stepping.{all_ended, block_failed, call_failed, trial_failed}
+use Rattle.fab_left.proofs.Stemming.{caught_stems, popped_stems}
+use Rattle.fab_left.proofs.Lacking.{put_back}
+use Rattle.fab_eval.specs.declared.stack.Entry.{Entry}
+use Rattle.fab_eval.specs.declared.stepping.Way.{Way}
+use Rattle.fab_eval.specs.declared.stepping.Way.TheVariants.{Over, Lacks}
 use Rattle.fab_eval.specs.declared.halt.End.TheVariants.{Failed, Stopped, Missing}
-use Rattle.fab_eval.specs.declared.halt.Halt.{Halt}
-use Rattle.fab_eval.specs.declared.halt.Halt.TheVariants.{Memory, Ended}
-use Rattle.fab_eval.specs.Points.{Base, Point, with_locals, with_saved, top_of, under, saving, aborted}
-use Rattle.fab_eval.specs.Gives.{Gives, Keeps, went_on}
-use Rattle.fab_values.specs.Pieces.{choice}
-use Rattle.fab_values.proofs.Steps.{next_statement, charge_none, turns_on}
+use Rattle.fab_eval.specs.Points.{Point, top_of, under}
+use Rattle.fab_eval.specs.Stacks.{entries_of, trials, heap_at}
+use Rattle.fab_eval.specs.Stepping.{GoesOn, FailsSo, LacksSo, Unwinds, Runs, Turns}
+use Rattle.fab_eval.proofs.Stacks.{put_one, put_try, trials_more}
 
--- ---- the attempt is the same
+-- ---- a failure goes on
 
--- a block in an attempt, where so many calls more may be open
-abbrev pub block_in : Resolved → ℕ → List Statement → Tid → M (Unit {0})
-block_in program depth ss tid = block tid (called program tid depth) ss
+module _ (m : Means) (first : Place) where
+  pub unwinds_block : (old new : List Entry) (k : Entry) (p : Place) (ss : List Statement) (heaps : List Heap) (t : State) (more : FlatMap) → old ≡ new ++ k ∷ [] → trials (k ∷ []) ≡ 0 → entries_of (k ∷ []) heaps ≡ rest p ss ∷ []
+      → ended m first (entries_of old heaps) failed t more ≡ ended m first (entries_of new heaps) failed t more
+  unwinds_block old new k p ss heaps t more e z is =
+      ap (λ l. ended m first l failed t more) (put_one new old k heaps e z ∙ ap (λ l. entries_of new heaps ++ l) is) ∙ block_failed m first (entries_of new heaps) p ss t more
 
-pub in_same : {A : Type 0} (result : Result A Halt) (new : Point) (run : Tid → Run A) (a b : Base) → a ≡ b → Gives result new (run a.tid) → Gives result new (run b.tid)
-in_same result new run a b e g = subst (λ (x : Base). Gives result new (run x.tid)) e g
+  pub unwinds_call : (old new : List Entry) (k : Entry) (callee caller : Place) (locals : List Value) (target : Option ℕ) (heaps : List Heap) (t : State) (more : FlatMap) → old ≡ new ++ k ∷ [] → trials (k ∷ []) ≡ 0
+      → entries_of (k ∷ []) heaps ≡ returning callee caller locals target ∷ [] → ended m first (entries_of old heaps) failed t more ≡ ended m first (entries_of new heaps) failed (record t { locals = locals }) more
+  unwinds_call old new k callee caller locals target heaps t more e z is =
+      ap (λ l. ended m first l failed t more) (put_one new old k heaps e z ∙ ap (λ l. entries_of new heaps ++ l) is) ∙ call_failed m first (entries_of new heaps) callee caller locals target t more
 
--- ---- blocks
+  -- at the last block that is tried
+  pub caught : (old mid new : List Entry) (k j : Entry) (p : Place) (locals : List Value) (ss : List Statement) (heaps : List Heap) (t : State) (more : FlatMap) → old ≡ mid ++ k ∷ [] → trials (k ∷ []) ≡ 1 → trials old ≡ length heaps
+      → entries_of (k ∷ []) heaps ≡ tried p locals (heap_at 0 heaps) ss ∷ [] → new ≡ mid ++ j ∷ [] → trials (j ∷ []) ≡ 0 → entries_of (j ∷ []) (under heaps) ≡ rest p ss ∷ []
+      → ended m first (entries_of old heaps) failed t more ≡ left m first (entries_of new (under heaps)) (record t { locals = locals; heap = top_of heaps t.heap }) more
+  caught old mid new k j p locals ss [] t more e one count is f z js = absurd (none (sym (trials_more mid k one) ∙ ap trials (sym e) ∙ count))
+    where
+      none : suc (trials mid) ≡ 0 → ⊥
+      none g = omega (arith, g)
+  caught old mid new k j p locals ss (h ∷ heaps) t more e one count is f z js =
+      ap (λ l. ended m first l failed t more) (put_try mid old k h heaps e one ∙ ap (λ l. entries_of mid heaps ++ l) is)
+      ∙ trial_failed m first (entries_of mid heaps) p locals h ss t more
+      ∙ ap (λ l. left m first l (record t { locals = locals; heap = h }) more) (sym (put_one mid new j heaps f z ∙ ap (λ l. entries_of mid heaps ++ l) js))
 
--- a statement ended
-pub block_ends : (tid : Tid) (call : ℕ → List Value → M (Option Value)) (ss : List Statement) (i : ℕ) (x : Statement) (p : State) (q : Point) (h : Halt) (all : Run (Unit {0})) → i < length ss → x ≡ get_or ss i x → Gives {A = Unit {0}} (Err h) q (statement tid call x p) → block tid call (drop i ss) p ≡ all → Gives {A = Unit {0}} (Err h) q all
-block_ends tid call ss i x p q Memory all le e g same = tt
-block_ends tid call ss i x p q (Ended end) all le e g same = sym same ∙ next_statement tid call ss i x p le e ∙ rw g refl
+module _ (tid : Tid) (known : FlatMap) where
+  pub unwound_stems : (old new : List Entry) (k : Entry) (e : left.Entry) (heaps : List Heap) (t : State) (locals : List Value) → old ≡ new ++ k ∷ [] → trials (k ∷ []) ≡ 0 → entries_of (k ∷ []) heaps ≡ e ∷ []
+      → AllStem tid known (entries_of old heaps) t → AllStem tid known (entries_of new heaps) (record t { locals = locals })
+  unwound_stems old new k e heaps t locals f z is st =
+      popped_stems tid known (entries_of new heaps) e t locals (subst (λ (l : List left.Entry). AllStem tid known l t) (put_one new old k heaps f z ∙ ap (λ l. entries_of new heaps ++ l) is) st)
 
--- ---- choices
+  pub caught_stem : (old mid new : List Entry) (k j : Entry) (p : Place) (locals : List Value) (ss : List Statement) (heaps : List Heap) (t : State) → old ≡ mid ++ k ∷ [] → trials (k ∷ []) ≡ 1 → trials old ≡ length heaps
+      → entries_of (k ∷ []) heaps ≡ tried p locals (heap_at 0 heaps) ss ∷ [] → new ≡ mid ++ j ∷ [] → trials (j ∷ []) ≡ 0 → entries_of (j ∷ []) (under heaps) ≡ rest p ss ∷ []
+      → AllStem tid known (entries_of old heaps) t → AllStem tid known (entries_of new (under heaps)) (record t { locals = locals; heap = top_of heaps t.heap })
+  caught_stem old mid new k j p locals ss [] t e one count is f z js st = absurd (none (sym (trials_more mid k one) ∙ ap trials (sym e) ∙ count))
+    where
+      none : suc (trials mid) ≡ 0 → ⊥
+      none g = omega (arith, g)
+  caught_stem old mid new k j p locals ss (h ∷ heaps) t e one count is f z js st =
+      subst (λ (l : List left.Entry). AllStem tid known l (record t { locals = locals; heap = h })) (sym (put_one mid new j heaps f z ∙ ap (λ l. entries_of mid heaps ++ l) js))
+      (caught_stems tid known (entries_of mid heaps) p locals h ss t (subst (λ (l : List left.Entry). AllStem tid known l t) (put_try mid old k h heaps e one ∙ ap (λ l. entries_of mid heaps ++ l) is) st))
 
-pub choice_first : (result : Result (Unit {0}) Halt) (new : Point) (test : M Value) (first second : M (Unit {0})) (p q r : State) (v : Value) → charge p ≡ goes tt q → test q ≡ goes v r → holds v ≡ true → Gives result new (first r) → Gives result new (choice test first second p)
-choice_first result new test first second p q r v e1 e2 e3 g = rw (e1, e2, e3) g
+-- ---- steps one after another
 
-pub choice_second : (result : Result (Unit {0}) Halt) (new : Point) (test : M Value) (first second : M (Unit {0})) (p q r : State) (v : Value) → charge p ≡ goes tt q → test q ≡ goes v r → holds v ≡ false → Gives result new (second r) → Gives result new (choice test first second p)
-choice_second result new test first second p q r v e1 e2 e3 g = rw (e1, e2, e3) g
+module _ (program : Resolved) (first : Place) (known : FlatMap) (a b : Tid) (js is ks : List left.Entry) (r s t : State) where
+  pub run_on : b ≡ a → GoesOn (meanings program a) first a known js r is s → (AllStem b known is s → GoesOn (meanings program b) first b known is s ks t) → GoesOn (meanings program a) first a known js r ks t
+  run_on e g f =
+      let h = subst (λ (x : Tid). AllStem x known is s → GoesOn (meanings program x) first x known is s ks t) e f g.stem in
+      record { same = λ more fresh. g.same more fresh ∙ h.same more fresh; stem = h.stem }
 
--- ---- loops
+  ends_at : (way : Way) → GoesOn (meanings program a) first a known js r is s → Runs (meanings program a) first a known way is s ks t → Runs (meanings program a) first a known way js r ks t
+  ends_at (Over (Ok v)) g h = g.same [] tt ∙ h
+  ends_at (Over (Err Failed)) g h = g.same [] tt ∙ h
+  ends_at (Over (Err (Stopped stop))) g h = g.same [] tt ∙ h
+  ends_at (Over (Err (Missing site o))) g h = h
+  ends_at (Lacks site o fuel count) g h = (g.same [] tt ∙ h.0, record { same = λ more fresh. g.same more fresh ∙ h.1.same more fresh; stem = h.1.stem })
 
--- where the cost of a test can't be paid, the loop ends so
-pub turns_end : (n : ℕ) (test : M Value) (body : M (Unit {0})) (p : State) (new : Point) (h : Halt) (all : Run (Unit {0})) → p.fuel ≤ n → Gives {A = Unit {0}} (Err h) new (charge p) → turns n test body p ≡ all → Gives {A = Unit {0}} (Err h) new all
-turns_end n test body p new Memory all le g same = tt
-turns_end zero test body p new (Ended e) all le g same = sym same ∙ sym (charge_none p (omega arith)) ∙ g
-turns_end (suc n) test body p new (Ended e) all le g same = sym same ∙ rw g refl
+  pub run_ends : (way : Way) → b ≡ a → GoesOn (meanings program a) first a known js r is s → (AllStem b known is s → Runs (meanings program b) first b known way is s ks t) → Runs (meanings program a) first a known way js r ks t
+  run_ends way e g f = ends_at way g (subst (λ (x : Tid). AllStem x known is s → Runs (meanings program x) first x known way is s ks t) e f g.stem)
 
--- the block ends in a turn
-pub turn_ends : (n : ℕ) (test : M Value) (body : M (Unit {0})) (p q r : State) (v : Value) (new : Point) (h : Halt) (all : Run (Unit {0})) → p.fuel ≤ n → q.fuel < p.fuel → charge p ≡ goes tt q → test q ≡ goes v r → holds v ≡ true → Gives {A = Unit {0}} (Err h) new (body r) → turns n test body p ≡ all → Gives {A = Unit {0}} (Err h) new all
-turn_ends n test body p q r v new Memory all le lt e1 e2 e3 g same = tt
-turn_ends zero test body p q r v new (Ended e) all le lt e1 e2 e3 g same = absurd (omega arith)
-turn_ends (suc n) test body p q r v new (Ended e) all le lt e1 e2 e3 g same = sym same ∙ turns_on n test body p q r v e1 e2 e3 ∙ rw g refl
+-- ---- one step
 
--- ---- attempts
+module _ (m : Means) (first : Place) (tid : Tid) (known : FlatMap) (js ks : List left.Entry) (s t : State) where
+  pub fails_on : (is : List left.Entry) (u : State) → FailsSo m first tid known js s is u → ((more : FlatMap) → ended m first is failed u more ≡ left m first ks t more) × AllStem tid known ks t → GoesOn m first tid known js s ks t
+  fails_on is u f g = record { same = λ more fresh. f.same more fresh ∙ g.0 more; stem = g.1 }
 
--- the block ended as no other goes on from
-pub attempt_ends : (result : Result (Unit {0}) Halt) (h : Halt) (new : Point) (before : State) (run : Run (Unit {0})) (other : M (Unit {0})) → went_on result ≡ Err h → Gives result new run → Gives {A = Unit {0}} (Err h) new (or_else before run other)
-attempt_ends (Ok u) h new before run other w g = cc
-attempt_ends (Err Memory) Memory new before run other w g = tt
-attempt_ends (Err Memory) (Ended e) new before run other w g = cc
-attempt_ends (Err (Ended Failed)) h new before run other w g = cc
-attempt_ends (Err (Ended (Stopped stop))) h new before run other w g = subst (λ (r : Result Bool Halt). at r) w (rw g refl)
-  where
-    at : Result Bool Halt → Type 0
-    at (Ok b) = Unit {0}
-    at (Err k) = Gives {A = Unit {0}} (Err k) new (or_else before run other)
-attempt_ends (Err (Ended (Missing site o))) h new before run other w g = subst (λ (r : Result Bool Halt). at r) w (rw g refl)
-  where
-    at : Result Bool Halt → Type 0
-    at (Ok b) = Unit {0}
-    at (Err k) = Gives {A = Unit {0}} (Err k) new (or_else before run other)
+  pub fails_all : (is : List left.Entry) (u : State) → FailsSo m first tid known js s is u → ((more : FlatMap) → ended m first is failed u more ≡ ended m first [] failed t more) → left m first js s [] ≡ ends failed (record t { locals = [] })
+  fails_all is u f g = f.same [] tt ∙ g []
 
--- the block went on
-pub attempt_goes : (result : Result (Unit {0}) Halt) (new : Point) (before : State) (run : Run (Unit {0})) (other : M (Unit {0})) → went_on result ≡ Ok true → Gives result new run → or_else before run other ≡ goes tt new.state
-attempt_goes (Ok u) new before run other w g = rw g refl
-attempt_goes (Err Memory) new before run other w g = cc
-attempt_goes (Err (Ended Failed)) new before run other w g = cc
-attempt_goes (Err (Ended (Stopped stop))) new before run other w g = cc
-attempt_goes (Err (Ended (Missing site o))) new before run other w g = cc
+  pub stops_all : (stop : Stop) → EndsSo m first tid known ks (stopped stop) t js s → left m first js s [] ≡ ends (stopped stop) (record t { locals = [] })
+  stops_all stop e = e [] tt ∙ all_ended m first ks (stopped stop) no t []
+    where
+      no : stopped stop ≡ failed → ⊥
+      no f = cc
 
--- what stays is the same where the block failed
-pub kept_in_failure : (result : Result (Unit {0}) Halt) (old new : Base) → went_on result ≡ Ok false → Keeps result old new → new ≡ old
-kept_in_failure (Ok u) old new w k = k
-kept_in_failure (Err Memory) old new w k = cc
-kept_in_failure (Err (Ended Failed)) old new w k = k
-kept_in_failure (Err (Ended (Stopped stop))) old new w k = cc
-kept_in_failure (Err (Ended (Missing site o))) old new w k = cc
+  pub lacks_all : (site : ℕ) (o : Oid) (fuel count : ℕ) → fuel ≡ s.fuel → count ≡ length s.touches → AllStem tid known js s → LacksSo m first site o js s ks t
+      → (left m first js s [] ≡ ends (missing site o) (record t { locals = [] })) × GoesOn m first tid known js s ks (before fuel count t)
+  lacks_all site o fuel count f c st l = (l.lacks, subst (λ (x : List left.Entry × State). GoesOn m first tid known js s x.0 x.1) together (record { same = λ more fresh. refl; stem = st }))
+    where
+      together : ◌≡◌ {A = List left.Entry × State} (js, s) (ks, before fuel count t)
+      together = λ k. (sym l.same k, sym (ap (λ n. before n count t) f ∙ ap (λ n. before s.fuel n t) c ∙ put_back s t l.waits) k)
 
--- behind an abort the saved heap is as it was before
-pub base_back : (before q z : Point) (locals : List Value) → q.base ≡ (saving before).base → z ≡ with_locals locals (aborted q) → z.base ≡ before.base
-base_back before q z locals e f = ap (λ (y : Point). y.base) f ∙ ap (λ (b : Base). with_saved (under b.saved) b) e
+-- what the method that was asked for returns lacks an object
+pub lacks_last : (program : Resolved) (first : Place) (tid : Tid) (known : FlatMap) (s t : State) (site : ℕ) (o : Oid) (fuel count : ℕ) → fuel ≡ s.fuel → count ≡ length s.touches → AllStem tid known [] s → returned first.method.result s ≡ ends (missing site o) t
+    → (left (meanings program tid) first [] s [] ≡ ends (missing site o) (record t { locals = [] })) × GoesOn (meanings program tid) first tid known [] s [] (before fuel count t)
+lacks_last program first tid known s t site o fuel count f c st e =
+    lacks_all (meanings program tid) first tid known [] [] s t site o fuel count f c st (record {
+      lacks = ap (back_with []) e;
+      same = refl;
+      waits = ((plain_split program tid).results first).misses s site o t e;
+    })
 
--- the block failed, and the other one is run
-pub attempt_failed : (result last : Result (Unit {0}) Halt) (before q z new : Point) (locals : List Value) (run : Run (Unit {0})) (other : M (Unit {0}))
-    → went_on result ≡ Ok false → Gives result q run → q.base ≡ (saving before).base → locals ≡ before.state.locals → z ≡ with_locals locals (aborted q) → Gives last new (other z.state) → Gives last new (or_else before.state run other)
-attempt_failed (Ok u) last before q z new locals run other w g b l e f = cc
-attempt_failed (Err Memory) last before q z new locals run other w g b l e f = cc
-attempt_failed (Err (Ended Failed)) last before q z new locals run other w g b l e f =
-    rw g (subst (λ (p : State). Gives last new (other p)) (ap (λ (y : Point). y.state) e ∙ ap (λ (x : Base). record q.state { locals = locals; heap = top_of x.saved q.state.heap }) b ∙ ap (λ (ls : List Value). record q.state { locals = ls; heap = before.state.heap }) l) f)
-attempt_failed (Err (Ended (Stopped stop))) last before q z new locals run other w g b l e f = cc
-attempt_failed (Err (Ended (Missing site o))) last before q z new locals run other w g b l e f = cc
-
--- ---- calls
-
--- the caller's locals come back at any end
-pub back_gives : {A : Type 0} (result : Result A Halt) (last new : Point) (callers locals : List Value) (run : Run A) → Gives result last run → callers ≡ locals → new ≡ with_locals callers last → Gives result new (back_with locals run)
-back_gives (Ok a) last new callers locals run g e f = rw (g, f, ← e) refl
-back_gives (Err Memory) last new callers locals run g e f = tt
-back_gives (Err (Ended end)) last new callers locals run g e f = rw (g, f, ← e) refl
+pub nothing : (items : List Entry) → length items ≡ 0 → items ≡ []
+nothing [] e = refl
+nothing (k ∷ ks) e = absurd (omega (arith, e))

@@ -1,12 +1,14 @@
 //! The evaluator of requests: a method runs over the objects that were answered for it.
 #![tactic(auto)]
 
+mod act;
 mod done;
 mod expressions;
 mod halt;
 mod job;
+mod stack;
 mod state;
-mod statements;
+mod stepping;
 mod whole;
 
 pub use done::Done;

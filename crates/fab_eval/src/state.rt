@@ -1,5 +1,5 @@
 //! What an evaluation has at a point, and the steps that change it.
-ghost use Rattle.std.specs.Prelude.{◌≡◌, ◌<◌, ◌≤◌, Ok, OnOk, IfOk, false};
+ghost use Rattle.std.specs.Prelude.{◌≡◌, ◌<◌, ◌≤◌, Ok, OnOk, IfOk, false, length};
 ghost use Rattle.std.specs.List.{IsDistinct, list_any};
 ghost use Rattle.fab_base.specs.FlatMap.{is_same};
 ghost use Rattle.fab_language.specs.Meaning.{assign, charge, create, local, noted_down, read, write};
@@ -79,6 +79,20 @@ impl State {
     /// Where memory comes from.
     pub(crate) fn alloc(&self) -> Global {
         self.alloc
+    }
+
+    /// The fuel that is left.
+    pub(crate) fn fuel(&self) -> u32
+        ensures { result ≡ self.now.state.fuel }
+    {
+        self.fuel
+    }
+
+    /// How many touches there are.
+    pub(crate) fn touch_count(&self) -> usize
+        ensures { result ≡ length self.now.state.touches }
+    {
+        self.frames.touches().len()
     }
 
     /// A step that costs 1.

@@ -1,7 +1,7 @@
 use Rattle.std.proofs.Common.{◌≡◌, ◌-◌, ◌++◌, drop, length, map}
 use Rattle.fab_tree.specs.declared.resolved.Local as locals
 use Rattle.fab_language.specs.Meaning.{default}
-use Rattle.fab_eval.proofs.statements.locals_at_start.Given as goal
+use Rattle.fab_eval.proofs.stepping.locals_at_start.Given as goal
 
 abbrev pub invariant-loop-i : goal.invariant-loop-i
 invariant-loop-i l = l.values.items ++ map (λ (x : locals.Local). default x.sort) (drop l.i l.locals) ≡ l.initial.values.items ++ map (λ (x : locals.Local). default x.sort) (drop l.initial.i l.locals)
