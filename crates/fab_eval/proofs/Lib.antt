@@ -1,7 +1,4 @@
-pub mod Making
 pub mod Acting
-pub mod Settling
-pub mod Stacks
-pub mod Running
+pub mod Beginning
 pub mod Calling
-pub mod Nexting
+pub mod Settling

@@ -1,8 +1,5 @@
 pub mod Attempts
-pub mod Points
-pub mod Gives
 pub mod Outcomes
 pub mod Settles
-pub mod Leads
-pub mod Stacks
-pub mod Stepping
+pub mod Lefts
+pub mod Founds

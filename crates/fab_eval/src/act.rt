@@ -1,32 +1,18 @@
-//! What a statement does at once, and what it leads into.
+//! What a statement does at once.
 ghost use Rattle.std.specs.Prelude.{◌≡◌};
 ghost use Rattle.fab_left.specs.Acts.{act, right_act};
-ghost use Rattle.fab_eval.specs.Leads.{Acts, Lowers};
+ghost use Rattle.fab_stack.specs.Leads.{Leads, Lowers};
 
 use crate::expressions::{value, values};
-use crate::halt::{End, Halt};
-use crate::state::State;
-use fab_base::{Seq, Value};
+use fab_stack::{End, Halt, Lead, State};
 use fab_tree::resolved::{Right, Statement};
 use fab_values::holds;
-
-/// What a statement leads into: nothing more, a block, a block and the statement again, a block that
-/// is tried before another, or a call of a method of a number, with what it is given and the local
-/// that takes what it gives.
-#[derive(Drop)]
-pub(crate) enum Lead<'a> {
-    Passed,
-    Into(&'a [Statement]),
-    Again(&'a [Statement]),
-    Try(&'a [Statement], &'a [Statement]),
-    Enter(u16, Seq<Value>, Option<u16>),
-}
 
 /// Does what a statement does at once, which costs 1.
 #[tactic(auto, using(crate::proofs::Acting::act_assign, crate::proofs::Acting::act_write, crate::proofs::Acting::act_call, crate::proofs::Acting::act_if, crate::proofs::Acting::act_while, crate::proofs::Acting::act_atomic, crate::proofs::Acting::act_fail))]
 pub(crate) fn act<'a>(state: &mut State, s: &'a Statement) -> Result<Lead<'a>, Halt>
-    ensures gives { Acts result state.new (act state.old.base.tid s.now state.old.state) }
-    ensures keeps { state.new.base ≡ state.old.base }
+    ensures gives { Leads result state.new (act state.old.base.tid s.now state.old.state) }
+    ensures base { state.new.base ≡ state.old.base }
     ensures fuel { Lowers result state.old.state.fuel state.new.state.fuel }
 {
     state.charge()?;
@@ -78,8 +64,8 @@ pub(crate) fn act<'a>(state: &mut State, s: &'a Statement) -> Result<Lead<'a>, H
 
 /// Gives a local what a right side comes to, or calls the method that gives it.
 fn assignment<'a>(state: &mut State, local: u16, right: &'a Right) -> Result<Lead<'a>, Halt>
-    ensures gives { Acts result state.new (right_act state.old.base.tid local right.now state.old.state) }
-    ensures keeps { state.new.base ≡ state.old.base }
+    ensures gives { Leads result state.new (right_act state.old.base.tid local right.now state.old.state) }
+    ensures base { state.new.base ≡ state.old.base }
     ensures fuel { state.new.state.fuel ≡ state.old.state.fuel }
 {
     match right {

@@ -4,11 +4,9 @@
 mod act;
 mod done;
 mod expressions;
-mod halt;
+mod found;
 mod job;
-mod stack;
-mod state;
-mod stepping;
+mod plain;
 mod whole;
 
 pub use done::Done;
