@@ -66,13 +66,16 @@ module _ (job : Job) (program : Resolved) (is : program ≡ job.program.value) (
           touches_are = t ∙ sym (ap (λ (m : Meant). m.touches) meant);
           downs_are = d ∙ sym (ap (λ (m : Meant). m.downs) meant);
         };
-        rests = rw e (o, rw (fi, si, qi) (record {
-          begun = λ more fresh. left_is.begun more fresh ∙ sym (r.1.same more fresh);
-          stem = r.1.stem;
-          matched = matched;
-          tid = same.tid ∙ left_is.tid;
-          versions = versions_kept same;
-        }));
+        rests = rw e (
+          o,
+          rw (fi, si, qi) (record {
+            begun = λ more fresh. left_is.begun more fresh ∙ sym (r.1.same more fresh);
+            stem = r.1.stem;
+            matched = matched;
+            tid = same.tid ∙ left_is.tid;
+            versions = versions_kept same;
+          }),
+        );
       }
 
   -- ---- the same of a call that may want memory

@@ -78,7 +78,8 @@ pub(crate) fn going<'a>(
 {
     let mut stack = stack;
     let mut state = state;
-    match run(&Plain { program }, first, &mut stack, &mut state)? {
+    let plain = Plain { program };
+    match run(&plain, first, &mut stack, &mut state)? {
         Way::Over(ended) => over(ended, state),
         Way::Lacks {
             site,

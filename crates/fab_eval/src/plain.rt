@@ -17,6 +17,7 @@ use fab_values::default;
 use std::alloc::Global;
 
 /// A program that is read by its meaning.
+#[derive(Clone, Copy)]
 pub(crate) struct Plain<'a> {
     pub(crate) program: &'a Resolved,
 }

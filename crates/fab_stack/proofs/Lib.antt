@@ -3,3 +3,4 @@ pub mod Stacks
 pub mod Running
 pub mod Calling
 pub mod Nexting
+pub mod Answering

@@ -1,11 +1,13 @@
 -- What an evaluation has at a point, as contracts see it.
-use Rattle.std.specs.Prelude.{ℕ, List, [], ◌∷◌}
+use Rattle.std.specs.Prelude.{ℕ, List, [], ◌∷◌, ◌++◌, map}
+use Rattle.fab_base.specs.declared.object.Object.{Object}
 use Rattle.fab_base.specs.declared.object.Oid.{Oid}
 use Rattle.fab_base.specs.declared.object.Tid.{Tid}
 use Rattle.fab_base.specs.declared.object.Value.{Value}
 use Rattle.fab_base.specs.FlatMap.{map_of}
 use Rattle.fab_language.specs.Heaps.{Heap}
 use Rattle.fab_language.specs.Meaning.{State, state_at_start}
+use Rattle.fab_left.specs.Left.{wider, with_more}
 use Rattle.fab_nested.specs.Nested.{Answers, objects_of, versions_of}
 
 -- what stays through each step that goes on or fails: the attempt, the versions of the answers, and the heaps that are saved, the last one first
@@ -58,4 +60,13 @@ abbrev pub aborted : Point → Point
 aborted p = record {
   state = record p.state { heap = top_of p.base.saved p.state.heap };
   base = with_saved (under p.base.saved) p.base;
+}
+
+-- ---- an object is answered
+
+-- one answer more: its object is in the heap and in each heap that is saved, and its version behind the others
+abbrev pub with_answer : Oid → ℕ → Object → Point → Point
+with_answer o version x p = record {
+  state = wider ((o, x) ∷ []) p.state;
+  base = record { tid = p.base.tid; versions = p.base.versions ++ (o, version) ∷ []; saved = map (with_more ((o, x) ∷ [])) p.base.saved };
 }

@@ -46,13 +46,7 @@ pub trait Acts<'a> {
         ensures fuel { state.new.state.fuel ≡ state.old.state.fuel };
 
     /// Gives what a call gave to a local of its caller, or to none.
-    fn hand(
-        &self,
-        state: &mut State,
-        caller: &'a Method,
-        target: Option<u16>,
-        value: Option<Value>,
-    )
+    fn hand(&self, state: &mut State, caller: &'a Method, target: Option<u16>, value: Option<Value>)
         ensures gives { (tid : AnyTid) (depth : ℕ) → Gives (Ok tt) state.new (handed (means self.now tid) (place caller.now depth) target value state.old.state) }
         ensures base { state.new.base ≡ state.old.base }
         ensures fuel { state.new.state.fuel ≡ state.old.state.fuel };

@@ -150,13 +150,7 @@ impl State {
     }
 
     /// Writes a field of the object behind a value.
-    pub fn write(
-        &mut self,
-        site: u16,
-        field: u16,
-        value: Value,
-        at: Value,
-    ) -> Result<(), Halt>
+    pub fn write(&mut self, site: u16, field: u16, value: Value, at: Value) -> Result<(), Halt>
         ensures gives { Gives result self.new (write site field value at self.old.state) }
         ensures base { self.new.base ≡ self.old.base }
         ensures fuel { self.new.state.fuel ≡ self.old.state.fuel }

@@ -203,9 +203,7 @@ fn next<'a, A: Acts<'a>>(
         return Ok(());
     };
     match acts.act(state, method, s) {
-        Ok(lead) => follow(
-            acts, stack, state, method, statements, others, depth, lead,
-        ),
+        Ok(lead) => follow(acts, stack, state, method, statements, others, depth, lead),
         Err(Halt::Memory) => Err(Halt::Memory),
         Err(Halt::Ended(End::Failed)) => Err(Halt::Ended(End::Failed)),
         Err(Halt::Ended(End::Stopped(stop))) => Err(Halt::Ended(End::Stopped(stop))),
@@ -306,7 +304,8 @@ fn enter<'a, A: Acts<'a>>(
     ensures fuel { state.new.state.fuel ≡ state.old.state.fuel }
     ensures room { UnlessMemory result (length stack.new.items ≤ 2 + length stack.old.items) }
 {
-    match acts.call(state.alloc(), number, args)? {
+    let call = acts.call(state.alloc(), number, args)?;
+    match call {
         Call::Skipped(value) => Ok(acts.hand(state, caller, target, value)),
         Call::Absent => {
             if depth == 0 {
