@@ -16,7 +16,7 @@ use crate::halt::{End, Halt};
 use crate::stack::{Call, Entry, Lead};
 use crate::state::State;
 use fab_base::{NoMemory, Oid, Seq, Stop, Value};
-use fab_tree::resolved::{Method, Statement};
+use fab_tree::resolved::{Method, Resolved, Statement};
 use std::alloc::AllocError;
 
 /// How a run came to an end: it is over, or an object lacks, with the fuel before what lacks it and
@@ -57,33 +57,35 @@ pub fn begun<'a>(
 }
 
 /// Runs what is left to do, to the end or until an object lacks.
-pub fn run<'a, A: Acts<'a>>(
+pub fn run<'a, A: Acts>(
     acts: &A,
+    program: &'a Resolved,
     first: &'a Method,
     stack: &mut Vec<Entry<'a>>,
     state: &mut State,
 ) -> Result<Way, NoMemory>
     requires matched { IsMatched stack.old.items state.old }
-    ensures runs { IfOk result (λ way. (known : FlatMap) → AllStem state.old.base.tid known (entries_of stack.old.items state.old.base.saved) state.old.state → Runs (A.means acts.now state.old.base.tid) (at_start first.now) state.old.base.tid known way (entries_of stack.old.items state.old.base.saved) state.old.state (entries_of stack.new.items state.new.base.saved) state.new.state) }
+    ensures runs { IfOk result (λ way. (known : FlatMap) → AllStem state.old.base.tid known (entries_of stack.old.items state.old.base.saved) state.old.state → Runs (A.means acts.now program.now state.old.base.tid) (at_start first.now) state.old.base.tid known way (entries_of stack.old.items state.old.base.saved) state.old.state (entries_of stack.new.items state.new.base.saved) state.new.state) }
     ensures matched { OnOk result (IsMatched stack.new.items state.new) }
     ensures attempt { OnOk result (IsSameAttempt state.new.base state.old.base) }
 {
     loop {
-        if let Some(way) = step(acts, first, stack, state)? {
+        if let Some(way) = step(acts, program, first, stack, state)? {
             return Ok(way);
         }
     }
 }
 
 /// One step, and where a statement fails, on to the last block that is tried.
-fn step<'a, A: Acts<'a>>(
+fn step<'a, A: Acts>(
     acts: &A,
+    program: &'a Resolved,
     first: &'a Method,
     stack: &mut Vec<Entry<'a>>,
     state: &mut State,
 ) -> Result<Option<Way>, NoMemory>
     requires matched { IsMatched stack.old.items state.old }
-    ensures turns { IfOk result (λ way. (known : FlatMap) → AllStem state.old.base.tid known (entries_of stack.old.items state.old.base.saved) state.old.state → Turns (A.means acts.now state.old.base.tid) (at_start first.now) state.old.base.tid known way (entries_of stack.old.items state.old.base.saved) state.old.state (entries_of stack.new.items state.new.base.saved) state.new.state) }
+    ensures turns { IfOk result (λ way. (known : FlatMap) → AllStem state.old.base.tid known (entries_of stack.old.items state.old.base.saved) state.old.state → Turns (A.means acts.now program.now state.old.base.tid) (at_start first.now) state.old.base.tid known way (entries_of stack.old.items state.old.base.saved) state.old.state (entries_of stack.new.items state.new.base.saved) state.new.state) }
     ensures matched { OnOk result (IsMatched stack.new.items state.new) }
     ensures attempt { OnOk result (IsSameAttempt state.new.base state.old.base) }
     ensures bound { IfOk result (λ way. way ≡ None → bound stack.new.items state.new < bound stack.old.items state.old) }
@@ -91,9 +93,9 @@ fn step<'a, A: Acts<'a>>(
     let fuel = state.fuel();
     let count = state.touch_count();
     let Some(entry) = stack.pop() else {
-        return Ok(Some(last(acts, first, state, fuel, count)?));
+        return Ok(Some(last(acts, program, first, state, fuel, count)?));
     };
-    match advance(acts, stack, state, entry) {
+    match advance(acts, program, stack, state, entry) {
         Ok(()) => Ok(None),
         Err(Halt::Memory) => Err(AllocError),
         Err(Halt::Ended(End::Failed)) => {
@@ -115,8 +117,9 @@ fn step<'a, A: Acts<'a>>(
 }
 
 /// The end of a run: what the method that was asked for gives.
-fn last<'a, A: Acts<'a>>(
+fn last<'a, A: Acts>(
     acts: &A,
+    program: &'a Resolved,
     first: &'a Method,
     state: &mut State,
     fuel: u32,
@@ -124,10 +127,10 @@ fn last<'a, A: Acts<'a>>(
 ) -> Result<Way, NoMemory>
     requires fuel { fuel ≡ state.old.state.fuel }
     requires count { count ≡ length state.old.state.touches }
-    ensures runs { IfOk result (λ way. (depth : ℕ) (known : FlatMap) → AllStem state.old.base.tid known [] state.old.state → Runs (A.means acts.now state.old.base.tid) (place first.now depth) state.old.base.tid known way [] state.old.state [] state.new.state) }
+    ensures runs { IfOk result (λ way. (depth : ℕ) (known : FlatMap) → AllStem state.old.base.tid known [] state.old.state → Runs (A.means acts.now program.now state.old.base.tid) (place first.now depth) state.old.base.tid known way [] state.old.state [] state.new.state) }
     ensures base { state.new.base ≡ state.old.base }
 {
-    match acts.result_of(state, first) {
+    match acts.result_of(program, state, first) {
         Ok(value) => Ok(Way::Over(Ok(value))),
         Err(Halt::Memory) => Err(AllocError),
         Err(Halt::Ended(End::Failed)) => Ok(Way::Over(Err(End::Failed))),
@@ -144,14 +147,15 @@ fn last<'a, A: Acts<'a>>(
 }
 
 /// One step: through one statement, or past an entry.
-fn advance<'a, A: Acts<'a>>(
+fn advance<'a, A: Acts>(
     acts: &A,
+    program: &'a Resolved,
     stack: &mut Vec<Entry<'a>>,
     state: &mut State,
     entry: Entry<'a>,
 ) -> Result<(), Halt>
     requires matched { IsMatched (stack.old.items ++ entry ∷ []) state.old }
-    ensures steps { (first : Place) (known : FlatMap) → AllStem state.old.base.tid known (entries_of (stack.old.items ++ entry.entry ∷ []) state.old.base.saved) state.old.state → Steps (A.means acts.now state.old.base.tid) first state.old.base.tid known result (entries_of (stack.old.items ++ entry.entry ∷ []) state.old.base.saved) state.old.state (entries_of stack.new.items state.new.base.saved) state.new.state }
+    ensures steps { (first : Place) (known : FlatMap) → AllStem state.old.base.tid known (entries_of (stack.old.items ++ entry.entry ∷ []) state.old.base.saved) state.old.state → Steps (A.means acts.now program.now state.old.base.tid) first state.old.base.tid known result (entries_of (stack.old.items ++ entry.entry ∷ []) state.old.base.saved) state.old.state (entries_of stack.new.items state.new.base.saved) state.new.state }
     ensures matched { UnlessMemory result (IsMatched stack.new.items state.new) }
     ensures attempt { UnlessMemory result (IsSameAttempt state.new.base state.old.base) }
     ensures bound { Lowers result (bound (stack.old.items ++ entry.entry ∷ []) state.old) (bound stack.new.items state.new) }
@@ -161,7 +165,7 @@ fn advance<'a, A: Acts<'a>>(
             method,
             statements,
             depth,
-        } => next(acts, stack, state, method, statements, depth),
+        } => next(acts, program, stack, state, method, statements, depth),
         Entry::Tried { .. } => Ok(state.merge()?),
         Entry::Returning {
             callee,
@@ -172,6 +176,7 @@ fn advance<'a, A: Acts<'a>>(
             target,
         } => give_back(
             acts,
+            program,
             stack,
             state,
             callee,
@@ -185,8 +190,9 @@ fn advance<'a, A: Acts<'a>>(
 }
 
 /// Through the first statement of a block, if there is one.
-fn next<'a, A: Acts<'a>>(
+fn next<'a, A: Acts>(
     acts: &A,
+    program: &'a Resolved,
     stack: &mut Vec<Entry<'a>>,
     state: &mut State,
     method: &'a Method,
@@ -194,7 +200,7 @@ fn next<'a, A: Acts<'a>>(
     depth: u32,
 ) -> Result<(), Halt>
     requires matched { IsMatched stack.old.items state.old }
-    ensures steps { (first : Place) (known : FlatMap) → AllStem state.old.base.tid known (entries_of stack.old.items state.old.base.saved ++ rest (place method.now depth) statements.now ∷ []) state.old.state → Steps (A.means acts.now state.old.base.tid) first state.old.base.tid known result (entries_of stack.old.items state.old.base.saved ++ rest (place method.now depth) statements.now ∷ []) state.old.state (entries_of stack.new.items state.new.base.saved) state.new.state }
+    ensures steps { (first : Place) (known : FlatMap) → AllStem state.old.base.tid known (entries_of stack.old.items state.old.base.saved ++ rest (place method.now depth) statements.now ∷ []) state.old.state → Steps (A.means acts.now program.now state.old.base.tid) first state.old.base.tid known result (entries_of stack.old.items state.old.base.saved ++ rest (place method.now depth) statements.now ∷ []) state.old.state (entries_of stack.new.items state.new.base.saved) state.new.state }
     ensures matched { UnlessMemory result (IsMatched stack.new.items state.new) }
     ensures attempt { UnlessMemory result (IsSameAttempt state.new.base state.old.base) }
     ensures bound { Lowers result (1 + bound stack.old.items state.old) (bound stack.new.items state.new) }
@@ -202,8 +208,10 @@ fn next<'a, A: Acts<'a>>(
     let Some((s, others)) = statements.split_first() else {
         return Ok(());
     };
-    match acts.act(state, method, s) {
-        Ok(lead) => follow(acts, stack, state, method, statements, others, depth, lead),
+    match acts.act(program, state, method, s) {
+        Ok(lead) => follow(
+            acts, program, stack, state, method, statements, others, depth, lead,
+        ),
         Err(Halt::Memory) => Err(Halt::Memory),
         Err(Halt::Ended(End::Failed)) => Err(Halt::Ended(End::Failed)),
         Err(Halt::Ended(End::Stopped(stop))) => Err(Halt::Ended(End::Stopped(stop))),
@@ -219,8 +227,9 @@ fn next<'a, A: Acts<'a>>(
 }
 
 /// Puts behind what is left the rest of a block and what its first statement leads into.
-fn follow<'a, A: Acts<'a>>(
+fn follow<'a, A: Acts>(
     acts: &A,
+    program: &'a Resolved,
     stack: &mut Vec<Entry<'a>>,
     state: &mut State,
     method: &'a Method,
@@ -230,7 +239,7 @@ fn follow<'a, A: Acts<'a>>(
     lead: Lead<'a>,
 ) -> Result<(), Halt>
     requires matched { IsMatched stack.old.items state.old }
-    ensures steps { (first : Place) (known : FlatMap) (s : AnyStatement) (before : AnyState) → statements.now ≡ s ∷ others.now → A.does acts.now state.old.base.tid (place method.now depth) s before ≡ goes (deed_of lead.entry) state.old.state → AllStem state.old.base.tid known (entries_of stack.old.items state.old.base.saved ++ rest (place method.now depth) (s ∷ others.now) ∷ []) before → Steps (A.means acts.now state.old.base.tid) first state.old.base.tid known result (entries_of stack.old.items state.old.base.saved ++ rest (place method.now depth) (s ∷ others.now) ∷ []) before (entries_of stack.new.items state.new.base.saved) state.new.state }
+    ensures steps { (first : Place) (known : FlatMap) (s : AnyStatement) (before : AnyState) → statements.now ≡ s ∷ others.now → A.does acts.now program.now state.old.base.tid (place method.now depth) s before ≡ goes (deed_of lead.entry) state.old.state → AllStem state.old.base.tid known (entries_of stack.old.items state.old.base.saved ++ rest (place method.now depth) (s ∷ others.now) ∷ []) before → Steps (A.means acts.now program.now state.old.base.tid) first state.old.base.tid known result (entries_of stack.old.items state.old.base.saved ++ rest (place method.now depth) (s ∷ others.now) ∷ []) before (entries_of stack.new.items state.new.base.saved) state.new.state }
     ensures matched { UnlessMemory result (IsMatched stack.new.items state.new) }
     ensures attempt { UnlessMemory result (IsSameAttempt state.new.base state.old.base) }
     ensures fuel { state.new.state.fuel ≡ state.old.state.fuel }
@@ -280,15 +289,18 @@ fn follow<'a, A: Acts<'a>>(
         }
         Lead::Enter(number, args, target) => {
             stack.push(rest)?;
-            enter(acts, stack, state, method, depth, number, args, target)
+            enter(
+                acts, program, stack, state, method, depth, number, args, target,
+            )
         }
     }
 }
 
 /// Calls the method of a number. It is entered where so many calls more may be open; where it is
 /// skipped, or there is none, the caller goes on.
-fn enter<'a, A: Acts<'a>>(
+fn enter<'a, A: Acts>(
     acts: &A,
+    program: &'a Resolved,
     stack: &mut Vec<Entry<'a>>,
     state: &mut State,
     caller: &'a Method,
@@ -298,13 +310,13 @@ fn enter<'a, A: Acts<'a>>(
     target: Option<u16>,
 ) -> Result<(), Halt>
     requires matched { IsMatched stack.old.items state.old }
-    ensures steps { (first : Place) (known : FlatMap) (ks : List AnyEntry) (s : AnyStatement) (ss : List AnyStatement) (before : AnyState) → entries_of stack.old.items state.old.base.saved ≡ ks ++ rest (place caller.now depth) ss ∷ [] → A.does acts.now state.old.base.tid (place caller.now depth) s before ≡ goes (entering number args target) state.old.state → AllStem state.old.base.tid known (ks ++ rest (place caller.now depth) (s ∷ ss) ∷ []) before → Steps (A.means acts.now state.old.base.tid) first state.old.base.tid known result (ks ++ rest (place caller.now depth) (s ∷ ss) ∷ []) before (entries_of stack.new.items state.new.base.saved) state.new.state }
+    ensures steps { (first : Place) (known : FlatMap) (ks : List AnyEntry) (s : AnyStatement) (ss : List AnyStatement) (before : AnyState) → entries_of stack.old.items state.old.base.saved ≡ ks ++ rest (place caller.now depth) ss ∷ [] → A.does acts.now program.now state.old.base.tid (place caller.now depth) s before ≡ goes (entering number args target) state.old.state → AllStem state.old.base.tid known (ks ++ rest (place caller.now depth) (s ∷ ss) ∷ []) before → Steps (A.means acts.now program.now state.old.base.tid) first state.old.base.tid known result (ks ++ rest (place caller.now depth) (s ∷ ss) ∷ []) before (entries_of stack.new.items state.new.base.saved) state.new.state }
     ensures matched { UnlessMemory result (IsMatched stack.new.items state.new) }
     ensures base { state.new.base ≡ state.old.base }
     ensures fuel { state.new.state.fuel ≡ state.old.state.fuel }
     ensures room { UnlessMemory result (length stack.new.items ≤ 2 + length stack.old.items) }
 {
-    let call = acts.call(state.alloc(), number, args)?;
+    let call = acts.call(state.alloc(), program, number, args)?;
     match call {
         Call::Skipped(value) => Ok(acts.hand(state, caller, target, value)),
         Call::Absent => {
@@ -336,8 +348,9 @@ fn enter<'a, A: Acts<'a>>(
 }
 
 /// Ends a call: its caller goes on with what the method returns.
-fn give_back<'a, A: Acts<'a>>(
+fn give_back<'a, A: Acts>(
     acts: &A,
+    program: &'a Resolved,
     stack: &mut Vec<Entry<'a>>,
     state: &mut State,
     callee: &'a Method,
@@ -348,12 +361,12 @@ fn give_back<'a, A: Acts<'a>>(
     target: Option<u16>,
 ) -> Result<(), Halt>
     requires matched { IsMatched stack.old.items state.old }
-    ensures steps { (first : Place) (known : FlatMap) → AllStem state.old.base.tid known (entries_of stack.old.items state.old.base.saved ++ returning (place callee.now depth) (place caller.now caller_depth) locals.items target ∷ []) state.old.state → Steps (A.means acts.now state.old.base.tid) first state.old.base.tid known result (entries_of stack.old.items state.old.base.saved ++ returning (place callee.now depth) (place caller.now caller_depth) locals.items target ∷ []) state.old.state (entries_of stack.new.items state.new.base.saved) state.new.state }
+    ensures steps { (first : Place) (known : FlatMap) → AllStem state.old.base.tid known (entries_of stack.old.items state.old.base.saved ++ returning (place callee.now depth) (place caller.now caller_depth) locals.items target ∷ []) state.old.state → Steps (A.means acts.now program.now state.old.base.tid) first state.old.base.tid known result (entries_of stack.old.items state.old.base.saved ++ returning (place callee.now depth) (place caller.now caller_depth) locals.items target ∷ []) state.old.state (entries_of stack.new.items state.new.base.saved) state.new.state }
     ensures matched { UnlessMemory result (IsMatched stack.new.items state.new) }
     ensures base { state.new.base ≡ state.old.base }
     ensures bound { Lowers result (1 + bound stack.old.items state.old) (bound stack.new.items state.new) }
 {
-    match acts.result_of(state, callee) {
+    match acts.result_of(program, state, callee) {
         Ok(value) => {
             state.exchange(locals);
             Ok(acts.hand(state, caller, target, value))

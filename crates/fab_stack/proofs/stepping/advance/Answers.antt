@@ -17,7 +17,7 @@ returns-in-Rest-clause-steps g c = λ first known st.
     let items = c.args.stack.now.items in
     let b = c.args.state.now.base in
     let s = c.args.state.now.state in
-    subst (λ (l : List left.Entry). AllStem b.tid known l s → Steps (g.A.Acts.means c.args.acts.now b.tid) first b.tid known c.next.result l s (entries_of c.next.new.stack.items c.next.new.state.base.saved) c.next.new.state.state)
+    subst (λ (l : List left.Entry). AllStem b.tid known l s → Steps (g.A.Acts.means c.args.acts.now c.args.program.now b.tid) first b.tid known c.next.result l s (entries_of c.next.new.stack.items c.next.new.state.base.saved) c.next.new.state.state)
     (sym (put_one items (items ++ c.args.entry ∷ []) _ b.saved (ap (λ k. items ++ k ∷ []) c.in-Rest.is) refl)) (c.next.ensures.steps first known) st
 
 pub returns-in-Tried-clause-steps : goal.returns-in-Tried-clause-steps
@@ -25,11 +25,11 @@ returns-in-Tried-clause-steps g c = λ first known st.
     let items = c.args.stack.now.items in
     let b = c.args.state.now.base in
     let s = c.args.state.now.state in
-    let m = g.A.Acts.means c.args.acts.now b.tid in
+    let m = g.A.Acts.means c.args.acts.now c.args.program.now b.tid in
     let ks = entries_of items (under b.saved) in
     rw c.in_ok-merge-in-Tried.ensures.merged (subst (λ (l : List left.Entry). AllStem b.tid known l s → GoesOn m first b.tid known l s ks s)
     (sym (take_try (items ++ c.args.entry ∷ []) items _ b.saved (ap (λ k. items ++ k ∷ []) c.in-Tried.is) refl c.requires.matched))
-    (λ h. trial_passes m b.tid (g.A.Acts.does c.args.acts.now b.tid) (g.met.A.Acts.split c.args.acts.now b.tid) first known ks ks (place c.in-Tried.method.now c.in-Tried.depth) c.in-Tried.locals.items (heap_at 0 b.saved) c.in-Tried.otherwise.now s h refl) st)
+    (λ h. trial_passes m b.tid (g.A.Acts.does c.args.acts.now c.args.program.now b.tid) (g.met.A.Acts.split c.args.acts.now c.args.program.now b.tid) first known ks ks (place c.in-Tried.method.now c.in-Tried.depth) c.in-Tried.locals.items (heap_at 0 b.saved) c.in-Tried.otherwise.now s h refl) st)
 
 pub returns-in-Tried-clause-matched : goal.returns-in-Tried-clause-matched
 returns-in-Tried-clause-matched g c =
@@ -46,5 +46,5 @@ returns-clause-steps g c = λ first known st.
     let items = c.args.stack.now.items in
     let b = c.args.state.now.base in
     let s = c.args.state.now.state in
-    subst (λ (l : List left.Entry). AllStem b.tid known l s → Steps (g.A.Acts.means c.args.acts.now b.tid) first b.tid known c.give_back.result l s (entries_of c.give_back.new.stack.items c.give_back.new.state.base.saved) c.give_back.new.state.state)
+    subst (λ (l : List left.Entry). AllStem b.tid known l s → Steps (g.A.Acts.means c.args.acts.now c.args.program.now b.tid) first b.tid known c.give_back.result l s (entries_of c.give_back.new.stack.items c.give_back.new.state.base.saved) c.give_back.new.state.state)
     (sym (put_one items (items ++ c.args.entry ∷ []) _ b.saved (ap (λ k. items ++ k ∷ []) c.in-Returning.is) refl)) (c.give_back.ensures.steps first known) st

@@ -13,9 +13,10 @@ pub returns-in_ok-push-in-Passed-clause-steps : goal.returns-in_ok-push-in-Passe
 returns-in_ok-push-in-Passed-clause-steps g c = λ first known s before is e st.
     let tid = c.args.state.now.base.tid in
     let acts = c.args.acts.now in
+    let program = c.args.program.now in
     let heaps = c.args.state.now.base.saved in
     let a = rw c.in-Passed.is at e in
-    leads_here (g.A.Acts.means acts tid) tid (g.A.Acts.does acts tid) (g.met.A.Acts.split acts tid) first known (entries_of c.args.stack.now.items heaps) (place c.args.method.now c.args.depth) s c.args.others.now before c.args.state.now.state passed _ tt a st
+    leads_here (g.A.Acts.means acts program tid) tid (g.A.Acts.does acts program tid) (g.met.A.Acts.split acts program tid) first known (entries_of c.args.stack.now.items heaps) (place c.args.method.now c.args.depth) s c.args.others.now before c.args.state.now.state passed _ tt a st
     (put_one c.args.stack.now.items c.push.new.self.items _ heaps c.in_ok-push-in-Passed.ensures.items refl)
 
 pub returns-in_ok-push-in-Passed-clause-matched : goal.returns-in_ok-push-in-Passed-clause-matched
@@ -25,9 +26,10 @@ pub returns-in_ok-push-in-Into-2-clause-steps : goal.returns-in_ok-push-in-Into-
 returns-in_ok-push-in-Into-2-clause-steps g c = λ first known s before is e st.
     let tid = c.args.state.now.base.tid in
     let acts = c.args.acts.now in
+    let program = c.args.program.now in
     let heaps = c.args.state.now.base.saved in
     let a = rw c.in-Into.is at e in
-    leads_here (g.A.Acts.means acts tid) tid (g.A.Acts.does acts tid) (g.met.A.Acts.split acts tid) first known (entries_of c.args.stack.now.items heaps) (place c.args.method.now c.args.depth) s c.args.others.now before c.args.state.now.state (into c.in-Into.block.now) _ tt a st
+    leads_here (g.A.Acts.means acts program tid) tid (g.A.Acts.does acts program tid) (g.met.A.Acts.split acts program tid) first known (entries_of c.args.stack.now.items heaps) (place c.args.method.now c.args.depth) s c.args.others.now before c.args.state.now.state (into c.in-Into.block.now) _ tt a st
     (put_two c.args.stack.now.items c.push-in-Into.new.self.items c.push-in-Into-2.new.self.items _ _ heaps c.in_ok-push-in-Into.ensures.items c.in_ok-push-in-Into-2.ensures.items refl refl)
 
 pub returns-in_ok-push-in-Into-2-clause-matched : goal.returns-in_ok-push-in-Into-2-clause-matched
@@ -39,10 +41,11 @@ pub returns-in_ok-push-in-Again-2-clause-steps : goal.returns-in_ok-push-in-Agai
 returns-in_ok-push-in-Again-2-clause-steps g c = λ first known s before is e st.
     let tid = c.args.state.now.base.tid in
     let acts = c.args.acts.now in
+    let program = c.args.program.now in
     let heaps = c.args.state.now.base.saved in
     let p = place c.args.method.now c.args.depth in
     let a = rw c.in-Again.is at e in
-    leads_here (g.A.Acts.means acts tid) tid (g.A.Acts.does acts tid) (g.met.A.Acts.split acts tid) first known (entries_of c.args.stack.now.items heaps) p s c.args.others.now before c.args.state.now.state (again c.in-Again.block.now) _ tt a st
+    leads_here (g.A.Acts.means acts program tid) tid (g.A.Acts.does acts program tid) (g.met.A.Acts.split acts program tid) first known (entries_of c.args.stack.now.items heaps) p s c.args.others.now before c.args.state.now.state (again c.in-Again.block.now) _ tt a st
     (put_two c.args.stack.now.items c.push-in-Again.new.self.items c.push-in-Again-2.new.self.items _ _ heaps c.in_ok-push-in-Again.ensures.items c.in_ok-push-in-Again-2.ensures.items refl refl
     ∙ ap (λ l. entries_of c.args.stack.now.items heaps ++ rest p l ∷ rest p c.in-Again.block.now ∷ []) is)
 
@@ -55,11 +58,12 @@ pub returns-in_ok-push-in-Try-3-clause-steps : goal.returns-in_ok-push-in-Try-3-
 returns-in_ok-push-in-Try-3-clause-steps g c = λ first known s before is e st.
     let tid = c.args.state.now.base.tid in
     let acts = c.args.acts.now in
+    let program = c.args.program.now in
     let heaps = c.args.state.now.base.saved in
     let h = c.args.state.now.state.heap in
     let p = place c.args.method.now c.args.depth in
     let a = rw c.in-Try.is at e in
-    rw c.in_ok-locals-in-Try.ensures.saved (leads_here (g.A.Acts.means acts tid) tid (g.A.Acts.does acts tid) (g.met.A.Acts.split acts tid) first known (entries_of c.args.stack.now.items heaps) p s c.args.others.now before c.args.state.now.state (trying c.in-Try.block.now c.in-Try.otherwise.now) _ tt a st
+    rw c.in_ok-locals-in-Try.ensures.saved (leads_here (g.A.Acts.means acts program tid) tid (g.A.Acts.does acts program tid) (g.met.A.Acts.split acts program tid) first known (entries_of c.args.stack.now.items heaps) p s c.args.others.now before c.args.state.now.state (trying c.in-Try.block.now c.in-Try.otherwise.now) _ tt a st
     (put_trial c.args.stack.now.items c.push-in-Try.new.self.items c.push-in-Try-2.new.self.items c.push-in-Try-3.new.self.items _ _ _ h heaps c.in_ok-push-in-Try.ensures.items c.in_ok-push-in-Try-2.ensures.items c.in_ok-push-in-Try-3.ensures.items refl refl refl
     ∙ ap (λ l. entries_of c.args.stack.now.items heaps ++ rest p c.args.others.now ∷ tried p l h c.in-Try.otherwise.now ∷ rest p c.in-Try.block.now ∷ []) c.in_ok-locals-in-Try.ensures.locals))
 
@@ -71,6 +75,7 @@ pub returns-in_ok-push-in-Enter-clause-steps : goal.returns-in_ok-push-in-Enter-
 returns-in_ok-push-in-Enter-clause-steps g c = λ first known s before is e st.
     let tid = c.args.state.now.base.tid in
     let acts = c.args.acts.now in
+    let program = c.args.program.now in
     let heaps = c.args.state.now.base.saved in
     let a = rw c.in-Enter.is at e in
     c.enter-in-Enter.ensures.steps first known (entries_of c.args.stack.now.items heaps) s c.args.others.now before (put_one c.args.stack.now.items c.push-in-Enter.new.self.items _ heaps c.in_ok-push-in-Enter.ensures.items refl) a st

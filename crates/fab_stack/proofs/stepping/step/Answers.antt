@@ -12,7 +12,7 @@ pub returns-then-branch-clause-turns : goal.returns-then-branch-clause-turns
 returns-then-branch-clause-turns g c = λ known st.
     let b = c.args.state.now.base in
     let s = c.args.state.now.state in
-    let m = g.A.Acts.means c.args.acts.now b.tid in
+    let m = g.A.Acts.means c.args.acts.now c.args.program.now b.tid in
     let first = at_start c.args.first.now in
     let js = entries_of c.args.stack.now.items b.saved in
     let ks = entries_of c.advance.new.stack.items c.advance.new.state.base.saved in
@@ -25,7 +25,7 @@ pub returns-in-Ok-clause-turns : goal.returns-in-Ok-clause-turns
 returns-in-Ok-clause-turns g c = λ known st.
     let b = c.args.state.now.base in
     let s = c.args.state.now.state in
-    let m = g.A.Acts.means c.args.acts.now b.tid in
+    let m = g.A.Acts.means c.args.acts.now c.args.program.now b.tid in
     let first = at_start c.args.first.now in
     let js = entries_of c.args.stack.now.items b.saved in
     let ks = entries_of c.advance.new.stack.items c.advance.new.state.base.saved in
@@ -36,7 +36,7 @@ pub returns-else-branch-clause-turns : goal.returns-else-branch-clause-turns
 returns-else-branch-clause-turns g c = λ known st.
     let b = c.args.state.now.base in
     let s = c.args.state.now.state in
-    let m = g.A.Acts.means c.args.acts.now b.tid in
+    let m = g.A.Acts.means c.args.acts.now c.args.program.now b.tid in
     let first = at_start c.args.first.now in
     let js = entries_of c.args.stack.now.items b.saved in
     let ks = entries_of c.advance.new.stack.items c.advance.new.state.base.saved in
@@ -49,7 +49,7 @@ pub returns-in-Err-Ended-Stopped-clause-turns : goal.returns-in-Err-Ended-Stoppe
 returns-in-Err-Ended-Stopped-clause-turns g c = λ known st.
     let b = c.args.state.now.base in
     let s = c.args.state.now.state in
-    let m = g.A.Acts.means c.args.acts.now b.tid in
+    let m = g.A.Acts.means c.args.acts.now c.args.program.now b.tid in
     let first = at_start c.args.first.now in
     let js = entries_of c.args.stack.now.items b.saved in
     let ks = entries_of c.advance.new.stack.items c.advance.new.state.base.saved in
@@ -61,7 +61,7 @@ pub returns-in-Err-Ended-Missing-clause-turns : goal.returns-in-Err-Ended-Missin
 returns-in-Err-Ended-Missing-clause-turns g c = λ known st.
     let b = c.args.state.now.base in
     let s = c.args.state.now.state in
-    let m = g.A.Acts.means c.args.acts.now b.tid in
+    let m = g.A.Acts.means c.args.acts.now c.args.program.now b.tid in
     let first = at_start c.args.first.now in
     let js = entries_of c.args.stack.now.items b.saved in
     let ks = entries_of c.advance.new.stack.items c.advance.new.state.base.saved in
