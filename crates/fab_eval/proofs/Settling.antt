@@ -1,11 +1,12 @@
 -- From the steps of a run to what was meant.
-use Rattle.std.proofs.Common.{◌≡◌, ℕ, List, [], Option, Some, None, Result, Ok, Err, IfOk, refl, sym, ap, ◌∙◌, subst}
+use Rattle.std.proofs.Common.{◌≡◌, ℕ, List, [], length, take, Option, Some, None, Result, Ok, Err, IfOk, refl, sym, ap, ◌∙◌, subst}
 use Rattle.std.specs.declared.alloc.AllocError.{AllocError}
 use Rattle.fab_base.specs.declared.object.Oid.{Oid}
 use Rattle.fab_base.specs.declared.object.Tid.{Tid}
 use Rattle.fab_base.specs.declared.object.Value.{Value}
 use Rattle.fab_tree.specs.declared.resolved.Method.{Method}
 use Rattle.fab_tree.specs.declared.resolved.Resolved.{Resolved}
+use Rattle.fab_language.specs.Heaps.{touched}
 use Rattle.fab_language.specs.Meaning.{Run, goes, ends, missing, Meant, meant_by, meant_at, ending_at}
 use Rattle.fab_left.specs.Acts.{meanings}
 use Rattle.fab_left.specs.Left as left
@@ -16,7 +17,7 @@ use Rattle.fab_stack.specs.declared.halt.End.TheVariants.{Failed, Stopped, Missi
 use Rattle.fab_stack.specs.declared.stack.Entry.{Entry}
 use Rattle.fab_stack.specs.declared.stepping.Way.{Way}
 use Rattle.fab_stack.specs.declared.stepping.Way.TheVariants.{Over, Lacks}
-use Rattle.fab_stack.specs.Points.{Point}
+use Rattle.fab_stack.specs.Points.{Point, point_before}
 use Rattle.fab_stack.specs.Stacks.{entries_of}
 use Rattle.fab_stack.specs.Stepping.{GoesOn, IsMatched, IsSameAttempt, Runs}
 use Rattle.fab_eval.specs.declared.found.At.{At}
@@ -25,7 +26,7 @@ use Rattle.fab_eval.specs.declared.job.Job.{Job}
 use Rattle.fab_eval.specs.declared.job.Outcome.{Outcome}
 use Rattle.fab_eval.specs.declared.job.Outcome.TheVariants.{Need}
 use Rattle.fab_eval.specs.Founds.{IsFound, IsOver, Rests}
-use Rattle.fab_eval.specs.Lefts.{IsLeftOf, asked_by, known_of, point_before}
+use Rattle.fab_eval.specs.Lefts.{IsLeftOf, asked_by, known_of}
 use Rattle.fab_eval.specs.Outcomes.{meant_of, outcome_by}
 use Rattle.fab_eval.specs.Settles.{Comes, Settles, ending_of}
 
@@ -55,10 +56,10 @@ module _ (job : Job) (program : Resolved) (is : program ≡ job.program.value) (
       by (Err (Missing site o)) r s = absurd r
 
   -- it lacks an object
-  pub lacks_found : (at : At) (f : Found) → at.first.now ≡ first → at.stack.items ≡ ks → at.state ≡ q → Made program p.base.tid (Lacks at.site at.oid at.fuel at.count) → IsMatched ks q → IsSameAttempt q.base p.base
+  pub lacks_found : (at : At) (f : Found) → at.first.now ≡ first → at.stack.items ≡ ks → at.state ≡ q → Made program p.base.tid (Lacks at.site at.oid at.fuel at.pairs at.objects) → IsMatched ks q → IsSameAttempt q.base p.base
       → f.outcome ≡ Need at.site at.oid → f.touches ≡ q.state.touches → f.downs ≡ q.state.downs → f.at ≡ Some at → IsFound job f
   lacks_found at f fi si qi h matched same o t d e =
-      let r = made (Lacks at.site at.oid at.fuel at.count) h in
+      let r = made (Lacks at.site at.oid at.fuel at.pairs at.objects) h in
       let meant : meant_of job ≡ meant_at (ending_at (missing at.site at.oid)) q.state = ap meant_by (left_is.begun [] tt ∙ r.0) in
       record {
         comes = record {
@@ -68,13 +69,16 @@ module _ (job : Job) (program : Resolved) (is : program ≡ job.program.value) (
         };
         rests = rw e (
           o,
-          rw (fi, si, qi) (record {
-            begun = λ more fresh. left_is.begun more fresh ∙ sym (r.1.same more fresh);
-            stem = r.1.stem;
-            matched = matched;
-            tid = same.tid ∙ left_is.tid;
-            versions = versions_kept same;
-          }),
+          record {
+            rest = rw (fi, si, qi) (record {
+              begun = λ more fresh. left_is.begun more fresh ∙ sym (r.1.same more fresh);
+              stem = r.1.stem;
+              matched = matched;
+              tid = same.tid ∙ left_is.tid;
+              versions = versions_kept same;
+            });
+            objects = r.2 ∙ sym (ap (λ (z : Point). length (touched (take at.pairs z.state.touches))) qi);
+          },
         );
       }
 
@@ -83,3 +87,9 @@ module _ (job : Job) (program : Resolved) (is : program ≡ job.program.value) (
   pub over_is : (ended : Result (Option Value) End) (r : Result Found AllocError) → Made program p.base.tid (Over ended) → IsSameAttempt q.base p.base → IfOk r (λ f. Settles ended q f.outcome f.touches f.downs) → IfOk r (λ f. f.at ≡ None) → IfOk r (IsFound job)
   over_is ended (Ok f) h same settles none = over_found ended f h same settles none
   over_is ended (Err e) h same settles none = tt
+
+  pub lacks_is : (at : At) (r : Result Found AllocError) → at.first.now ≡ first → at.stack.items ≡ ks → at.state ≡ q → Made program p.base.tid (Lacks at.site at.oid at.fuel at.pairs at.objects) → IsMatched ks q → IsSameAttempt q.base p.base
+      → IfOk r (λ f. f.outcome ≡ Need at.site at.oid) → IfOk r (λ f. f.touches ≡ at.state.state.touches) → IfOk r (λ f. f.downs ≡ at.state.state.downs) → IfOk r (λ f. f.at ≡ Some at) → IfOk r (IsFound job)
+  lacks_is at (Ok f) fi si qi h matched same o t d e =
+      lacks_found at f fi si qi h matched same o (t ∙ ap (λ (z : Point). z.state.touches) qi) (d ∙ ap (λ (z : Point). z.state.downs) qi) e
+  lacks_is at (Err x) fi si qi h matched same o t d e = tt

@@ -5,7 +5,7 @@ use Rattle.fab_base.specs.FlatMap.{FlatMap, map_of}
 use Rattle.fab_tree.specs.declared.resolved.Method.{Method}
 use Rattle.fab_language.specs.Meaning.{Run}
 use Rattle.fab_left.specs.Acts.{meanings, asked}
-use Rattle.fab_left.specs.Left.{AllStem, IsBegun, at_start, before}
+use Rattle.fab_left.specs.Left.{AllStem, IsBegun, at_start}
 use Rattle.fab_nested.specs.Nested.{objects_of, versions_of}
 use Rattle.fab_stack.specs.declared.stack.Entry.{Entry}
 use Rattle.fab_stack.specs.Points.{Point}
@@ -28,7 +28,3 @@ pub record IsLeftOf (job : Job) (first : Method) (items : List Entry) (p : Point
   pub matched : IsMatched items p
   pub tid : p.base.tid ≡ job.tid
   pub versions : p.base.versions ≡ versions_of job.answers
-
--- the point before a statement that lacked an object
-abbrev pub point_before : ℕ → ℕ → Point → Point
-point_before fuel count p = record p { state = before fuel count p.state }

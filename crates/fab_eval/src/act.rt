@@ -10,7 +10,7 @@ use fab_values::holds;
 
 /// Does what a statement does at once, which costs 1.
 #[tactic(auto, using(crate::proofs::Acting::act_assign, crate::proofs::Acting::act_write, crate::proofs::Acting::act_call, crate::proofs::Acting::act_if, crate::proofs::Acting::act_while, crate::proofs::Acting::act_atomic, crate::proofs::Acting::act_fail))]
-pub(crate) fn act<'a>(state: &mut State, s: &'a Statement) -> Result<Lead<'a>, Halt>
+pub(crate) fn act<'a>(state: &mut State<'_>, s: &'a Statement) -> Result<Lead<'a>, Halt>
     ensures gives { Leads result state.new (act state.old.base.tid s.now state.old.state) }
     ensures base { state.new.base ≡ state.old.base }
     ensures fuel { Lowers result state.old.state.fuel state.new.state.fuel }
@@ -63,7 +63,7 @@ pub(crate) fn act<'a>(state: &mut State, s: &'a Statement) -> Result<Lead<'a>, H
 }
 
 /// Gives a local what a right side comes to, or calls the method that gives it.
-fn assignment<'a>(state: &mut State, local: u16, right: &'a Right) -> Result<Lead<'a>, Halt>
+fn assignment<'a>(state: &mut State<'_>, local: u16, right: &'a Right) -> Result<Lead<'a>, Halt>
     ensures gives { Leads result state.new (right_act state.old.base.tid local right.now state.old.state) }
     ensures base { state.new.base ≡ state.old.base }
     ensures fuel { state.new.state.fuel ≡ state.old.state.fuel }

@@ -12,11 +12,12 @@ ghost use Rattle.fab_eval.specs.declared.job.Outcome.TheVariants.{Need};
 ghost use Rattle.fab_eval.specs.Founds.{IsFound};
 ghost use Rattle.fab_eval.specs.Lefts.{IsLeftOf};
 ghost use Rattle.fab_eval.specs.Outcomes.{outcome_at};
+ghost use Rattle.fab_eval.specs.Pauses.{Resumes};
 ghost use Rattle.fab_eval.specs.Settles.{Settles};
 
 use crate::job::{Job, Outcome};
 use crate::plain::{Plain, locals_at_start};
-use fab_base::{NoMemory, Oid, Seq, Value};
+use fab_base::{NoMemory, Object, Oid, Seq, Value};
 use fab_stack::{End, Entry, State, Way, begun, run};
 use fab_tree::resolved::{Method, Resolved};
 use std::alloc::Global;
@@ -24,16 +25,18 @@ use std::alloc::Global;
 const FUEL: u32 = 1_000_000;
 
 /// Where a job lacks an object: the method that was asked for, what is left to do, the state at the
-/// lack, and the fuel before what lacks it with how many touches there were.
+/// lack, and the fuel before what lacks it with how many touches there were, of
+/// how many objects.
 #[derive(Drop)]
 pub(crate) struct At<'a> {
     pub(crate) site: u16,
     pub(crate) oid: Oid,
     pub(crate) first: &'a Method,
     pub(crate) stack: Vec<Entry<'a>>,
-    pub(crate) state: State,
+    pub(crate) state: State<'a>,
     pub(crate) fuel: u32,
-    pub(crate) count: usize,
+    pub(crate) pairs: usize,
+    pub(crate) objects: usize,
 }
 
 /// What a job comes to, and where it lacks an object.
@@ -66,26 +69,60 @@ pub(crate) fn from_start<'a>(
     going(program, first, stack, state)
 }
 
+/// Goes on with an answer, from what is kept of a job or from its start.
+pub(crate) fn with_answer<'a>(
+    alloc: Global,
+    program: &'a Resolved,
+    job: &Job,
+    at: Option<At<'a>>,
+    oid: Oid,
+    version: u32,
+    object: Object,
+) -> Result<Found<'a>, NoMemory>
+    requires program { program.now ≡ job.now.program.value }
+    requires distinct { IsDistinct is_same (names_of job.now.answers) }
+    requires made_before { list_any (λ a. is_made_in job.now.tid a.0) job.now.answers ≡ false }
+    requires resumes { Resumes job.now oid version object at }
+    ensures { IfOk result (IsFound job.now) }
+{
+    let Some(at) = at else {
+        return from_start(alloc, program, job);
+    };
+    let At {
+        site: _,
+        oid: _,
+        first,
+        stack,
+        mut state,
+        fuel,
+        pairs,
+        objects,
+    } = at;
+    state.go_back(fuel, pairs, objects);
+    state.answer(oid, version, object)?;
+    going(program, first, stack, state)
+}
+
 /// Runs what is left of a job.
-pub(crate) fn going<'a>(
+fn going<'a>(
     program: &'a Resolved,
     first: &'a Method,
     stack: Vec<Entry<'a>>,
-    state: State,
+    state: State<'a>,
 ) -> Result<Found<'a>, NoMemory>
     requires { IsMatched stack.items state }
-    ensures { IfOk result (λ found. (job : AnyJob) → program.now ≡ job.program.value → IsLeftOf job first.now stack.entry.items state → IsFound job found) }
+    ensures { IfOk result (λ found. (job : AnyJob) → program.now ≡ job.program.value → IsLeftOf job first.now stack.entry.items state.entry → IsFound job found) }
 {
     let mut stack = stack;
     let mut state = state;
-    let plain = Plain { program };
-    match run(&plain, first, &mut stack, &mut state)? {
+    match run(&Plain, program, first, &mut stack, &mut state)? {
         Way::Over(ended) => over(ended, state),
         Way::Lacks {
             site,
             oid,
             fuel,
-            count,
+            pairs,
+            objects,
         } => lacking(At {
             site,
             oid,
@@ -93,14 +130,15 @@ pub(crate) fn going<'a>(
             stack,
             state,
             fuel,
-            count,
+            pairs,
+            objects,
         }),
     }
 }
 
 /// What a run came to that is over, from how it ended and the state at its end.
-fn over<'a>(ended: Result<Option<Value>, End>, state: State) -> Result<Found<'a>, NoMemory>
-    ensures settles { IfOk result (λ f. Settles ended state f.outcome f.touches f.downs) }
+fn over<'a>(ended: Result<Option<Value>, End>, state: State<'a>) -> Result<Found<'a>, NoMemory>
+    ensures settles { IfOk result (λ f. Settles ended state.entry f.outcome f.touches f.downs) }
     ensures at { IfOk result (λ f. f.at ≡ None) }
 {
     let outcome = match ended {

@@ -7,8 +7,10 @@ mod expressions;
 mod found;
 mod job;
 mod plain;
+mod turn;
 mod whole;
 
 pub use done::Done;
 pub use job::{EvalRefused, Job, Outcome, copy_of_request};
+pub use turn::{Paused, PausedRefused, Turn, start};
 pub use whole::evaluate;

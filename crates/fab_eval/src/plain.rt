@@ -16,53 +16,63 @@ use fab_tree::resolved::{Method, Resolved, Statement};
 use fab_values::default;
 use std::alloc::Global;
 
-/// A program that is read by its meaning.
+/// Programs are read by their meaning.
 #[derive(Clone, Copy)]
-pub(crate) struct Plain<'a> {
-    pub(crate) program: &'a Resolved,
-}
+pub(crate) struct Plain;
 
-impl<'a> Acts<'a> for Plain<'a> {
-    ghost means = { λ p. meanings p.program.now };
+impl Acts for Plain {
+    ghost means = { λ x. meanings };
 
-    ghost does = { λ p tid q. act tid };
+    ghost does = { λ x program tid p. act tid };
 
-    fn act(
+    fn act<'a>(
         &self,
-        state: &mut State,
+        _program: &'a Resolved,
+        state: &mut State<'_>,
         _method: &'a Method,
         statement: &'a Statement,
     ) -> Result<Lead<'a>, Halt> {
         act(state, statement)
     }
 
-    fn result_of(&self, state: &mut State, method: &'a Method) -> Result<Option<Value>, Halt> {
+    fn result_of(
+        &self,
+        _program: &Resolved,
+        state: &mut State<'_>,
+        method: &Method,
+    ) -> Result<Option<Value>, Halt> {
         result_of(state, method)
     }
 
     fn hand(
         &self,
-        state: &mut State,
-        _caller: &'a Method,
+        state: &mut State<'_>,
+        _caller: &Method,
         target: Option<u16>,
         value: Option<Value>,
     ) {
         hand(state, target, value);
     }
 
-    fn call(&self, _alloc: Global, number: u16, args: Seq<Value>) -> Result<Call<'a>, NoMemory> {
-        let Some(callee) = self.program.methods.as_slice().get(number as usize) else {
+    fn call<'a>(
+        &self,
+        _alloc: Global,
+        program: &'a Resolved,
+        number: u16,
+        args: Seq<Value>,
+    ) -> Result<Call<'a>, NoMemory> {
+        let Some(callee) = program.methods.as_slice().get(number as usize) else {
             return Ok(Call::Absent);
         };
         let locals = locals_at_start(callee, args)?;
         Ok(Call::Runs(callee, locals))
     }
 
-    ghost split = { λ p tid. plain_split p.program.now tid };
+    ghost split = { λ x program tid. plain_split program tid };
 }
 
 /// What a method returns.
-fn result_of(state: &mut State, method: &Method) -> Result<Option<Value>, Halt>
+fn result_of(state: &mut State<'_>, method: &Method) -> Result<Option<Value>, Halt>
     ensures gives { Gives result state.new (returned method.now.result state.old.state) }
     ensures base { state.new.base ≡ state.old.base }
     ensures fuel { state.new.state.fuel ≡ state.old.state.fuel }
@@ -74,7 +84,7 @@ fn result_of(state: &mut State, method: &Method) -> Result<Option<Value>, Halt>
 }
 
 /// Gives what a call gave to a local, or to none.
-fn hand(state: &mut State, target: Option<u16>, value: Option<Value>)
+fn hand(state: &mut State<'_>, target: Option<u16>, value: Option<Value>)
     ensures gives { (program : AnyProgram) (tid : AnyTid) (p : Place) → Gives (Ok tt) state.new (handed (meanings program tid) p target value state.old.state) }
     ensures base { state.new.base ≡ state.old.base }
     ensures fuel { state.new.state.fuel ≡ state.old.state.fuel }

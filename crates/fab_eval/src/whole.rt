@@ -4,11 +4,12 @@ ghost use Rattle.std.specs.List.{IsDistinct, list_any};
 ghost use Rattle.fab_base.specs.FlatMap.{is_same};
 ghost use Rattle.fab_nested.specs.Nested.{names_of};
 ghost use Rattle.fab_eval.specs.Attempts.{is_made_in};
-ghost use Rattle.fab_eval.specs.Founds.{IsFound};
+ghost use Rattle.fab_eval.specs.declared.job.Job.{Job as AnyJob};
+ghost use Rattle.fab_eval.specs.Turns.{Turns};
 
 use crate::done::Done;
-use crate::found::{Found, from_start};
 use crate::job::{EvalRefused, Job};
+use crate::turn::{Turn, start};
 use fab_tree::resolved::Resolved;
 use std::alloc::Global;
 
@@ -23,27 +24,18 @@ pub fn evaluate(alloc: Global, job: Job) -> Result<Done, EvalRefused>
         return Err(EvalRefused { job });
     };
     let program: &Resolved = &shared;
-    match from_start(alloc, program, &job) {
-        Ok(found) => Ok(done_of(job, found)),
-        Err(_) => Err(EvalRefused { job }),
+    match start(alloc, program, job) {
+        Ok(turn) => Ok(done_of(turn)),
+        Err(refused) => Err(refused),
     }
 }
 
-/// A job with what was found of it.
-fn done_of(job: Job, found: Found<'_>) -> Done
-    requires { IsFound job found }
-    ensures { result.job ≡ job }
+/// The job so far.
+fn done_of(turn: Turn<'_>) -> Done
+    ensures { (job : AnyJob) → Turns job turn.entry → result.job ≡ job }
 {
-    let Found {
-        outcome,
-        touches,
-        downs,
-        at: _,
-    } = found;
-    Done {
-        job,
-        outcome,
-        touches,
-        downs,
+    match turn {
+        Turn::Done(done) => done,
+        Turn::Paused(paused) => paused.into_done(),
     }
 }

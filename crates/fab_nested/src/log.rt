@@ -5,19 +5,13 @@ ghost use Rattle.fab_nested.specs.Logs.{before_all, heap_of, noted_change};
 use crate::objects::Objects;
 use fab_base::{Oid, Value};
 
-/// A change of a heap, with what undoes it: a field that was written, with what it held and whether
-/// the object joined those that were written; or an object that was made.
+/// A change of a heap, with what undoes it: a field of an object that was changed before was written,
+/// with what it held; an object was written for the first time; or one was made.
 #[derive(Clone, Copy, Debug)]
 pub(crate) enum Change {
-    Wrote {
-        oid: Oid,
-        field: u16,
-        old: Value,
-        joined: bool,
-    },
-    Made {
-        oid: Oid,
-    },
+    Wrote { oid: Oid, field: u16, old: Value },
+    Joined { oid: Oid },
+    Made { oid: Oid },
 }
 
 /// Notes a change for which there is room, where there is a mark to which it may be undone.

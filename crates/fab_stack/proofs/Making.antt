@@ -1,5 +1,5 @@
 -- What an attempt makes: the next name is new, and each step keeps that.
-use Rattle.std.proofs.Common.{◌≡◌, ℕ, ◌+◌, ◌<◌, Bool, true, false, ◌||◌, ◌==◌, List, [], ◌∷◌, ◌++◌, Option, Some, None, is_some, Result, Ok, Err, OnOk, OnErr, if◌then◌else◌, count_by, refl, sym, ap, ◌∙◌, subst, arith, zero-add}
+use Rattle.std.proofs.Common.{◌≡◌, ℕ, ◌+◌, ◌<◌, Bool, true, false, ◌||◌, ◌==◌, List, [], ◌∷◌, ◌++◌, Option, Some, None, is_some, Result, Ok, Err, OnOk, OnErr, if◌then◌else◌, count_by, map, refl, sym, ap, ◌∙◌, subst, arith, zero-add}
 use Rattle.std.specs.List.{list_any, IsDistinct}
 use Rattle.std.specs.Map.{keys_of}
 use Rattle.std.proofs.lemmas.Bool.{true≢false}
@@ -17,7 +17,7 @@ use Rattle.fab_map.proofs.Rows.{get-put_other}
 use Rattle.fab_map.proofs.Made.{get-map_of}
 use Rattle.fab_language.specs.Heaps.{Heap, full, found, reach_in, reach_before, noted, is_among, is_full, is_changed, is_spent, touched, index_at, replaced, with_row}
 use Rattle.fab_language.specs.Meaning.{with_field, field_of, next_name}
-use Rattle.fab_nested.specs.Nested.{Nested, Answers, Call, gives, needs, stops, reached, settled, read, write, create, merged, aborted, back_to, kept_from, nested_of, names_of, objects_of}
+use Rattle.fab_nested.specs.Nested.{Nested, Answers, Call, answered, gives, needs, stops, reached, settled, read, write, create, merged, aborted, back_to, kept_from, nested_of, names_of, objects_of}
 use Rattle.fab_nested.specs.Calls.{Gives}
 use Rattle.fab_nested.specs.declared.frame_error.FrameError.{FrameError}
 use Rattle.fab_nested.specs.declared.frame_error.FrameError.TheVariants.{Memory, Need, Full}
@@ -190,3 +190,23 @@ begun_own tid answers distinct before = (
   },
   tt,
 )
+
+-- ---- an object is answered
+
+module _ (tid : Tid) (o : Oid) (version : ℕ) (x : Object) (unmade : is_made_in tid o ≡ false) where
+  answer_other : (h : Heap) (p : Oid) → is_made_in tid p ≡ true → (b : Bool) → is_same o p ≡ b → get (put o x h.rows) p ≡ get h.rows p
+  answer_other h p own true e = absurd (true≢false (sym own ∙ ap (is_made_in tid) (sym (one_name o p e)) ∙ unmade))
+  answer_other h p own false e = get-put_other o p x h.rows e
+
+  answer_kept : (h : Heap) → IsOfAttempt tid h → IsOfAttempt tid (with_row o x h)
+  answer_kept h a = record {
+    made = λ p own here. a.made p own (sym (ap is_some (answer_other h p own (is_same o p) refl)) ∙ here);
+    counted = a.counted;
+  }
+
+  all_kept : (heaps : List Heap) → AreOfAttempt tid heaps → AreOfAttempt tid (map (with_row o x) heaps)
+  all_kept [] are = tt
+  all_kept (h ∷ heaps) are = (answer_kept h are.0, all_kept heaps are.1)
+
+  pub answered_own : (n : Nested) → IsOwn tid n → IsOwn tid (answered o version x n)
+  answered_own n own = (answer_kept n.now own.0, all_kept n.saved own.1)

@@ -1,5 +1,5 @@
 -- Steps one after another, and the ends of a run.
-use Rattle.std.proofs.Common.{◌≡◌, ℕ, suc, List, [], ◌∷◌, ◌++◌, length, Option, Some, None, Result, Ok, Err, Bool, true, false, refl, sym, ap, ◌∙◌, subst, arith}
+use Rattle.std.proofs.Common.{◌≡◌, ℕ, suc, List, [], ◌∷◌, ◌++◌, length, take, Option, Some, None, Result, Ok, Err, Bool, true, false, refl, sym, ap, ◌∙◌, subst, arith}
 use Rattle.std.specs.declared.alloc.AllocError.{AllocError}
 use Rattle.fab_base.specs.declared.object.Oid.{Oid}
 use Rattle.fab_base.specs.declared.object.Tid.{Tid}
@@ -7,7 +7,7 @@ use Rattle.fab_base.specs.declared.object.Value.{Value}
 use Rattle.fab_base.specs.declared.object.Stop.{Stop}
 use Rattle.fab_base.specs.FlatMap.{FlatMap}
 use Rattle.fab_tree.specs.declared.resolved.Statement.{Statement}
-use Rattle.fab_language.specs.Heaps.{Heap}
+use Rattle.fab_language.specs.Heaps.{Heap, touched}
 use Rattle.fab_language.specs.Meaning.{State, Run, goes, ends, End, failed, stopped, missing, M, back_with}
 use Rattle.fab_left.specs.Deeds.{Deed}
 use Rattle.fab_left.specs.Left as left
@@ -81,7 +81,7 @@ module _ (means : Tid → Means) (first : Place) (known : FlatMap) (a b : Tid) (
   ends_at (Over (Err Failed)) g h = g.same [] tt ∙ h
   ends_at (Over (Err (Stopped stop))) g h = g.same [] tt ∙ h
   ends_at (Over (Err (Missing site o))) g h = h
-  ends_at (Lacks site o fuel count) g h = (g.same [] tt ∙ h.0, record { same = λ more fresh. g.same more fresh ∙ h.1.same more fresh; stem = h.1.stem })
+  ends_at (Lacks site o fuel pairs objects) g h = (g.same [] tt ∙ h.0, record { same = λ more fresh. g.same more fresh ∙ h.1.same more fresh; stem = h.1.stem }, h.2)
 
   pub run_ends : (way : Way) → b ≡ a → GoesOn (means a) first a known js r is s → (AllStem b known is s → Runs (means b) first b known way is s ks t) → Runs (means a) first a known way js r ks t
   run_ends way e g f = ends_at way g (subst (λ (x : Tid). AllStem x known is s → Runs (means x) first x known way is s ks t) e f g.stem)
@@ -101,18 +101,25 @@ module _ (m : Means) (first : Place) (tid : Tid) (known : FlatMap) (js ks : List
       no : stopped stop ≡ failed → ⊥
       no f = cc
 
-  pub lacks_all : (site : ℕ) (o : Oid) (fuel count : ℕ) → fuel ≡ s.fuel → count ≡ length s.touches → AllStem tid known js s → LacksSo m first site o js s ks t
-      → (left m first js s [] ≡ ends (missing site o) (record t { locals = [] })) × GoesOn m first tid known js s ks (before fuel count t)
-  lacks_all site o fuel count f c st l = (l.lacks, subst (λ (x : List left.Entry × State). GoesOn m first tid known js s x.0 x.1) together (record { same = λ more fresh. refl; stem = st }))
+  pub lacks_all : (site : ℕ) (o : Oid) (fuel pairs objects : ℕ) → fuel ≡ s.fuel → pairs ≡ length s.touches → objects ≡ length (touched s.touches) → AllStem tid known js s → LacksSo m first site o js s ks t
+      → (left m first js s [] ≡ ends (missing site o) (record t { locals = [] })) × GoesOn m first tid known js s ks (before fuel pairs t) × (objects ≡ length (touched (take pairs t.touches)))
+  lacks_all site o fuel pairs objects f c n st l = (
+    l.lacks,
+    subst (λ (x : List left.Entry × State). GoesOn m first tid known js s x.0 x.1) together (record { same = λ more fresh. refl; stem = st }),
+    n ∙ ap (λ (x : State). length (touched x.touches)) back,
+  )
     where
-      together : ◌≡◌ {A = List left.Entry × State} (js, s) (ks, before fuel count t)
-      together = λ k. (sym l.same k, sym (ap (λ n. before n count t) f ∙ ap (λ n. before s.fuel n t) c ∙ put_back s t l.waits) k)
+      back : s ≡ before fuel pairs t
+      back = sym (ap (λ k. before k pairs t) f ∙ ap (λ k. before s.fuel k t) c ∙ put_back s t l.waits)
+
+      together : ◌≡◌ {A = List left.Entry × State} (js, s) (ks, before fuel pairs t)
+      together = λ k. (sym l.same k, back k)
 
 -- what the method that was asked for returns lacks an object
-pub lacks_last : (m : Means) (tid : Tid) (does : Place → Statement → M Deed) → IsSplit m tid does → (first : Place) (known : FlatMap) (s t : State) (site : ℕ) (o : Oid) (fuel count : ℕ) → fuel ≡ s.fuel → count ≡ length s.touches → AllStem tid known [] s → m.result first s ≡ ends (missing site o) t
-    → (left m first [] s [] ≡ ends (missing site o) (record t { locals = [] })) × GoesOn m first tid known [] s [] (before fuel count t)
-lacks_last m tid does split first known s t site o fuel count f c st e =
-    lacks_all m first tid known [] [] s t site o fuel count f c st (record {
+pub lacks_last : (m : Means) (tid : Tid) (does : Place → Statement → M Deed) → IsSplit m tid does → (first : Place) (known : FlatMap) (s t : State) (site : ℕ) (o : Oid) (fuel pairs objects : ℕ) → fuel ≡ s.fuel → pairs ≡ length s.touches → objects ≡ length (touched s.touches) → AllStem tid known [] s → m.result first s ≡ ends (missing site o) t
+    → (left m first [] s [] ≡ ends (missing site o) (record t { locals = [] })) × GoesOn m first tid known [] s [] (before fuel pairs t) × (objects ≡ length (touched (take pairs t.touches)))
+lacks_last m tid does split first known s t site o fuel pairs objects f c n st e =
+    lacks_all m first tid known [] [] s t site o fuel pairs objects f c n st (record {
       lacks = ap (back_with []) e;
       same = refl;
       waits = (split.results first).misses s site o t e;

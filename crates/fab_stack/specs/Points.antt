@@ -1,14 +1,15 @@
 -- What an evaluation has at a point, as contracts see it.
-use Rattle.std.specs.Prelude.{ℕ, List, [], ◌∷◌, ◌++◌, map}
+use Rattle.std.specs.Prelude.{◌≡◌, ℕ, false, List, [], ◌∷◌, ◌++◌, map, None}
 use Rattle.fab_base.specs.declared.object.Object.{Object}
 use Rattle.fab_base.specs.declared.object.Oid.{Oid}
 use Rattle.fab_base.specs.declared.object.Tid.{Tid}
 use Rattle.fab_base.specs.declared.object.Value.{Value}
-use Rattle.fab_base.specs.FlatMap.{map_of}
+use Rattle.fab_base.specs.FlatMap.{get, map_of}
 use Rattle.fab_language.specs.Heaps.{Heap}
 use Rattle.fab_language.specs.Meaning.{State, state_at_start}
-use Rattle.fab_left.specs.Left.{wider, with_more}
+use Rattle.fab_left.specs.Left.{before, wider, with_more}
 use Rattle.fab_nested.specs.Nested.{Answers, objects_of, versions_of}
+use Rattle.fab_stack.specs.Attempts.{is_made_in}
 
 -- what stays through each step that goes on or fails: the attempt, the versions of the answers, and the heaps that are saved, the last one first
 pub record Base : Type 0 where
@@ -70,3 +71,12 @@ with_answer o version x p = record {
   state = wider ((o, x) ∷ []) p.state;
   base = record { tid = p.base.tid; versions = p.base.versions ++ (o, version) ∷ []; saved = map (with_more ((o, x) ∷ [])) p.base.saved };
 }
+
+-- an object of this name isn't in the heap, and isn't one of the attempt's
+pub record Lacks (o : Oid) (p : Point) : Type 0 where
+  pub absent : get p.state.heap.rows o ≡ None
+  pub unmade : is_made_in p.base.tid o ≡ false
+
+-- the point before what lacked an object
+abbrev pub point_before : ℕ → ℕ → Point → Point
+point_before fuel count p = record p { state = before fuel count p.state }

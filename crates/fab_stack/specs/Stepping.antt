@@ -1,10 +1,11 @@
 -- What one step does with what is left to do, and what all steps do.
-use Rattle.std.specs.Prelude.{◌≡◌, ℕ, ◌+◌, ◌*◌, ◌<◌, Bool, true, false, List, [], length, Option, Some, None, Result, Ok, Err}
+use Rattle.std.specs.Prelude.{◌≡◌, ℕ, ◌+◌, ◌*◌, ◌<◌, Bool, true, false, List, [], length, take, Option, Some, None, Result, Ok, Err}
 use Rattle.std.specs.declared.alloc.AllocError.{AllocError}
 use Rattle.fab_base.specs.declared.object.Oid.{Oid}
 use Rattle.fab_base.specs.declared.object.Tid.{Tid}
 use Rattle.fab_base.specs.declared.object.Value.{Value}
 use Rattle.fab_base.specs.FlatMap.{FlatMap}
+use Rattle.fab_language.specs.Heaps.{touched}
 use Rattle.fab_language.specs.Meaning.{State, End, failed, stopped, missing, Run, goes, ends}
 use Rattle.fab_left.specs.Left as left
 use Rattle.fab_left.specs.Left.{Means, Place, left, IsLeft, AllStem, DiffersLittle, before}
@@ -72,23 +73,18 @@ Unwinds m first tid known (Err e) js s ks t = Unit {0}
 
 -- ---- all steps
 
--- All is over. Or an object lacks, and the state before that statement and what is left there come back by its fuel and the
--- number of its touches.
+-- All is over. Or an object lacks, and the state before what lacks it and what is left there come back by its fuel and the
+-- number of its touches, which were of so many objects.
 abbrev pub Runs : Means → Place → Tid → FlatMap → Way → List left.Entry → State → List left.Entry → State → Type 0
 Runs m first tid known (Over (Ok v)) js s ks t = left m first js s [] ≡ goes v (record t { locals = [] })
 Runs m first tid known (Over (Err Failed)) js s ks t = left m first js s [] ≡ ends failed (record t { locals = [] })
 Runs m first tid known (Over (Err (Stopped stop))) js s ks t = left m first js s [] ≡ ends (stopped stop) (record t { locals = [] })
 Runs m first tid known (Over (Err (Missing site o))) js s ks t = ⊥
-Runs m first tid known (Lacks site o fuel count) js s ks t =
-    (left m first js s [] ≡ ends (missing site o) (record t { locals = [] })) × GoesOn m first tid known js s ks (before fuel count t)
+Runs m first tid known (Lacks site o fuel pairs objects) js s ks t =
+    (left m first js s [] ≡ ends (missing site o) (record t { locals = [] })) × GoesOn m first tid known js s ks (before fuel pairs t)
+    × (objects ≡ length (touched (take pairs t.touches)))
 
 -- the same at a step, where there is one more, or the run is over
 abbrev pub Turns : Means → Place → Tid → FlatMap → Option Way → List left.Entry → State → List left.Entry → State → Type 0
 Turns m first tid known None js s ks t = GoesOn m first tid known js s ks t
 Turns m first tid known (Some way) js s ks t = Runs m first tid known way js s ks t
-
--- how a run ended
-abbrev pub ended_by : Way → Result (Option Value) Halt
-ended_by (Over (Ok v)) = Ok v
-ended_by (Over (Err e)) = Err (Ended e)
-ended_by (Lacks site o fuel count) = Err (Ended (Missing site o))

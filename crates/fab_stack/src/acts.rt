@@ -33,7 +33,7 @@ pub trait Acts {
     fn act<'a>(
         &self,
         program: &'a Resolved,
-        state: &mut State,
+        state: &mut State<'_>,
         method: &'a Method,
         statement: &'a Statement,
     ) -> Result<Lead<'a>, Halt>
@@ -45,7 +45,7 @@ pub trait Acts {
     fn result_of(
         &self,
         program: &Resolved,
-        state: &mut State,
+        state: &mut State<'_>,
         method: &Method,
     ) -> Result<Option<Value>, Halt>
         ensures gives { (tid : AnyTid) (depth : ℕ) → Gives result state.new ((means self.now program.now tid).result (place method.now depth) state.old.state) }
@@ -53,7 +53,13 @@ pub trait Acts {
         ensures fuel { state.new.state.fuel ≡ state.old.state.fuel };
 
     /// Gives what a call gave to a local of its caller, or to none.
-    fn hand(&self, state: &mut State, caller: &Method, target: Option<u16>, value: Option<Value>)
+    fn hand(
+        &self,
+        state: &mut State<'_>,
+        caller: &Method,
+        target: Option<u16>,
+        value: Option<Value>,
+    )
         ensures gives { (program : AnyProgram) (tid : AnyTid) (depth : ℕ) → Gives (Ok tt) state.new (handed (means self.now program tid) (place caller.now depth) target value state.old.state) }
         ensures base { state.new.base ≡ state.old.base }
         ensures fuel { state.new.state.fuel ≡ state.old.state.fuel };

@@ -1,11 +1,12 @@
 //! What an evaluation has at a point, and the steps that change it.
-ghost use Rattle.std.specs.Prelude.{◌≡◌, ◌<◌, ◌≤◌, Ok, OnOk, IfOk, false, length};
+ghost use Rattle.std.specs.Prelude.{◌≡◌, ◌<◌, ◌≤◌, Ok, OnOk, IfOk, false, length, take};
 ghost use Rattle.std.specs.List.{IsDistinct, list_any};
 ghost use Rattle.fab_base.specs.FlatMap.{is_same};
+ghost use Rattle.fab_language.specs.Heaps.{touched};
 ghost use Rattle.fab_language.specs.Meaning.{assign, charge, create, local, noted_down, read, write};
 ghost use Rattle.fab_nested.specs.Nested.{names_of, writes_in, creates_in};
 ghost use Rattle.fab_stack.specs.Attempts.{is_made_in};
-ghost use Rattle.fab_stack.specs.Points.{aborted, merged, point_at_start, saving, with_locals};
+ghost use Rattle.fab_stack.specs.Points.{Lacks, aborted, merged, point_at_start, point_before, saving, with_answer, with_locals};
 ghost use Rattle.fab_stack.specs.Gives.{Gives, halt_at};
 
 use crate::halt::{End, Halt};
@@ -19,16 +20,16 @@ use std::mem;
 /// locals of the method that it is in, the objects, and the values that were downgraded. Contracts
 /// see it as the state that the meaning has, over what stays through each step. An object of this
 /// attempt is in no heap of it but where it was made.
-pub struct State {
+pub struct State<'a> {
     alloc: Global,
     tid: Tid,
     fuel: u32,
     locals: Vec<Value>,
-    frames: Frames,
+    frames: Frames<'a>,
     downs: Vec<(u16, Value)>,
 }
 
-impl Drop for State {
+impl Drop for State<'_> {
     fn drop(self) {
         let State {
             alloc,
@@ -41,7 +42,7 @@ impl Drop for State {
     }
 }
 
-impl Model for State {
+impl<'a> Model for State<'a> {
     ghost use Rattle.std.specs.Prelude.{[], ◌∷◌};
     ghost use Rattle.fab_stack.specs.Attempts.{AreOfAttempt};
     ghost use Rattle.fab_stack.specs.Points.{Point};
@@ -53,14 +54,14 @@ impl Model for State {
     ghost invariant = { λ s. AreOfAttempt s.tid (s.frames.now ∷ s.frames.saved) };
 }
 
-impl State {
+impl<'a> State<'a> {
     /// The state in which a request begins, with so much fuel, over the objects that were answered.
     pub fn begin(
         alloc: Global,
         tid: Tid,
         fuel: u32,
         answers: &[(Oid, u32, Object)],
-    ) -> Result<State, NoMemory>
+    ) -> Result<State<'a>, NoMemory>
         requires distinct { IsDistinct is_same (names_of answers.now) }
         requires made_before { list_any (λ a. is_made_in tid a.0) answers.now ≡ false }
         ensures { IfOk result (λ s. s ≡ point_at_start tid fuel answers.now) }
@@ -87,11 +88,12 @@ impl State {
         self.fuel
     }
 
-    /// How many touches there are.
-    pub(crate) fn touch_count(&self) -> usize
-        ensures { result ≡ length self.now.state.touches }
+    /// How many touches there are, and of how many objects.
+    pub(crate) fn touch_counts(&self) -> (usize, usize)
+        ensures pairs { result.0 ≡ length self.now.state.touches }
+        ensures objects { result.1 ≡ length (touched self.now.state.touches) }
     {
-        self.frames.touches().len()
+        self.frames.touch_counts()
     }
 
     /// A step that costs 1.
@@ -228,6 +230,23 @@ impl State {
         self.frames.merge()
     }
 
+    /// Goes back to the fuel and the touches before what lacked an object.
+    pub fn go_back(&mut self, fuel: u32, pairs: usize, objects: usize)
+        requires { objects ≡ length (touched (take pairs self.old.state.touches)) }
+        ensures { self.new ≡ point_before fuel pairs self.old }
+    {
+        self.fuel = fuel;
+        self.frames.cut_touches(pairs, objects);
+    }
+
+    /// One answer more, of an object that lacked.
+    pub fn answer(&mut self, oid: Oid, version: u32, object: Object) -> Result<(), NoMemory>
+        requires { Lacks oid self.old }
+        ensures { OnOk result (self.new ≡ with_answer oid version object self.old) }
+    {
+        self.frames.answer(oid, version, object)
+    }
+
     /// The objects that were written, each with the version of its answer, and those that were
     /// made.
     pub fn changed(&self) -> Result<(Seq<(Oid, u32, Object)>, Seq<(Oid, Object)>), NoMemory>
@@ -249,8 +268,8 @@ impl State {
 
     /// The touches, and the values that were downgraded.
     pub fn into_notes(self) -> Result<(Seq<(u16, Oid)>, Seq<(u16, Value)>), NoMemory>
-        ensures touches { IfOk result (λ n. n.0 ≡ self.state.touches) }
-        ensures downs { IfOk result (λ n. n.1 ≡ self.state.downs) }
+        ensures touches { IfOk result (λ n. n.0 ≡ self.entry.state.touches) }
+        ensures downs { IfOk result (λ n. n.1 ≡ self.entry.state.downs) }
     {
         let touches = Seq::from_slice(self.alloc, self.frames.touches())?;
         let State {

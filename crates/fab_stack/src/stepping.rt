@@ -3,6 +3,7 @@ ghost use Rattle.std.specs.Prelude.{◌≡◌, ℕ, ◌+◌, ◌<◌, ◌≤◌,
 ghost use Rattle.fab_base.specs.FlatMap.{FlatMap};
 ghost use Rattle.fab_base.specs.declared.object.Tid.{Tid as AnyTid};
 ghost use Rattle.fab_tree.specs.declared.resolved.Statement.{Statement as AnyStatement};
+ghost use Rattle.fab_language.specs.Heaps.{touched};
 ghost use Rattle.fab_language.specs.Meaning.{State as AnyState, goes};
 ghost use Rattle.fab_left.specs.Deeds.{entering};
 ghost use Rattle.fab_left.specs.Left.{AllStem, Entry as AnyEntry, Means, Place, at_start, rest, returning};
@@ -20,7 +21,7 @@ use fab_tree::resolved::{Method, Resolved, Statement};
 use std::alloc::AllocError;
 
 /// How a run came to an end: it is over, or an object lacks, with the fuel before what lacks it and
-/// how many touches there were.
+/// how many touches there were, of how many objects.
 #[derive(Drop)]
 pub enum Way {
     Over(Result<Option<Value>, End>),
@@ -28,7 +29,8 @@ pub enum Way {
         site: u16,
         oid: Oid,
         fuel: u32,
-        count: usize,
+        pairs: usize,
+        objects: usize,
     },
 }
 
@@ -37,7 +39,7 @@ const DEPTH: u32 = 64;
 
 /// The stack with which a method begins, over these locals.
 pub fn begun<'a>(
-    state: &mut State,
+    state: &mut State<'_>,
     first: &'a Method,
     locals: Vec<Value>,
 ) -> Result<Vec<Entry<'a>>, NoMemory>
@@ -62,7 +64,7 @@ pub fn run<'a, A: Acts>(
     program: &'a Resolved,
     first: &'a Method,
     stack: &mut Vec<Entry<'a>>,
-    state: &mut State,
+    state: &mut State<'_>,
 ) -> Result<Way, NoMemory>
     requires matched { IsMatched stack.old.items state.old }
     ensures runs { IfOk result (λ way. (known : FlatMap) → AllStem state.old.base.tid known (entries_of stack.old.items state.old.base.saved) state.old.state → Runs (A.means acts.now program.now state.old.base.tid) (at_start first.now) state.old.base.tid known way (entries_of stack.old.items state.old.base.saved) state.old.state (entries_of stack.new.items state.new.base.saved) state.new.state) }
@@ -82,7 +84,7 @@ fn step<'a, A: Acts>(
     program: &'a Resolved,
     first: &'a Method,
     stack: &mut Vec<Entry<'a>>,
-    state: &mut State,
+    state: &mut State<'_>,
 ) -> Result<Option<Way>, NoMemory>
     requires matched { IsMatched stack.old.items state.old }
     ensures turns { IfOk result (λ way. (known : FlatMap) → AllStem state.old.base.tid known (entries_of stack.old.items state.old.base.saved) state.old.state → Turns (A.means acts.now program.now state.old.base.tid) (at_start first.now) state.old.base.tid known way (entries_of stack.old.items state.old.base.saved) state.old.state (entries_of stack.new.items state.new.base.saved) state.new.state) }
@@ -91,9 +93,9 @@ fn step<'a, A: Acts>(
     ensures bound { IfOk result (λ way. way ≡ None → bound stack.new.items state.new < bound stack.old.items state.old) }
 {
     let fuel = state.fuel();
-    let count = state.touch_count();
+    let (pairs, objects) = state.touch_counts();
     let Some(entry) = stack.pop() else {
-        return Ok(Some(last(acts, program, first, state, fuel, count)?));
+        return Ok(Some(last(acts, program, first, state, fuel, pairs, objects)?));
     };
     match advance(acts, program, stack, state, entry) {
         Ok(()) => Ok(None),
@@ -110,7 +112,8 @@ fn step<'a, A: Acts>(
                 site,
                 oid,
                 fuel,
-                count,
+                pairs,
+                objects,
             }))
         }
     }
@@ -121,12 +124,14 @@ fn last<'a, A: Acts>(
     acts: &A,
     program: &'a Resolved,
     first: &'a Method,
-    state: &mut State,
+    state: &mut State<'_>,
     fuel: u32,
-    count: usize,
+    pairs: usize,
+    objects: usize,
 ) -> Result<Way, NoMemory>
     requires fuel { fuel ≡ state.old.state.fuel }
-    requires count { count ≡ length state.old.state.touches }
+    requires pairs { pairs ≡ length state.old.state.touches }
+    requires objects { objects ≡ length (touched state.old.state.touches) }
     ensures runs { IfOk result (λ way. (depth : ℕ) (known : FlatMap) → AllStem state.old.base.tid known [] state.old.state → Runs (A.means acts.now program.now state.old.base.tid) (place first.now depth) state.old.base.tid known way [] state.old.state [] state.new.state) }
     ensures base { state.new.base ≡ state.old.base }
 {
@@ -140,7 +145,8 @@ fn last<'a, A: Acts>(
                 site,
                 oid,
                 fuel,
-                count,
+                pairs,
+                objects,
             })
         }
     }
@@ -151,7 +157,7 @@ fn advance<'a, A: Acts>(
     acts: &A,
     program: &'a Resolved,
     stack: &mut Vec<Entry<'a>>,
-    state: &mut State,
+    state: &mut State<'_>,
     entry: Entry<'a>,
 ) -> Result<(), Halt>
     requires matched { IsMatched (stack.old.items ++ entry ∷ []) state.old }
@@ -194,7 +200,7 @@ fn next<'a, A: Acts>(
     acts: &A,
     program: &'a Resolved,
     stack: &mut Vec<Entry<'a>>,
-    state: &mut State,
+    state: &mut State<'_>,
     method: &'a Method,
     statements: &'a [Statement],
     depth: u32,
@@ -231,7 +237,7 @@ fn follow<'a, A: Acts>(
     acts: &A,
     program: &'a Resolved,
     stack: &mut Vec<Entry<'a>>,
-    state: &mut State,
+    state: &mut State<'_>,
     method: &'a Method,
     statements: &'a [Statement],
     others: &'a [Statement],
@@ -302,7 +308,7 @@ fn enter<'a, A: Acts>(
     acts: &A,
     program: &'a Resolved,
     stack: &mut Vec<Entry<'a>>,
-    state: &mut State,
+    state: &mut State<'_>,
     caller: &'a Method,
     depth: u32,
     number: u16,
@@ -352,7 +358,7 @@ fn give_back<'a, A: Acts>(
     acts: &A,
     program: &'a Resolved,
     stack: &mut Vec<Entry<'a>>,
-    state: &mut State,
+    state: &mut State<'_>,
     callee: &'a Method,
     depth: u32,
     caller: &'a Method,
@@ -396,7 +402,7 @@ fn give_back<'a, A: Acts>(
 
 /// A failure goes to the last block that is tried, and on with the one that is run then. False where
 /// none is.
-fn unwind<'a>(stack: &mut Vec<Entry<'a>>, state: &mut State) -> Result<bool, NoMemory>
+fn unwind<'a>(stack: &mut Vec<Entry<'a>>, state: &mut State<'_>) -> Result<bool, NoMemory>
     requires matched { IsMatched stack.old.items state.old }
     ensures unwinds { (m : Means) (first : Place) (tid : AnyTid) (known : FlatMap) → AllStem tid known (entries_of stack.old.items state.old.base.saved) state.old.state → Unwinds m first tid known result (entries_of stack.old.items state.old.base.saved) state.old.state (entries_of stack.new.items state.new.base.saved) state.new.state }
     ensures matched { OnOk result (IsMatched stack.new.items state.new) }
