@@ -1,16 +1,14 @@
 -- From the steps of a run to what was meant.
-use Rattle.std.proofs.Common.{◌≡◌, ℕ, List, [], length, take, Option, Some, None, Result, Ok, Err, IfOk, refl, sym, ap, ◌∙◌, subst}
+use Rattle.std.proofs.Common.{◌≡◌, List, [], length, take, Option, Some, None, Result, Ok, Err, IfOk, sym, ap, ◌∙◌, subst}
 use Rattle.std.specs.declared.alloc.AllocError.{AllocError}
-use Rattle.fab_base.specs.declared.object.Oid.{Oid}
 use Rattle.fab_base.specs.declared.object.Tid.{Tid}
 use Rattle.fab_base.specs.declared.object.Value.{Value}
 use Rattle.fab_base.specs.FlatMap.{FlatMap}
 use Rattle.fab_tree.specs.declared.resolved.Method.{Method}
 use Rattle.fab_tree.specs.declared.resolved.Resolved.{Resolved}
 use Rattle.fab_language.specs.Heaps.{touched}
-use Rattle.fab_language.specs.Meaning.{Run, goes, ends, missing, Meant, meant_by, meant_at, ending_at}
+use Rattle.fab_language.specs.Meaning.{missing, Meant, meant_by, meant_at, ending_at}
 use Rattle.fab_left.specs.Acts.{meanings}
-use Rattle.fab_left.specs.Left as left
 use Rattle.fab_left.specs.Left.{AllStem, at_start}
 use Rattle.fab_nested.specs.Nested.{versions_of}
 use Rattle.fab_stack.specs.declared.halt.End.{End}
@@ -18,16 +16,15 @@ use Rattle.fab_stack.specs.declared.halt.End.TheVariants.{Failed, Stopped, Missi
 use Rattle.fab_stack.specs.declared.stack.Entry.{Entry}
 use Rattle.fab_stack.specs.declared.stepping.Way.{Way}
 use Rattle.fab_stack.specs.declared.stepping.Way.TheVariants.{Over, Lacks}
-use Rattle.fab_stack.specs.Points.{Point, point_before}
+use Rattle.fab_stack.specs.Points.{Point}
 use Rattle.fab_stack.specs.Stacks.{entries_of}
-use Rattle.fab_stack.specs.Stepping.{GoesOn, IsMatched, IsSameAttempt, Runs}
+use Rattle.fab_stack.specs.Stepping.{IsMatched, IsSameAttempt, Runs}
 use Rattle.fab_eval.specs.declared.found.At.{At}
 use Rattle.fab_eval.specs.declared.found.Found.{Found}
 use Rattle.fab_eval.specs.declared.job.Job.{Job}
-use Rattle.fab_eval.specs.declared.job.Outcome.{Outcome}
 use Rattle.fab_eval.specs.declared.job.Outcome.TheVariants.{Need}
-use Rattle.fab_eval.specs.Founds.{IsFound, IsOver, Rests}
-use Rattle.fab_eval.specs.Lefts.{IsLeftOf, asked_by, known_of}
+use Rattle.fab_eval.specs.Founds.{IsFound}
+use Rattle.fab_eval.specs.Lefts.{IsLeftOf, known_of}
 use Rattle.fab_eval.specs.Outcomes.{meant_of, outcome_by}
 use Rattle.fab_eval.specs.Settles.{Comes, Settles, ending_of}
 
