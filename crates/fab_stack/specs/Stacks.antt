@@ -28,5 +28,7 @@ heap_at n heaps = top_of (drop n heaps) (unchanged [])
 abbrev pub entries_of : List Entry → List Heap → List left.Entry
 entries_of [] heaps = []
 entries_of (Rest method ss depth ∷ ks) heaps = left.rest (place method.now depth) ss.now ∷ entries_of ks heaps
-entries_of (Tried method locals otherwise depth ∷ ks) heaps = left.tried (place method.now depth) locals.items (heap_at (trials ks) heaps) otherwise.now ∷ entries_of ks heaps
-entries_of (Returning callee depth caller caller_depth locals target ∷ ks) heaps = left.returning (place callee.now depth) (place caller.now caller_depth) locals.items target ∷ entries_of ks heaps
+entries_of (Tried method locals otherwise depth ∷ ks) heaps =
+    left.tried (place method.now depth) locals.items (heap_at (trials ks) heaps) otherwise.now ∷ entries_of ks heaps
+entries_of (Returning callee depth caller caller_depth locals target ∷ ks) heaps =
+    left.returning (place callee.now depth) (place caller.now caller_depth) locals.items target ∷ entries_of ks heaps
