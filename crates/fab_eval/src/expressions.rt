@@ -1,12 +1,11 @@
 //! Expressions.
 ghost use Rattle.std.specs.Prelude.{◌≡◌, map};
 ghost use Rattle.fab_language.specs.Meaning.{chained, operate, value, values};
-ghost use Rattle.fab_eval.specs.Gives.{Gives};
-ghost use Rattle.fab_eval.specs.Points.{Point};
+ghost use Rattle.fab_stack.specs.Gives.{Gives};
+ghost use Rattle.fab_stack.specs.Points.{Point};
 
-use crate::halt::{End, Halt};
-use crate::state::State;
 use fab_base::{Seq, Value};
+use fab_stack::{End, Halt, State};
 use fab_tree::Operator;
 use fab_tree::resolved::{Expression, Form, Operand};
 use fab_values::{applied, compares, operate, truth};
