@@ -1,8 +1,7 @@
 -- What a call leads into, by the entries that are put on the stack.
-use Rattle.std.proofs.Common.{◌≡◌, ℕ, zero, suc, ◌+◌, ◌-◌, List, [], ◌∷◌, ◌++◌, length, Option, Some, None, refl, sym, ap, ◌∙◌, subst, arith, append_assoc}
+use Rattle.std.proofs.Common.{◌≡◌, ℕ, zero, suc, ◌-◌, List, [], ◌∷◌, ◌++◌, Option, None, refl, sym, ap, ◌∙◌, subst, arith, append_assoc}
 use Rattle.fab_base.specs.declared.object.Tid.{Tid}
 use Rattle.fab_base.specs.declared.object.Value.{Value}
-use Rattle.fab_base.specs.declared.object.Stop.{Stop}
 use Rattle.fab_base.specs.declared.object.Stop.TheVariants.{Depth}
 use Rattle.fab_base.specs.FlatMap.{FlatMap}
 use Rattle.fab_tree.specs.declared.resolved.Method.{Method}

@@ -1,8 +1,7 @@
 -- A statement that is the first of a block, and the end of a call, as they stand in the code.
-use Rattle.std.proofs.Common.{◌≡◌, ℕ, suc, List, [], ◌∷◌, ◌++◌, length, Option, Some, None, refl, sym, ap, ◌∙◌, subst, arith}
+use Rattle.std.proofs.Common.{◌≡◌, ℕ, List, [], ◌∷◌, ◌++◌, length, sym, subst, arith}
 use Rattle.fab_base.specs.declared.object.Oid.{Oid}
 use Rattle.fab_base.specs.declared.object.Tid.{Tid}
-use Rattle.fab_base.specs.declared.object.Value.{Value}
 use Rattle.fab_base.specs.declared.object.Stop.{Stop}
 use Rattle.fab_base.specs.FlatMap.{FlatMap}
 use Rattle.fab_tree.specs.declared.resolved.Statement.{Statement}
@@ -12,7 +11,7 @@ use Rattle.fab_left.specs.Left as left
 use Rattle.fab_left.specs.Left.{Place, Means, rest, AllStem}
 use Rattle.fab_left.specs.Steps.{EndsSo, IsSplit}
 use Rattle.fab_stack.specs.Stepping.{GoesOn, FailsSo, LacksSo}
-use Rattle.fab_stack.proofs.Stacks.{block_passes, act_fails, act_stops, act_misses, result_passes, result_fails, result_stops, result_misses}
+use Rattle.fab_stack.proofs.Stacks.{block_passes, act_fails, act_stops, act_misses}
 
 module _ (m : Means) (tid : Tid) (does : Place → Statement → M Deed) (split : IsSplit m tid does) (first : Place) (known : FlatMap) (ks new : List left.Entry) where
   module _ (p : Place) (t u : State) (is : new ≡ ks) where

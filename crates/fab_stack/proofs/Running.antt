@@ -1,6 +1,5 @@
 -- Steps one after another, and the ends of a run.
-use Rattle.std.proofs.Common.{◌≡◌, ℕ, suc, List, [], ◌∷◌, ◌++◌, length, take, Option, Some, None, Result, Ok, Err, Bool, true, false, refl, sym, ap, ◌∙◌, subst, arith}
-use Rattle.std.specs.declared.alloc.AllocError.{AllocError}
+use Rattle.std.proofs.Common.{◌≡◌, ℕ, suc, List, [], ◌∷◌, ◌++◌, length, take, Option, Ok, Err, refl, sym, ap, ◌∙◌, subst, arith}
 use Rattle.fab_base.specs.declared.object.Oid.{Oid}
 use Rattle.fab_base.specs.declared.object.Tid.{Tid}
 use Rattle.fab_base.specs.declared.object.Value.{Value}
@@ -8,7 +7,7 @@ use Rattle.fab_base.specs.declared.object.Stop.{Stop}
 use Rattle.fab_base.specs.FlatMap.{FlatMap}
 use Rattle.fab_tree.specs.declared.resolved.Statement.{Statement}
 use Rattle.fab_language.specs.Heaps.{Heap, touched}
-use Rattle.fab_language.specs.Meaning.{State, Run, goes, ends, End, failed, stopped, missing, M, back_with}
+use Rattle.fab_language.specs.Meaning.{State, ends, failed, stopped, missing, M, back_with}
 use Rattle.fab_left.specs.Deeds.{Deed}
 use Rattle.fab_left.specs.Left as left
 use Rattle.fab_left.specs.Left.{Place, Means, left, rest, tried, returning, AllStem, DiffersLittle, before}
@@ -20,9 +19,9 @@ use Rattle.fab_stack.specs.declared.stack.Entry.{Entry}
 use Rattle.fab_stack.specs.declared.stepping.Way.{Way}
 use Rattle.fab_stack.specs.declared.stepping.Way.TheVariants.{Over, Lacks}
 use Rattle.fab_stack.specs.declared.halt.End.TheVariants.{Failed, Stopped, Missing}
-use Rattle.fab_stack.specs.Points.{Point, top_of, under}
+use Rattle.fab_stack.specs.Points.{top_of, under}
 use Rattle.fab_stack.specs.Stacks.{entries_of, trials, heap_at}
-use Rattle.fab_stack.specs.Stepping.{GoesOn, FailsSo, LacksSo, Unwinds, Runs, Turns}
+use Rattle.fab_stack.specs.Stepping.{GoesOn, FailsSo, LacksSo, Runs}
 use Rattle.fab_stack.proofs.Stacks.{put_one, put_try, trials_more}
 
 -- ---- a failure goes on

@@ -1,5 +1,5 @@
 -- The entries of a stack, as it grows and shrinks, and what each step makes of what is left.
-use Rattle.std.proofs.Common.{◌≡◌, ℕ, zero, suc, ◌+◌, ◌<◌, ◌≤◌, List, [], ◌∷◌, ◌++◌, length, map, Option, Some, None, Result, Ok, Err, refl, sym, ap, ◌∙◌, subst, arith, append_assoc}
+use Rattle.std.proofs.Common.{◌≡◌, ℕ, suc, List, [], ◌∷◌, ◌++◌, length, Option, refl, sym, ap, ◌∙◌, arith, append_assoc}
 use Rattle.fab_base.specs.declared.object.Oid.{Oid}
 use Rattle.fab_base.specs.declared.object.Tid.{Tid}
 use Rattle.fab_base.specs.declared.object.Value.{Value}
@@ -7,17 +7,17 @@ use Rattle.fab_base.specs.declared.object.Stop.{Stop}
 use Rattle.fab_base.specs.FlatMap.{FlatMap}
 use Rattle.fab_tree.specs.declared.resolved.Statement.{Statement}
 use Rattle.fab_language.specs.Heaps.{Heap}
-use Rattle.fab_language.specs.Meaning.{State, Run, goes, ends, End, failed, stopped, missing, M}
+use Rattle.fab_language.specs.Meaning.{State, goes, ends, failed, stopped, missing, M}
 use Rattle.fab_left.specs.Left as left
 use Rattle.fab_left.specs.Left.{Place, Means, left, rest, tried, returning, handed, AllStem, DiffersLittle, IsFinal}
 use Rattle.fab_left.specs.Deeds.{Deed, StaysHere, pushed, entering, Enters}
-use Rattle.fab_left.specs.Steps.{EndsSo, IsSplit, ended}
-use Rattle.fab_left.proofs.Stepping.{act_goes, act_enters, act_ends, act_lacks, call_passes, call_stops, call_returns, result_ends, result_lacks, block_done, trial_done, block_failed, call_failed, trial_failed}
-use Rattle.fab_left.proofs.Stemming.{act_stems, end_stems, popped_stems, entered_stems, passed_stems, returned_stems, result_end_stems, caught_stems}
+use Rattle.fab_left.specs.Steps.{EndsSo, IsSplit}
+use Rattle.fab_left.proofs.Stepping.{act_goes, act_enters, act_ends, act_lacks, call_passes, call_returns, result_ends, result_lacks, block_done, trial_done}
+use Rattle.fab_left.proofs.Stemming.{act_stems, end_stems, popped_stems, entered_stems, passed_stems, returned_stems, result_end_stems}
 use Rattle.fab_stack.specs.declared.stack.Entry.{Entry}
 use Rattle.fab_stack.specs.declared.stack.Entry.TheVariants.{Rest, Tried, Returning}
-use Rattle.fab_stack.specs.Points.{Point, top_of, under}
-use Rattle.fab_stack.specs.Stacks.{entries_of, trials, heap_at}
+use Rattle.fab_stack.specs.Points.{under}
+use Rattle.fab_stack.specs.Stacks.{entries_of, trials}
 use Rattle.fab_stack.specs.Stepping.{GoesOn, FailsSo, LacksSo}
 
 -- ---- one entry more

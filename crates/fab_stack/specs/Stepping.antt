@@ -1,12 +1,11 @@
 -- What one step does with what is left to do, and what all steps do.
-use Rattle.std.specs.Prelude.{◌≡◌, ℕ, ◌+◌, ◌*◌, ◌<◌, Bool, true, false, List, [], length, take, Option, Some, None, Result, Ok, Err}
+use Rattle.std.specs.Prelude.{◌≡◌, ℕ, ◌+◌, ◌*◌, Bool, true, false, List, [], length, take, Option, Some, None, Result, Ok, Err}
 use Rattle.std.specs.declared.alloc.AllocError.{AllocError}
 use Rattle.fab_base.specs.declared.object.Oid.{Oid}
 use Rattle.fab_base.specs.declared.object.Tid.{Tid}
-use Rattle.fab_base.specs.declared.object.Value.{Value}
 use Rattle.fab_base.specs.FlatMap.{FlatMap}
 use Rattle.fab_language.specs.Heaps.{touched}
-use Rattle.fab_language.specs.Meaning.{State, End, failed, stopped, missing, Run, goes, ends}
+use Rattle.fab_language.specs.Meaning.{State, failed, stopped, missing, goes, ends}
 use Rattle.fab_left.specs.Left as left
 use Rattle.fab_left.specs.Left.{Means, Place, left, IsLeft, AllStem, DiffersLittle, before}
 use Rattle.fab_left.specs.Steps.{EndsSo, ended}
@@ -16,9 +15,8 @@ use Rattle.fab_stack.specs.declared.halt.Halt.TheVariants.{Memory, Ended}
 use Rattle.fab_stack.specs.declared.stack.Entry.{Entry}
 use Rattle.fab_stack.specs.declared.stepping.Way.{Way}
 use Rattle.fab_stack.specs.declared.stepping.Way.TheVariants.{Over, Lacks}
-use Rattle.fab_stack.specs.Gives.{end_of}
 use Rattle.fab_stack.specs.Points.{Base, Point}
-use Rattle.fab_stack.specs.Stacks.{entries_of, trials}
+use Rattle.fab_stack.specs.Stacks.{trials}
 
 -- this holds, but where memory was wanted
 abbrev pub UnlessMemory : {A : Type 0} → Result A Halt → Type 0 → Type 0

@@ -1,4 +1,4 @@
-use Rattle.std.proofs.Common.{◌≡◌, ap, sym, refl, ◌∙◌, length, subst, List, ◌++◌, ◌∷◌, []}
+use Rattle.std.proofs.Common.{ap, sym, refl, length, subst, List, ◌++◌, ◌∷◌, []}
 use Rattle.fab_left.specs.Left as left
 use Rattle.fab_left.specs.Left.{AllStem}
 use Rattle.fab_stack.specs.Points.{under}

@@ -1,4 +1,4 @@
-use Rattle.std.proofs.Common.{◌≡◌, ap, sym, refl, ◌∙◌, length, subst}
+use Rattle.std.proofs.Common.{ap, refl, length, subst}
 use Rattle.fab_stack.specs.declared.stack.Call.{Call}
 use Rattle.fab_stack.specs.Calls.{Calls}
 use Rattle.fab_stack.specs.Points.{Point}

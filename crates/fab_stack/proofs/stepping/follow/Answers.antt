@@ -1,4 +1,4 @@
-use Rattle.std.proofs.Common.{◌≡◌, ap, sym, refl, ◌∙◌, length, ◌++◌, ◌∷◌, []}
+use Rattle.std.proofs.Common.{ap, refl, ◌∙◌, length, ◌++◌, ◌∷◌, []}
 use Rattle.fab_stack.specs.Stacks.{entries_of, place}
 use Rattle.fab_left.specs.Left.{rest, tried}
 use Rattle.fab_left.specs.Deeds.{passed, into, again, trying}

@@ -1,4 +1,4 @@
-use Rattle.std.proofs.Common.{◌≡◌, ap, sym, refl, ◌∙◌, length, subst, Err}
+use Rattle.std.proofs.Common.{ap, sym, refl, ◌∙◌, length, subst, Err}
 use Rattle.fab_stack.specs.declared.halt.Halt.{Halt}
 use Rattle.fab_stack.specs.declared.halt.Halt.TheVariants.{Ended}
 use Rattle.fab_stack.specs.Leads.{Leads}

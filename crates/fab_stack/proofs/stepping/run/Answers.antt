@@ -1,4 +1,4 @@
-use Rattle.std.proofs.Common.{◌≡◌, refl, ◌∙◌}
+use Rattle.std.proofs.Common.{◌∙◌}
 use Rattle.fab_left.specs.Left.{at_start}
 use Rattle.fab_stack.specs.Stacks.{entries_of}
 use Rattle.fab_stack.proofs.Running.{run_on, run_ends}

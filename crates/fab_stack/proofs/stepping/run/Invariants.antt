@@ -1,4 +1,3 @@
-use Rattle.std.proofs.Common.{◌≡◌}
 use Rattle.fab_base.specs.FlatMap.{FlatMap}
 use Rattle.fab_left.specs.Left.{AllStem, at_start}
 use Rattle.fab_stack.specs.Stacks.{entries_of}

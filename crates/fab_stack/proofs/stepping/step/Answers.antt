@@ -1,4 +1,4 @@
-use Rattle.std.proofs.Common.{◌≡◌, sym, refl, subst, List, [], length}
+use Rattle.std.proofs.Common.{sym, subst, List, []}
 use Rattle.fab_language.specs.Meaning.{stopped}
 use Rattle.fab_left.specs.Left.{AllStem, at_start}
 use Rattle.fab_left.specs.Steps.{EndsSo}
@@ -67,5 +67,5 @@ returns-in-Err-Ended-Missing-clause-turns g c = λ known st.
     let ks = entries_of c.advance.new.stack.items c.advance.new.state.base.saved in
     let u = c.advance.new.state.state in
     let e = rw (c.in-Err-Ended-Missing.field-0-is, c.in-Err-Ended-Missing.field-0-0-is) at (c.in-Err-Ended-Missing.ensures.steps first known) in
-    lacks_all m first b.tid known js ks s u c.in-Err-Ended-Missing.site c.in-Err-Ended-Missing.oid c.fuel-fuel.result c.touch_counts.result.0 c.touch_counts.result.1 c.fuel-fuel.ensures c.touch_counts.ensures.pairs c.touch_counts.ensures.objects st
+    lacks_all m first b.tid known js ks s u c.in-Err-Ended-Missing.site c.in-Err-Ended-Missing.oid c.fuel-fuel.result c.touch_counts-pairs.result.0 c.touch_counts-pairs.result.1 c.fuel-fuel.ensures c.touch_counts-pairs.ensures.pairs c.touch_counts-pairs.ensures.objects st
     (subst (λ (items : List Entry). AllStem b.tid known (entries_of items b.saved) s → LacksSo m first c.in-Err-Ended-Missing.site c.in-Err-Ended-Missing.oid (entries_of items b.saved) s ks u) (sym c.in-Some.ensures.items) e st)

@@ -1,6 +1,6 @@
-use Rattle.std.proofs.Common.{◌≡◌, ap, sym, refl, ◌∙◌, length, arith, subst, ◌++◌, ◌∷◌, []}
-use Rattle.fab_stack.specs.Points.{Base, Point, under}
-use Rattle.fab_stack.specs.Stacks.{entries_of, place, trials}
+use Rattle.std.proofs.Common.{◌≡◌, ap, refl, ◌∙◌, length, arith, ◌++◌, ◌∷◌, []}
+use Rattle.fab_stack.specs.Points.{under}
+use Rattle.fab_stack.specs.Stacks.{entries_of, place}
 use Rattle.fab_language.specs.Meaning.{failed}
 use Rattle.fab_left.specs.Left.{rest, returning}
 use Rattle.fab_left.specs.Steps.{ended}

@@ -1,4 +1,4 @@
-use Rattle.std.proofs.Common.{◌≡◌, ℕ, ◌≤◌, length}
+use Rattle.std.proofs.Common.{◌≡◌, ◌≤◌, length}
 use Rattle.fab_base.specs.FlatMap.{FlatMap}
 use Rattle.fab_base.specs.declared.object.Tid.{Tid}
 use Rattle.fab_language.specs.Meaning.{failed}
