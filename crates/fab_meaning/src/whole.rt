@@ -40,7 +40,7 @@ pub struct Changes {
 
 /// How a request ended, and what stands at its end.
 #[derive(Drop)]
-struct Ran<'a> {
+struct Finished<'a> {
     ended: Result<Option<Value>, End>,
     state: State<'a>,
 }
@@ -102,7 +102,7 @@ pub fn effect(
     ensures { IfOk result (λ e. AreChanges e (erased (has_bit seen.now.labels) (has_bit seen.now.classes) program.now known.now request.now tid fuel given.now)) }
 {
     let sight = Sight::Part(*seen);
-    let Ran { ended, state } = ran(alloc, program, sight, known, given, request, tid, fuel)?;
+    let Finished { ended, state } = ran(alloc, program, sight, known, given, request, tid, fuel)?;
     let changed = state.changes()?;
     Ok(Changes {
         ending: ending_of(ended),
@@ -122,7 +122,7 @@ fn found(
 ) -> Result<Meant, NoMemory>
     ensures { IfOk result (λ m. IsMeant m (erased (sees sight) (shows sight) program.now known.now request.now tid fuel given.now)) }
 {
-    let Ran { ended, state } = ran(alloc, program, sight, known, given, request, tid, fuel)?;
+    let Finished { ended, state } = ran(alloc, program, sight, known, given, request, tid, fuel)?;
     let (map, written, made) = state.parts()?;
     let (touches, downs) = state.into_notes()?;
     Ok(Meant {
@@ -145,20 +145,20 @@ fn ran<'a>(
     request: &Request,
     tid: Tid,
     fuel: u32,
-) -> Result<Ran<'a>, NoMemory>
+) -> Result<Finished<'a>, NoMemory>
     ensures { IfOk result (λ r. erased (sees sight) (shows sight) program.now known.now request.now tid fuel given.now ≡ meant_at (ending_of r.ended) r.state.state) }
 {
     // (a map's rows are in the order of names)
     let _ = known.rows();
     let mut state = State::over(alloc, tid, fuel, known, given)?;
     let Some(first) = program.methods.as_slice().get(usize::from(request.method)) else {
-        return Ok(Ran {
+        return Ok(Finished {
             ended: Ok(None),
             state,
         });
     };
     if !sight.sees(first.begin.number) {
-        return Ok(Ran {
+        return Ok(Finished {
             ended: Ok(blank_result(first)),
             state,
         });
@@ -166,7 +166,7 @@ fn ran<'a>(
     let locals = locals_at_start(alloc, sight, first, request.args.as_slice())?;
     let mut stack = begun(&mut state, first, locals)?;
     let way = run(&Erased { sight }, program, first, &mut stack, &mut state)?;
-    Ok(Ran {
+    Ok(Finished {
         ended: ended_by(way),
         state,
     })
