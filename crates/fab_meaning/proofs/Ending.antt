@@ -1,5 +1,5 @@
 -- From a run to what was meant.
-use Rattle.std.proofs.Common.{◌≡◌, ℕ, true, false, List, [], ◌∷◌, Option, Some, None, Ok, Err, sym, ap, ◌∙◌, subst}
+use Rattle.std.proofs.Common.{◌≡◌, ℕ, true, List, [], ◌∷◌, Some, Ok, Err, ap, ◌∙◌, subst}
 use Rattle.std.specs.Prelude.{slice_get}
 use Rattle.fab_base.specs.declared.object.Tid.{Tid}
 use Rattle.fab_base.specs.declared.object.Value.{Value}
@@ -7,19 +7,16 @@ use Rattle.fab_base.specs.FlatMap.{FlatMap, ascends}
 use Rattle.fab_tree.specs.declared.resolved.Method.{Method}
 use Rattle.fab_tree.specs.declared.resolved.Resolved.{Resolved}
 use Rattle.fab_tree.specs.declared.resolved.Request.{Request}
-use Rattle.fab_language.specs.declared.ending.Ending.TheVariants.{Ended}
 use Rattle.fab_language.specs.Meaning.{State, Meant, meant_at, meant_by}
-use Rattle.fab_erasure.specs.Erased.{blank_result, erased, locals_at_start}
+use Rattle.fab_erasure.specs.Erased.{erased, locals_at_start}
 use Rattle.fab_left.specs.ErasedActs.{meanings}
 use Rattle.fab_left.specs.Left as left
 use Rattle.fab_left.specs.Left.{AllStem, Means, Place, at_start, rest}
-use Rattle.fab_left.proofs.Beginning.{all_known, erased_begins, erased_none, erased_skipped}
+use Rattle.fab_left.proofs.Beginning.{all_known, erased_begins}
 use Rattle.fab_stack.specs.declared.halt.End.TheVariants.{Failed, Stopped, Missing}
-use Rattle.fab_stack.specs.declared.stack.Entry.{Entry}
 use Rattle.fab_stack.specs.declared.stepping.Way.{Way}
 use Rattle.fab_stack.specs.declared.stepping.Way.TheVariants.{Over, Lacks}
 use Rattle.fab_stack.specs.Points.{Point, point_over, with_locals}
-use Rattle.fab_stack.specs.Stacks.{entries_of}
 use Rattle.fab_stack.specs.Stepping.{Runs}
 use Rattle.fab_meaning.specs.declared.setting.Sight.{Sight}
 use Rattle.fab_meaning.specs.Ends.{ended_by, ending_of}
@@ -38,19 +35,7 @@ module _ (sight : Sight) (program : Resolved) (known : FlatMap) (request : Reque
   abbrev meant : Meant
   meant = erased (sees sight) (shows sight) program known request tid fuel given
 
-  -- without a method
-  pub none_meant : (p : Point) → slice_get program.methods request.method ≡ None → p ≡ point_over tid fuel known given → meant ≡ meant_at (Ended None) p.state
-  none_meant p none at =
-      ap meant_by (erased_none program tid request fuel known (sees sight) (shows sight) given none) ∙ ap (λ (x : Point). meant_at (Ended None) x.state) (sym at)
-
-  -- with one that isn't seen
-  pub skipped_meant : (p : Point) (first : Method) (v : Option Value) → slice_get program.methods request.method ≡ Some first → sees sight first.begin.number ≡ false
-      → v ≡ blank_result (sees sight) (shows sight) (Some first) → p ≡ point_over tid fuel known given → meant ≡ meant_at (Ended v) p.state
-  skipped_meant p first v is unseen blank at =
-      ap meant_by (erased_skipped program tid request fuel known (sees sight) (shows sight) given first is unseen)
-      ∙ (λ i. meant_at (Ended (sym blank i)) (sym at i).state)
-
-  -- with one that is run
+  -- where there is a method, and it is seen
   module _ (first : Method) (is : slice_get program.methods request.method ≡ Some first) (seen : sees sight first.begin.number ≡ true) (up : ascends known ≡ true)
       (way : Way) (ks : List left.Entry) (q : State) where
     abbrev start : Point

@@ -1,5 +1,6 @@
-use Rattle.std.proofs.Common.{◌≡◌, ℕ, List, Some, true, refl, sym, ap, ◌∙◌, subst}
+use Rattle.std.proofs.Common.{◌≡◌, ℕ, ◌<◌, List, length, Some, true, refl, sym, ap, ◌∙◌, subst, arith}
 use Rattle.std.specs.Prelude.{slice_get}
+use Rattle.std.proofs.lemmas.Bool.Decides.{nat_tests}
 use Rattle.std.proofs.lemmas.Option.{slice_get_read}
 use Rattle.fab_tree.specs.declared.resolved.Method.{Method}
 use Rattle.fab_language.specs.Meaning.{meant_at}
@@ -15,8 +16,9 @@ pub returns : goal.returns
 returns c =
     let s = c.args.sight in
     let first : Method = c.in-Some.first.now in
+    let inside : c.from.result < length c.as_slice.result.now = grind (arith, nat_tests, c.in-Some.ensures.lookup.0) in
     let there : slice_get c.as_slice.result.now c.from.result ≡ Some first =
-    slice_get_read c.as_slice.result.now _ c.from.result first refl c.in-Some.ensures.lookup.0 c.in-Some.ensures.lookup.1 in
+    slice_get_read c.as_slice.result.now (length c.as_slice.result.now) c.from.result first refl inside c.in-Some.ensures.lookup.1 in
     let is : slice_get c.args.program.now.methods c.args.request.now.method ≡ Some first =
     subst (λ (i : ℕ). slice_get c.args.program.now.methods i ≡ Some first) c.from.ensures (subst (λ (ms : List Method). slice_get ms c.from.result ≡ Some first) c.as_slice.ensures there) in
     let seen : sees s first.begin.number ≡ true = sym c.sees.ensures ∙ c.if-not-sees.false in
