@@ -1,5 +1,5 @@
 -- What a statement of each form does at once.
-use Rattle.std.proofs.Common.{◌≡◌, ℕ, List, Some, None, if◌then◌else◌, sym, ap, refl, ◌∙◌}
+use Rattle.std.proofs.Common.{◌≡◌, ℕ, List, None, if◌then◌else◌, sym, ap, ◌∙◌}
 use Rattle.fab_base.specs.declared.object.Tid.{Tid}
 use Rattle.fab_tree.specs.declared.resolved.Use.{Use}
 use Rattle.fab_tree.specs.declared.resolved.Right.{Right}

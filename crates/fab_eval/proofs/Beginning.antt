@@ -1,10 +1,8 @@
 -- A job is begun, or has no method to begin with.
-use Rattle.std.proofs.Common.{◌≡◌, ℕ, List, [], ◌∷◌, Option, Some, None, Result, Ok, Err, IfOk, refl, sym, ap, ◌∙◌, subst}
+use Rattle.std.proofs.Common.{◌≡◌, List, [], ◌∷◌, Some, None, Result, Ok, Err, IfOk, refl, sym, ap, ◌∙◌}
 use Rattle.std.specs.Prelude.{slice_get}
 use Rattle.std.specs.declared.alloc.AllocError.{AllocError}
-use Rattle.fab_base.specs.declared.object.Value.{Value}
 use Rattle.fab_tree.specs.declared.resolved.Method.{Method}
-use Rattle.fab_tree.specs.declared.resolved.Resolved.{Resolved}
 use Rattle.fab_language.specs.Meaning.{locals_at_start, meant_at, meant_by}
 use Rattle.fab_language.specs.declared.ending.Ending.TheVariants.{Ended}
 use Rattle.fab_left.specs.Left.{at_start, rest}

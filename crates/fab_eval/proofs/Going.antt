@@ -1,5 +1,5 @@
 -- What is left of a job, with the answer that it needs.
-use Rattle.std.proofs.Common.{◌≡◌, ℕ, Bool, true, false, ◌&&◌, ◌||◌, ◌==◌, List, [], ◌∷◌, ◌++◌, length, map, Option, Some, None, refl, sym, ap, ◌∙◌, subst, arith}
+use Rattle.std.proofs.Common.{◌≡◌, ℕ, true, false, ◌||◌, if◌then◌else◌, List, [], ◌∷◌, ◌++◌, map, Option, Some, None, Result, Ok, Err, OnOk, is_err, refl, sym, ap, ◌∙◌, subst, arith}
 use Rattle.std.specs.List.{IsDistinct, list_any}
 use Rattle.std.specs.Map.{keys_of}
 use Rattle.std.proofs.lemmas.Bool.{true≢false}
@@ -10,7 +10,7 @@ use Rattle.std.proofs.lemmas.Map.Keys.{IsDistinct-push}
 use Rattle.fab_base.specs.declared.object.Object.{Object}
 use Rattle.fab_base.specs.declared.object.Oid.{Oid}
 use Rattle.fab_base.specs.declared.object.Tid.{Tid}
-use Rattle.fab_base.specs.FlatMap.{FlatMap, get, put, map_of, is_among, is_same}
+use Rattle.fab_base.specs.FlatMap.{FlatMap, get, put, map_of, is_same}
 use Rattle.fab_base.proofs.Names.{same_flips, same_is_equivalence}
 use Rattle.fab_map.proofs.Made.{get-map_of}
 use Rattle.fab_map.proofs.Rows.{put_more}
@@ -121,3 +121,8 @@ resumes job o version x new unmade (Some at) w = record {
   objects = w.objects;
   rest = left_answered job at.first.now at.stack.items (point_before at.fuel at.pairs at.state) o version x new w.rest;
 }
+
+-- a call that didn't fail has done it
+pub where_ok : {E : Type 0} (r : Result (Unit {0}) E) (P : Type 0) → is_err r ≡ false → OnOk r P → P
+where_ok (Ok u) P e p = p
+where_ok (Err x) P e p = absurd (true≢false e)

@@ -1,15 +1,14 @@
 -- From the steps of a run to what was meant.
-use Rattle.std.proofs.Common.{◌≡◌, ℕ, List, [], length, take, Option, Some, None, Result, Ok, Err, IfOk, refl, sym, ap, ◌∙◌, subst}
+use Rattle.std.proofs.Common.{◌≡◌, List, [], length, take, Option, Some, None, Result, Ok, Err, IfOk, sym, ap, ◌∙◌, subst}
 use Rattle.std.specs.declared.alloc.AllocError.{AllocError}
-use Rattle.fab_base.specs.declared.object.Oid.{Oid}
 use Rattle.fab_base.specs.declared.object.Tid.{Tid}
 use Rattle.fab_base.specs.declared.object.Value.{Value}
+use Rattle.fab_base.specs.FlatMap.{FlatMap}
 use Rattle.fab_tree.specs.declared.resolved.Method.{Method}
 use Rattle.fab_tree.specs.declared.resolved.Resolved.{Resolved}
 use Rattle.fab_language.specs.Heaps.{touched}
-use Rattle.fab_language.specs.Meaning.{Run, goes, ends, missing, Meant, meant_by, meant_at, ending_at}
+use Rattle.fab_language.specs.Meaning.{missing, Meant, meant_by, meant_at, ending_at}
 use Rattle.fab_left.specs.Acts.{meanings}
-use Rattle.fab_left.specs.Left as left
 use Rattle.fab_left.specs.Left.{AllStem, at_start}
 use Rattle.fab_nested.specs.Nested.{versions_of}
 use Rattle.fab_stack.specs.declared.halt.End.{End}
@@ -17,16 +16,15 @@ use Rattle.fab_stack.specs.declared.halt.End.TheVariants.{Failed, Stopped, Missi
 use Rattle.fab_stack.specs.declared.stack.Entry.{Entry}
 use Rattle.fab_stack.specs.declared.stepping.Way.{Way}
 use Rattle.fab_stack.specs.declared.stepping.Way.TheVariants.{Over, Lacks}
-use Rattle.fab_stack.specs.Points.{Point, point_before}
+use Rattle.fab_stack.specs.Points.{Point}
 use Rattle.fab_stack.specs.Stacks.{entries_of}
-use Rattle.fab_stack.specs.Stepping.{GoesOn, IsMatched, IsSameAttempt, Runs}
+use Rattle.fab_stack.specs.Stepping.{IsMatched, IsSameAttempt, Runs}
 use Rattle.fab_eval.specs.declared.found.At.{At}
 use Rattle.fab_eval.specs.declared.found.Found.{Found}
 use Rattle.fab_eval.specs.declared.job.Job.{Job}
-use Rattle.fab_eval.specs.declared.job.Outcome.{Outcome}
 use Rattle.fab_eval.specs.declared.job.Outcome.TheVariants.{Need}
-use Rattle.fab_eval.specs.Founds.{IsFound, IsOver, Rests}
-use Rattle.fab_eval.specs.Lefts.{IsLeftOf, asked_by, known_of}
+use Rattle.fab_eval.specs.Founds.{IsFound}
+use Rattle.fab_eval.specs.Lefts.{IsLeftOf, known_of}
 use Rattle.fab_eval.specs.Outcomes.{meant_of, outcome_by}
 use Rattle.fab_eval.specs.Settles.{Comes, Settles, ending_of}
 
@@ -71,7 +69,7 @@ module _ (job : Job) (program : Resolved) (is : program ≡ job.program.value) (
           o,
           record {
             rest = rw (fi, si, qi) (record {
-              begun = λ more fresh. left_is.begun more fresh ∙ sym (r.1.same more fresh);
+              begun = λ more fresh. left_is.begun more fresh ∙ r.1.same more fresh;
               stem = r.1.stem;
               matched = matched;
               tid = same.tid ∙ left_is.tid;
@@ -82,14 +80,27 @@ module _ (job : Job) (program : Resolved) (is : program ≡ job.program.value) (
         );
       }
 
-  -- ---- the same of a call that may want memory
+-- ---- the same, whatever job it is
 
-  pub over_is : (ended : Result (Option Value) End) (r : Result Found AllocError) → Made program p.base.tid (Over ended) → IsSameAttempt q.base p.base → IfOk r (λ f. Settles ended q f.outcome f.touches f.downs) → IfOk r (λ f. f.at ≡ None) → IfOk r (IsFound job)
-  over_is ended (Ok f) h same settles none = over_found ended f h same settles none
-  over_is ended (Err e) h same settles none = tt
+module _ (program : Resolved) (first : Method) (js : List Entry) (p : Point) (ks : List Entry) (q : Point) where
+  abbrev RunsTo : Way → Type 0
+  RunsTo way = (known : FlatMap) → AllStem p.base.tid known (entries_of js p.base.saved) p.state
+      → Runs (meanings program p.base.tid) (at_start first) p.base.tid known way (entries_of js p.base.saved) p.state (entries_of ks q.base.saved) q.state
 
-  pub lacks_is : (at : At) (r : Result Found AllocError) → at.first.now ≡ first → at.stack.items ≡ ks → at.state ≡ q → Made program p.base.tid (Lacks at.site at.oid at.fuel at.pairs at.objects) → IsMatched ks q → IsSameAttempt q.base p.base
-      → IfOk r (λ f. f.outcome ≡ Need at.site at.oid) → IfOk r (λ f. f.touches ≡ at.state.state.touches) → IfOk r (λ f. f.downs ≡ at.state.state.downs) → IfOk r (λ f. f.at ≡ Some at) → IfOk r (IsFound job)
-  lacks_is at (Ok f) fi si qi h matched same o t d e =
-      lacks_found at f fi si qi h matched same o (t ∙ ap (λ (z : Point). z.state.touches) qi) (d ∙ ap (λ (z : Point). z.state.downs) qi) e
-  lacks_is at (Err x) fi si qi h matched same o t d e = tt
+  abbrev FoundBy : Found → Type 0
+  FoundBy f = (job : Job) → program ≡ job.program.value → IsLeftOf job first js p → IsFound job f
+
+  pub over_goes : (ended : Result (Option Value) End) (r : Result Found AllocError) → RunsTo (Over ended) → IsSameAttempt q.base p.base → IfOk r (λ f. Settles ended q f.outcome f.touches f.downs) → IfOk r (λ f. f.at ≡ None) → IfOk r FoundBy
+  over_goes ended (Ok f) h same s n = λ job is rest. over_found job program is first js p rest ks q ended f (h (known_of job)) same s n
+  over_goes ended (Err e) h same s n = tt
+
+  pub lacks_goes : (at : At) (r : Result Found AllocError) → at.first.now ≡ first → at.stack.items ≡ ks → at.state ≡ q → RunsTo (Lacks at.site at.oid at.fuel at.pairs at.objects) → IsMatched ks q → IsSameAttempt q.base p.base
+      → IfOk r (λ f. f.outcome ≡ Need at.site at.oid) → IfOk r (λ f. f.touches ≡ at.state.state.touches) → IfOk r (λ f. f.downs ≡ at.state.state.downs) → IfOk r (λ f. f.at ≡ Some at) → IfOk r FoundBy
+  lacks_goes at (Ok f) fi si qi h matched same o t d e = λ job is rest.
+      lacks_found job program is first js p rest ks q at f fi si qi (h (known_of job)) matched same o (t ∙ ap (λ (z : Point). z.state.touches) qi) (d ∙ ap (λ (z : Point). z.state.downs) qi) e
+  lacks_goes at (Err x) fi si qi h matched same o t d e = tt
+
+pub found_of : (job : Job) (program : Resolved) (first : Method) (items : List Entry) (p : Point) (r : Result Found AllocError) → program ≡ job.program.value → IsLeftOf job first items p
+    → IfOk r (λ f. (other : Job) → program ≡ other.program.value → IsLeftOf other first items p → IsFound other f) → IfOk r (IsFound job)
+found_of job program first items p (Ok f) is rest h = h job is rest
+found_of job program first items p (Err e) is rest h = tt

@@ -1,5 +1,5 @@
 -- What is left of a job at a point.
-use Rattle.std.specs.Prelude.{◌≡◌, ℕ, List, Option}
+use Rattle.std.specs.Prelude.{◌≡◌, List, Option}
 use Rattle.fab_base.specs.declared.object.Value.{Value}
 use Rattle.fab_base.specs.FlatMap.{FlatMap, map_of}
 use Rattle.fab_tree.specs.declared.resolved.Method.{Method}

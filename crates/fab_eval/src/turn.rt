@@ -20,6 +20,7 @@ use fab_base::{Object, Oid, Seq};
 use fab_tree::resolved::Resolved;
 use std::alloc::Global;
 use std::marker::Model;
+use std::mem;
 
 /// A job that needs an object, and is done so far; with what is left of it, unless that was given up
 /// for want of memory.
@@ -210,27 +211,18 @@ fn gone_on<'a>(
     match with_answer(alloc, program, &job, at, oid, version, copy) {
         Ok(found) => Ok(turned(alloc, program, job, found)),
         Err(_) => Err(EvalRefused {
-            job: without_last(job),
+            job: without_last(alloc, job),
         }),
     }
 }
 
 /// A job without its last answer.
-fn without_last(job: Job) -> Job
+fn without_last(alloc: Global, job: Job) -> Job
     ensures { (oid : AnyOid) (version : ℕ) (object : AnyObject) (before : AnyJob) → job ≡ answered oid version object before → result ≡ before }
 {
-    let Job {
-        program,
-        request,
-        tid,
-        answers,
-    } = job;
-    let mut answers = answers.into_vec();
+    let mut job = job;
+    let mut answers = mem::replace(&mut job.answers, Seq::new(alloc)).into_vec();
     answers.pop();
-    Job {
-        program,
-        request,
-        tid,
-        answers: Seq::from_vec(answers),
-    }
+    job.answers = Seq::from_vec(answers);
+    job
 }

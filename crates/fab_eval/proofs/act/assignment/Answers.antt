@@ -1,4 +1,4 @@
-use Rattle.std.proofs.Common.{◌≡◌, ap}
+use Rattle.std.proofs.Common.{ap}
 use Rattle.fab_stack.specs.Points.{Base}
 use Rattle.fab_eval.proofs.Acting.{act_new}
 use Rattle.fab_eval.proofs.act.assignment.Goals as goal
