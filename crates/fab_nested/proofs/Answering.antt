@@ -14,8 +14,8 @@ use Rattle.fab_map.proofs.Rows.{ascends-put, get-put_other}
 use Rattle.fab_map.proofs.Changing.{ascends-removed, ascends-put_field, put_field_absent}
 use Rattle.indexmap.specs.IndexMap.{insert_entry}
 use Rattle.fab_nested.specs.declared.log.Change.{Change}
-use Rattle.fab_nested.specs.declared.log.Change.TheVariants.{Wrote, Joined, Made}
-use Rattle.fab_nested.specs.Logs.{before, before_all, heap_at, saved_in}
+use Rattle.fab_nested.specs.declared.log.Change.TheVariants.{Wrote, Joined, Made, Remade}
+use Rattle.fab_nested.specs.Logs.{before, before_all, heap_at, put_again, saved_in}
 use Rattle.fab_nested.specs.Nested.{Nested, answered}
 use Rattle.fab_nested.specs.Overlay.{over, framed, IsKnown, IsFramed}
 use Rattle.fab_nested.proofs.Naming.{among_push, insert_last}
@@ -43,15 +43,35 @@ absent-put_field p o field v rows e = by (is_same p o) refl
     by true same = let name : p ≡ o = one_name p o same in ap (λ (m : FlatMap). get m o) (put_field_absent p field v rows (ap (get rows) name ∙ e)) ∙ e
     by false apart = other (with_field_of field v (get rows p)) apart
 
+absent-put_again : (p o : Oid) (x : Object) (rows : FlatMap) → get rows o ≡ None → get (put_again p x rows) o ≡ None
+absent-put_again p o x rows e = by (is_same p o) refl
+  where
+    there : is_same p o ≡ false → (b : Bool) → get (if b then put p x rows else rows) o ≡ None
+    there apart true = get-put_other p o x rows apart ∙ e
+    there apart false = e
+
+    by : (b : Bool) → is_same p o ≡ b → get (put_again p x rows) o ≡ None
+    by true same = ap (λ (r : Option Object). get (if is_some r then put p x rows else rows) o) (ap (get rows) (one_name p o same) ∙ e) ∙ e
+    by false apart = there apart (is_some (get rows p))
+
+ascends-put_again : (p : Oid) (x : Object) (rows : FlatMap) → ascends rows ≡ true → ascends (put_again p x rows) ≡ true
+ascends-put_again p x rows a = by (is_some (get rows p))
+  where
+    by : (b : Bool) → ascends (if b then put p x rows else rows) ≡ true
+    by true = ascends-put p x rows a
+    by false = a
+
 absent-before : (c : Change) (h : Heap) (o : Oid) → get h.rows o ≡ None → get (before c h).rows o ≡ None
 absent-before (Wrote p field old) h o e = absent-put_field p o field old h.rows e
 absent-before (Joined p) h o e = absent-removed p o h.rows e
 absent-before (Made p) h o e = absent-removed p o h.rows e
+absent-before (Remade p x) h o e = absent-put_again p o x h.rows e
 
 ascends-before : (c : Change) (h : Heap) → ascends h.rows ≡ true → ascends (before c h).rows ≡ true
 ascends-before (Wrote p field old) h a = ascends-put_field p field old h.rows a
 ascends-before (Joined p) h a = ascends-removed p h.rows a
 ascends-before (Made p) h a = ascends-removed p h.rows a
+ascends-before (Remade p x) h a = ascends-put_again p x h.rows a
 
 absent-before_all : (cs : List Change) (h : Heap) (o : Oid) → get h.rows o ≡ None → get (before_all cs h).rows o ≡ None
 absent-before_all [] h o e = e

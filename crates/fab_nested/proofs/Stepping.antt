@@ -1,5 +1,5 @@
 -- One change of a heap: what it comes to, that it can be undone, and that a sound heap stays sound.
-use Rattle.std.proofs.Common.{◌≡◌, ℕ, ◌+◌, ◌≤◌, Bool, true, false, ◌||◌, List, [], ◌∷◌, ◌++◌, length, Some, None, is_some, unwrap_or, refl, sym, ap, subst, ◌∙◌, arith}
+use Rattle.std.proofs.Common.{◌≡◌, ℕ, ◌+◌, ◌≤◌, Bool, true, false, ◌||◌, List, [], ◌∷◌, ◌++◌, length, Option, Some, None, is_some, if◌then◌else◌, unwrap_or, refl, sym, ap, subst, ◌∙◌, arith}
 use Rattle.std.proofs.lemmas.List.{length_push}
 use Rattle.std.proofs.lemmas.Option.{none-some, same_Some}
 use Rattle.std.proofs.lemmas.Bool.Decides.{nat_tests}
@@ -11,10 +11,11 @@ use Rattle.fab_base.proofs.NameOrder.{one_name}
 use Rattle.fab_language.specs.Heaps.{Heap, is_among, is_changed, is_spent, changed, with_row, replaced, created}
 use Rattle.fab_language.specs.Meaning.{with_field, unchanged}
 use Rattle.fab_map.specs.Changes.{field_in, put_field, removed}
-use Rattle.fab_map.proofs.Rows.{ascends-put, get-put_same, get-put_other}
+use Rattle.fab_map.proofs.Rows.{ascends-put, get-put_same, get-put_other, same_from_get}
 use Rattle.fab_map.proofs.Changing.{put_field_there, put_field-back, removed-put}
-use Rattle.fab_nested.specs.declared.log.Change.TheVariants.{Wrote, Joined, Made}
-use Rattle.fab_nested.specs.Logs.{Steps, but_last, IsSound}
+use Rattle.fab_nested.specs.declared.log.Change.TheVariants.{Wrote, Joined}
+use Rattle.fab_nested.specs.declared.log.Change.{Change}
+use Rattle.fab_nested.specs.Logs.{Steps, before, but_last, making, put_again, IsSound}
 use Rattle.fab_nested.proofs.Naming.{among_push, but_last-push}
 
 -- ---- an object is written
@@ -43,11 +44,29 @@ module _ (o : Oid) (x : Object) (h : Heap) where
   )
 
 -- ---- an object is made
-module _ (o : Oid) (x : Object) (h : Heap) where
-  pub made : (rows : FlatMap) (names : List Oid) → is_spent h ≡ false → get h.rows o ≡ None → rows ≡ put o x h.rows → names ≡ h.made ++ o ∷ [] → Steps (created o x h) h (record h { rows = rows; made = names }) (Some (Made o))
-  made rows names s absent e f = (
+
+-- an object that was there is put again in the place of another
+put_again-put : (o : Oid) (x y : Object) (rows : FlatMap) → ascends rows ≡ true → get rows o ≡ Some y → put_again o y (put o x rows) ≡ rows
+put_again-put o x y rows asc there =
+    let some : is_some (get (put o x rows) o) ≡ true = ap is_some (get-put_same o x rows) in
+    ap (λ b. if b then put o y (put o x rows) else put o x rows) some
+    ∙ same_from_get (put o y (put o x rows)) rows (ascends-put o y (put o x rows) (ascends-put o x rows asc)) asc (λ p. by_test p (is_same o p) refl)
+  where
+    by_test : (p : Oid) (b : Bool) → is_same o p ≡ b → get (put o y (put o x rows)) p ≡ get rows p
+    by_test p true e = let name : o ≡ p = one_name o p e in ap (get (put o y (put o x rows))) (sym name) ∙ get-put_same o y (put o x rows) ∙ sym there ∙ ap (get rows) name
+    by_test p false e = get-put_other o p y (put o x rows) e ∙ get-put_other o p x rows e
+
+module _ (o : Oid) (x : Object) (h : Heap) (asc : ascends h.rows ≡ true) where
+  back : (r : Option Object) → get h.rows o ≡ r → (rows : FlatMap) (names : List Oid) → rows ≡ put o x h.rows → names ≡ h.made ++ o ∷ []
+      → before (making o r) (record h { rows = rows; made = names }) ≡ h
+  back None is rows names e f = λ i. record h { rows = (ap (removed o) e ∙ removed-put o x h.rows is) i; made = (ap but_last f ∙ but_last-push h.made o) i }
+  back (Some y) is rows names e f = λ i. record h { rows = (ap (put_again o y) e ∙ put_again-put o x y h.rows asc is) i; made = (ap but_last f ∙ but_last-push h.made o) i }
+
+  pub made : (rows : FlatMap) (names : List Oid) (c : Change) → is_spent h ≡ false → c ≡ making o (get h.rows o) → rows ≡ put o x h.rows → names ≡ h.made ++ o ∷ []
+      → Steps (created o x h) h (record h { rows = rows; made = names }) (Some c)
+  made rows names c s is e f = (
     rw s (λ i. Some (record h { rows = sym e i; made = sym f i })),
-    λ i. record h { rows = (ap (removed o) e ∙ removed-put o x h.rows absent) i; made = (ap but_last f ∙ but_last-push h.made o) i },
+    ap (λ d. before d (record h { rows = rows; made = names })) is ∙ back (get h.rows o) refl rows names e f,
   )
 
 -- ---- a sound heap stays sound
@@ -88,10 +107,6 @@ sound_none = record {
   there = λ o. refl;
   few = omega arith;
 }
-
--- what is not there was not changed
-pub unchanged_from : (h : Heap) (o : Oid) → IsSound h → get h.rows o ≡ None → is_changed o h ≡ false
-unchanged_from h o s e = sym (s.there o) ∙ ap is_some e
 
 module _ (o : Oid) (x : Object) (h new : Heap) (s : IsSound h) where
   there_then : (p : Oid) → is_some (get (put o x h.rows) p) ≡ ((is_among p h.made || is_among p h.written) || is_same o p)

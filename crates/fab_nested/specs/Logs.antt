@@ -1,11 +1,12 @@
 -- A log of the changes of a heap, by which earlier heaps are had again. The heaps here have the changed objects alone.
-use Rattle.std.specs.Prelude.{◌≡◌, ℕ, ◌-◌, ◌≤◌, true, List, [], ◌∷◌, ◌++◌, length, map, reverse, take, drop, Option, Some, None, is_some}
+use Rattle.std.specs.Prelude.{◌≡◌, ℕ, ◌-◌, ◌≤◌, true, List, [], ◌∷◌, ◌++◌, length, map, reverse, take, drop, Option, Some, None, is_some, if◌then◌else◌}
 use Rattle.fab_base.specs.declared.object.Oid.{Oid}
-use Rattle.fab_base.specs.FlatMap.{get, ascends}
+use Rattle.fab_base.specs.declared.object.Object.{Object}
+use Rattle.fab_base.specs.FlatMap.{FlatMap, get, put, ascends}
 use Rattle.fab_language.specs.Heaps.{Heap, is_changed, changed}
 use Rattle.fab_map.specs.Changes.{put_field, removed}
 use Rattle.fab_nested.specs.declared.log.Change.{Change}
-use Rattle.fab_nested.specs.declared.log.Change.TheVariants.{Wrote, Joined, Made}
+use Rattle.fab_nested.specs.declared.log.Change.TheVariants.{Wrote, Joined, Made, Remade}
 use Rattle.fab_nested.specs.declared.objects.Objects.{Objects}
 
 -- the objects that were changed, as a heap
@@ -16,11 +17,22 @@ heap_of objects = record { rows = objects.changed; written = objects.written.key
 abbrev pub but_last : List Oid → List Oid
 but_last os = take (length os - 1) os
 
--- The heap before a change: a field held another value; an object wasn't written yet, and so not changed; or it wasn't made.
+-- where there is an object of this name, this one takes its place
+abbrev pub put_again : Oid → Object → FlatMap → FlatMap
+put_again o x rows = if is_some (get rows o) then put o x rows else rows
+
+-- The heap before a change: a field held another value; an object wasn't written yet, and so not changed; it wasn't made; or it
+-- was another one, and not made.
 abbrev pub before : Change → Heap → Heap
 before (Wrote o field old) h = record h { rows = put_field o field old h.rows }
 before (Joined o) h = record h { rows = removed o h.rows; written = but_last h.written }
 before (Made o) h = record h { rows = removed o h.rows; made = but_last h.made }
+before (Remade o x) h = record h { rows = put_again o x h.rows; made = but_last h.made }
+
+-- the change in which an object of a name is made, where this one of it was changed before, or none
+abbrev pub making : Oid → Option Object → Change
+making o None = Made o
+making o (Some x) = Remade o x
 
 -- What a step from an old heap to a new one gave, where it was to come to this heap or to none: a change that leads
 -- back, or nothing, with the heap as it was.

@@ -4,7 +4,7 @@ ghost use Rattle.std.specs.Bool.{OnFalse};
 ghost use Rattle.std.specs.List.{IsDistinct};
 ghost use Rattle.fab_base.specs.declared.object.Object.{Object as AnyObject};
 ghost use Rattle.fab_base.specs.FlatMap.{ascends, get, is_same};
-ghost use Rattle.fab_language.specs.Heaps.{found, full, index_at, is_changed, reach_in, touched};
+ghost use Rattle.fab_language.specs.Heaps.{found, full, index_at, is_among, is_changed, reach_in, touched};
 ghost use Rattle.fab_nested.specs.Calls.{Gives};
 ghost use Rattle.fab_nested.specs.Effects.{objects_at};
 ghost use Rattle.fab_nested.specs.Nested.{aborted, answered, create, creates_in, entered, merged, names_of, nested_of, nested_over, read, write, writes_in};
@@ -184,13 +184,15 @@ impl<'a> Frames<'a> {
         }
     }
 
-    /// Makes an object of a new name.
+    /// Makes an object of a name of which none was made. One of this name that is known or was written
+    /// makes room for it.
     pub fn create(&mut self, oid: Oid, object: Object) -> Result<(), FrameError>
-        requires { get self.old.now.rows oid ≡ None }
+        requires { is_among oid self.old.now.made ≡ false }
         ensures { Gives result self.old self.new (create oid object self.old) }
     {
+        let alloc = *self.log.allocator();
         self.log.reserve(1)?;
-        let Some(change) = self.objects.make(oid, object)? else {
+        let Some(change) = self.objects.make(alloc, oid, object)? else {
             return Err(FrameError::Full(Stop::Writes));
         };
         note(&mut self.log, &self.marks, change);

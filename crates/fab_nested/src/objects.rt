@@ -4,7 +4,7 @@ ghost use Rattle.fab_base.specs.FlatMap.{ascends, get};
 ghost use Rattle.fab_base.specs.declared.object.Object.{Object as AnyObject};
 ghost use Rattle.fab_language.specs.Heaps.{created, is_among, is_changed, is_spent, replaced};
 ghost use Rattle.fab_language.specs.Meaning.{unchanged, with_field};
-ghost use Rattle.fab_nested.specs.Logs.{before, heap_of, Steps};
+ghost use Rattle.fab_nested.specs.Logs.{before, heap_of, making, put_again, Steps};
 
 use crate::log::Change;
 use fab_base::{NoMemory, Object, Oid, Value};
@@ -73,22 +73,42 @@ impl Objects {
         Ok(Some(Change::Joined { oid }))
     }
 
-    /// Makes an object of a new name, unless it would be one change too many.
-    pub(crate) fn make(&mut self, oid: Oid, object: Object) -> Result<Option<Change>, NoMemory>
-        requires absent { get self.old.changed oid ≡ None }
-        requires apart { is_changed oid (heap_of self.old) ≡ false }
+    /// What undoes that an object of this name is made.
+    fn making(&self, alloc: Global, oid: Oid) -> Result<Change, NoMemory>
+        ensures { IfOk result (λ change. change ≡ making oid (get self.now.changed oid)) }
+    {
+        match self.changed.get(oid) {
+            Some(object) => Ok(Change::Remade {
+                oid,
+                old: object.copy(alloc)?,
+            }),
+            None => Ok(Change::Made { oid }),
+        }
+    }
+
+    /// Makes an object of a name that none was made of, unless it would be one change too many. One of
+    /// this name that was written makes room for it.
+    pub(crate) fn make(
+        &mut self,
+        alloc: Global,
+        oid: Oid,
+        object: Object,
+    ) -> Result<Option<Change>, NoMemory>
+        requires ascending { ascends self.old.changed ≡ true }
+        requires unmade { is_among oid (heap_of self.old).made ≡ false }
         ensures ok { IfOk result (Steps (created oid object (heap_of self.old)) (heap_of self.old) (heap_of self.new)) }
         ensures err { OnErr result (heap_of self.new ≡ heap_of self.old) }
     {
         if self.is_spent() {
             return Ok(None);
         }
+        let change = self.making(alloc, oid)?;
         self.made.reserve(1)?;
         self.changed.put(oid, object)?;
         if self.made.insert(oid).is_err() {
             unreachable!();
         }
-        Ok(Some(Change::Made { oid }))
+        Ok(Some(change))
     }
 
     /// Undoes a change. It takes no memory.
@@ -107,7 +127,20 @@ impl Objects {
                 self.changed.remove(oid);
                 self.made.pop();
             }
+            Change::Remade { oid, old } => {
+                put_back(&mut self.changed, oid, old);
+                self.made.pop();
+            }
         }
+    }
+}
+
+/// Puts an object in the place of the one of its name, if there is one. It takes no memory.
+fn put_back(rows: &mut ObjectMap, oid: Oid, object: Object)
+    ensures { rows.new ≡ put_again oid object rows.old }
+{
+    if rows.get(oid).is_some() && rows.put(oid, object).is_err() {
+        unreachable!();
     }
 }
 

@@ -4,7 +4,7 @@ use Rattle.fab_base.specs.declared.object.Object.{Object}
 use Rattle.fab_base.specs.declared.object.Oid.{Oid}
 use Rattle.fab_base.specs.declared.object.Tid.{Tid}
 use Rattle.fab_base.specs.declared.object.Value.{Value}
-use Rattle.fab_base.specs.FlatMap.{get, map_of}
+use Rattle.fab_base.specs.FlatMap.{FlatMap, get, map_of}
 use Rattle.fab_language.specs.Heaps.{Heap}
 use Rattle.fab_language.specs.Meaning.{State, state_at_start}
 use Rattle.fab_left.specs.Left.{before, wider, with_more}
@@ -27,6 +27,13 @@ abbrev pub point_at_start : Tid → ℕ → Answers → Point
 point_at_start tid fuel answers = record {
   state = state_at_start (map_of (objects_of answers)) fuel;
   base = record { tid = tid; versions = versions_of answers; saved = [] };
+}
+
+-- the same over what is known, of which nothing has a version, with these given values
+abbrev pub point_over : Tid → ℕ → FlatMap → List Value → Point
+point_over tid fuel known given = record {
+  state = record (state_at_start known fuel) { given = given };
+  base = record { tid = tid; versions = []; saved = [] };
 }
 
 -- the same point with other locals

@@ -1,25 +1,28 @@
 //! What an evaluation has at a point, and the steps that change it.
-ghost use Rattle.std.specs.Prelude.{◌≡◌, ◌<◌, ◌≤◌, Ok, OnOk, IfOk, false, length, take};
-ghost use Rattle.std.specs.List.{IsDistinct, list_any};
-ghost use Rattle.fab_base.specs.FlatMap.{is_same};
+ghost use Rattle.std.specs.Prelude.{◌≡◌, ◌<◌, ◌≤◌, ◌++◌, Ok, OnOk, IfOk, length, take, true};
+ghost use Rattle.std.specs.List.{IsDistinct};
+ghost use Rattle.fab_base.specs.FlatMap.{ascends, is_same};
+ghost use Rattle.fab_erasure.specs.Erased.{take_given};
 ghost use Rattle.fab_language.specs.Heaps.{touched};
 ghost use Rattle.fab_language.specs.Meaning.{assign, charge, create, local, noted_down, read, write};
+ghost use Rattle.fab_nested.specs.Effects.{objects_at};
 ghost use Rattle.fab_nested.specs.Nested.{names_of, writes_in, creates_in};
-ghost use Rattle.fab_stack.specs.Attempts.{is_made_in};
-ghost use Rattle.fab_stack.specs.Points.{Lacks, aborted, merged, point_at_start, point_before, saving, with_answer, with_locals};
+ghost use Rattle.fab_stack.specs.Points.{Lacks, aborted, merged, point_at_start, point_before, point_over, saving, with_answer, with_locals};
 ghost use Rattle.fab_stack.specs.Gives.{Gives, halt_at};
 
 use crate::halt::{End, Halt};
 use fab_base::{NoMemory, Object, Oid, Seq, Stop, Tid, Value};
+use fab_map::ObjectMap;
 use fab_nested::{FrameError, Frames};
 use std::alloc::Global;
 use std::marker::Model;
 use std::mem;
 
 /// What an evaluation has at a point: the attempt in which it runs, the fuel that is left, the
-/// locals of the method that it is in, the objects, and the values that were downgraded. Contracts
-/// see it as the state that the meaning has, over what stays through each step. An object of this
-/// attempt is in no heap of it but where it was made.
+/// locals of the method that it is in, the objects, the values that were downgraded, and those that are
+/// given, with how many of them were taken. Contracts see it as the state that the meaning has, with
+/// the given values that are left, over what stays through each step. No two objects are made of one
+/// name.
 pub struct State<'a> {
     alloc: Global,
     tid: Tid,
@@ -27,6 +30,8 @@ pub struct State<'a> {
     locals: Vec<Value>,
     frames: Frames<'a>,
     downs: Vec<(u16, Value)>,
+    given: Seq<Value>,
+    taken: usize,
 }
 
 impl Drop for State<'_> {
@@ -38,20 +43,22 @@ impl Drop for State<'_> {
             locals,
             frames,
             downs,
+            given,
+            taken,
         } = self;
     }
 }
 
 impl<'a> Model for State<'a> {
-    ghost use Rattle.std.specs.Prelude.{[], ◌∷◌};
-    ghost use Rattle.fab_stack.specs.Attempts.{AreOfAttempt};
+    ghost use Rattle.std.specs.Prelude.{◌∷◌, drop};
+    ghost use Rattle.fab_stack.specs.Attempts.{AreCounted};
     ghost use Rattle.fab_stack.specs.Points.{Point};
 
     ghost Value = { Point };
 
-    ghost view = { λ s. record { state = record { fuel = s.fuel; locals = s.locals.items; heap = s.frames.now; touches = s.frames.touches; downs = s.downs.items; given = [] }; base = record { tid = s.tid; versions = s.frames.versions; saved = s.frames.saved } } };
+    ghost view = { λ s. record { state = record { fuel = s.fuel; locals = s.locals.items; heap = s.frames.now; touches = s.frames.touches; downs = s.downs.items; given = drop s.taken s.given }; base = record { tid = s.tid; versions = s.frames.versions; saved = s.frames.saved } } };
 
-    ghost invariant = { λ s. AreOfAttempt s.tid (s.frames.now ∷ s.frames.saved) };
+    ghost invariant = { λ s. AreCounted (s.frames.now ∷ s.frames.saved) };
 }
 
 impl<'a> State<'a> {
@@ -62,8 +69,7 @@ impl<'a> State<'a> {
         fuel: u32,
         answers: &[(Oid, u32, Object)],
     ) -> Result<State<'a>, NoMemory>
-        requires distinct { IsDistinct is_same (names_of answers.now) }
-        requires made_before { list_any (λ a. is_made_in tid a.0) answers.now ≡ false }
+        requires { IsDistinct is_same (names_of answers.now) }
         ensures { IfOk result (λ s. s ≡ point_at_start tid fuel answers.now) }
     {
         Ok(State {
@@ -73,6 +79,30 @@ impl<'a> State<'a> {
             locals: Vec::new(alloc),
             frames: Frames::make(alloc, answers)?,
             downs: Vec::new(alloc),
+            given: Seq::new(alloc),
+            taken: 0,
+        })
+    }
+
+    /// The same over the objects of a map, which isn't copied, and with these given values.
+    pub fn over(
+        alloc: Global,
+        tid: Tid,
+        fuel: u32,
+        known: &'a ObjectMap,
+        given: &[Value],
+    ) -> Result<State<'a>, NoMemory>
+        ensures { IfOk result (λ s. s ≡ point_over tid fuel known.now given.now) }
+    {
+        Ok(State {
+            alloc,
+            tid,
+            fuel,
+            locals: Vec::new(alloc),
+            frames: Frames::over(alloc, known),
+            downs: Vec::new(alloc),
+            given: Seq::from_slice(alloc, given)?,
+            taken: 0,
         })
     }
 
@@ -203,6 +233,21 @@ impl<'a> State<'a> {
         Ok(value)
     }
 
+    /// The next given value, or this one where none is left.
+    pub fn take_given(&mut self, blank: Value) -> Value
+        ensures gives { Gives (Ok result) self.new (take_given blank self.old.state) }
+        ensures base { self.new.base ≡ self.old.base }
+        ensures fuel { self.new.state.fuel ≡ self.old.state.fuel }
+    {
+        match self.given.as_slice().get(self.taken).copied() {
+            Some(value) => {
+                self.taken += 1;
+                value
+            }
+            None => blank,
+        }
+    }
+
     /// Saves the heap, and gives a copy of the locals.
     pub(crate) fn enter(&mut self) -> Result<Vec<Value>, NoMemory>
         ensures locals { IfOk result (λ v. v.items ≡ self.old.state.locals) }
@@ -256,6 +301,24 @@ impl<'a> State<'a> {
         self.frames.changed()
     }
 
+    /// Copies of the objects that were written, and then of those that were made, in the order in which
+    /// they came.
+    pub fn changes(&self) -> Result<Seq<(Oid, Object)>, NoMemory>
+        ensures rows { IfOk result (λ rows. rows ≡ objects_at self.now.state.heap.rows (self.now.state.heap.written ++ self.now.state.heap.made)) }
+        ensures ascends { ascends self.now.state.heap.rows ≡ true }
+    {
+        self.frames.changes()
+    }
+
+    /// All objects as they are now, and the names that were written and made.
+    pub fn parts(&self) -> Result<(ObjectMap, Seq<Oid>, Seq<Oid>), NoMemory>
+        ensures rows { IfOk result (λ r. r.0 ≡ self.now.state.heap.rows) }
+        ensures written { IfOk result (λ r. r.1 ≡ self.now.state.heap.written) }
+        ensures made { IfOk result (λ r. r.2 ≡ self.now.state.heap.made) }
+    {
+        self.frames.parts()
+    }
+
     /// Copies of the touches, and of the values that were downgraded.
     pub fn notes(&self) -> Result<(Seq<(u16, Oid)>, Seq<(u16, Value)>), NoMemory>
         ensures touches { IfOk result (λ n. n.0 ≡ self.now.state.touches) }
@@ -279,6 +342,8 @@ impl<'a> State<'a> {
             locals: _,
             frames: _,
             downs,
+            given: _,
+            taken: _,
         } = self;
         Ok((touches, Seq::from_vec(downs)))
     }

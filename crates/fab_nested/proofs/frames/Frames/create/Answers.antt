@@ -1,22 +1,15 @@
 use Rattle.std.proofs.Common.{ap, ◌∙◌}
-use Rattle.fab_base.specs.FlatMap.{get}
+use Rattle.fab_language.specs.Heaps.{is_among}
 use Rattle.fab_nested.specs.Logs.{heap_of}
 use Rattle.fab_nested.specs.Nested.{Nested}
 use Rattle.fab_nested.specs.Overlay.{rows_of}
-use Rattle.fab_nested.proofs.Over.{absent_over}
-use Rattle.fab_nested.proofs.Stepping.{sound_made, unchanged_from}
+use Rattle.fab_nested.proofs.Stepping.{sound_made}
 use Rattle.fab_nested.proofs.Undoing.{later_logged, later_saved}
 use Rattle.fab_nested.proofs.Calling.{create_gives}
 use Rattle.fab_nested.proofs.frames.Frames.create.Goals as goal
 
-pub make-requires-clause-absent : goal.make-requires-clause-absent
-make-requires-clause-absent c =
-    (absent_over c.self.inside.objects.changed (rows_of c.self.inside.known) c.args.oid c.self.invariant.above.now.ascending (ap (λ (n : Nested). get n.now.rows c.args.oid) c.self.view_is ∙ c.requires)).0
-
-pub make-requires-clause-apart : goal.make-requires-clause-apart
-make-requires-clause-apart c =
-    unchanged_from (heap_of c.self.inside.objects) c.args.oid c.self.invariant.above.now
-    (absent_over c.self.inside.objects.changed (rows_of c.self.inside.known) c.args.oid c.self.invariant.above.now.ascending (ap (λ (n : Nested). get n.now.rows c.args.oid) c.self.view_is ∙ c.requires)).0
+pub make-requires-clause-unmade : goal.make-requires-clause-unmade
+make-requires-clause-unmade c = ap (λ (n : Nested). is_among c.args.oid n.now.made) c.self.view_is ∙ c.requires
 
 pub invariant_of-self-2 : goal.invariant_of-self-2
 invariant_of-self-2 c =

@@ -3,4 +3,4 @@ use Rattle.fab_stack.proofs.Making.{IsOwn, aborted_own}
 use Rattle.fab_stack.proofs.state.State.abort.Goals as goal
 
 pub invariant_of-self : goal.invariant_of-self
-invariant_of-self c = subst (IsOwn c.self.inside.tid) (sym c.abort.ensures) (aborted_own c.self.inside.tid c.self.inside.frames c.self.invariant)
+invariant_of-self c = subst IsOwn (sym c.abort.ensures) (aborted_own c.self.inside.frames c.self.invariant)

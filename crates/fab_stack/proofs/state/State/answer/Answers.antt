@@ -8,6 +8,5 @@ answer-requires c = record { absent = (subst (λ (p : Point). Lacks c.args.oid p
 
 pub invariant_of-self : goal.invariant_of-self
 invariant_of-self c =
-    let lacks = subst (λ (p : Point). Lacks c.args.oid p) (sym c.self.view_is) c.requires in
-    own_or_kept c.self.inside.tid c.answer.result c.self.inside.frames c.answer.new.self _ c.self.invariant
-    (answered_own c.self.inside.tid c.args.oid c.args.version c.args.object lacks.unmade c.self.inside.frames c.self.invariant) c.answer.ensures.ok c.answer.ensures.err
+    own_or_kept c.answer.result c.self.inside.frames c.answer.new.self _ c.self.invariant
+    (answered_own c.args.oid c.args.version c.args.object c.self.inside.frames c.self.invariant) c.answer.ensures.ok c.answer.ensures.err
