@@ -11,7 +11,7 @@ use Rattle.fab_tree.specs.declared.resolved.Method.{Method}
 use Rattle.fab_tree.specs.declared.resolved.Right.{Right}
 use Rattle.fab_tree.specs.declared.resolved.Statement.{Statement}
 use Rattle.fab_tree.specs.declared.resolved.Use.{Use}
-use Rattle.fab_language.specs.Meaning.{M, ◌>>=◌, gives, create, holds, noted_down}
+use Rattle.fab_language.specs.Meaning.{M, ◌>>=◌, ◌>>◌, gives, create, holds, noted_down}
 use Rattle.fab_labelling.specs.Obligations.{class_of_local, label_of_local}
 use Rattle.fab_erasure.specs.Erased as e
 use Rattle.fab_erasure.specs.Erased.{Part}
@@ -62,7 +62,7 @@ abbrev pub takes : Sight → Method → ℕ → Value → M (Unit {0})
 takes sight m = erased.assign_shown (sees sight) (shows sight) m.locals
 
 abbrev pub taken : Sight → Method → ℕ → Value → M Deed
-taken sight m x v t = erased.taken (sees sight) (shows sight) [] m.locals (record { worker = 0; boot = 0; number = 0 }) x v t
+taken sight m x v = takes sight m x v >> gives passed
 
 -- what a local holds before it is assigned
 abbrev pub blank_of : Method → ℕ → Value
