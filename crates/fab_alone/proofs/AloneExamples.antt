@@ -1,20 +1,15 @@
 -- A worker that is alone, on small runs: a transfer, which comes to what it comes to by itself; and a worker that may not fetch.
-use Rattle.std.proofs.Common.{◌≡◌, ℕ, zero, suc, ◌<◌, ◌||◌, Bool, true, false, IsTrue, ◌==◌, if◌then◌else◌, List, [], ◌∷◌, ◌++◌, map, pos, Option, Some, None, refl, sym, ap, ◌∙◌, subst, lit<, true≢false, arith}
-use Rattle.fab_base.specs.declared.object.Object.{Object as Thing}
-use Rattle.fab_base.specs.declared.object.Oid.{Oid}
+use Rattle.std.proofs.Common.{◌≡◌, ℕ, true, false, ◌==◌, if◌then◌else◌, List, [], ◌∷◌, map, pos, Some, None, refl, sym, ◌∙◌, lit<, true≢false}
 use Rattle.fab_base.specs.declared.object.Stop.TheVariants as stop
 use Rattle.fab_base.specs.declared.object.Tid.{Tid}
 use Rattle.fab_base.specs.declared.message.Message.TheVariants.{Deny, Fetch}
 use Rattle.fab_base.specs.declared.message.Why.TheVariants as why
-use Rattle.fab_base.specs.FlatMap.{FlatMap, get}
 use Rattle.fab_base.specs.declared.object.Width.TheVariants as widths
 use Rattle.fab_language.specs.declared.ending.Ending.TheVariants as endings
-use Rattle.fab_laws.specs.Locality.{IsPart}
 use Rattle.fab_net.specs.declared.event.Event.TheVariants.{Begin, Deliver, Resume}
 use Rattle.fab_net.specs.declared.outcome.Denial.TheVariants.{Rights as NoRights}
 use Rattle.fab_net.specs.declared.outcome.ReqOutcome.TheVariants.{Committed, Denied, Failed, Stopped}
 use Rattle.fab_rights.specs.declared.rights.Rights.{Rights}
-use Rattle.fab_rights.specs.Computed.{may_fetch}
 use Rattle.fab_rights.specs.declared.rights.Shape.TheVariants as shapes
 use Rattle.fab_protocol.specs.Stores.{shelf_of}
 use Rattle.fab_protocol.proofs.Toy.{account, accounts, attempt}

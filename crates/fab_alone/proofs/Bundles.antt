@@ -1,5 +1,5 @@
 -- The runs of an accepted bundle with one worker come to its evaluation.
-use Rattle.std.proofs.Common.{◌≡◌, ℕ, suc, ◌<◌, length, Some, refl, sym, ap, ◌∙◌, subst, arith}
+use Rattle.std.proofs.Common.{ℕ, suc, ◌<◌, sym, ap, ◌∙◌, subst}
 use Rattle.std.proofs.lemmas.Option.{same_Some, slice_get_within}
 use Rattle.fab_tree.specs.declared.start.Start.{Start}
 use Rattle.fab_language.specs.Evaluation.{course_of}

@@ -1,10 +1,10 @@
 -- What a request comes to over the answers that a worker has, which are some of the objects behind the requests before it.
-use Rattle.std.proofs.Common.{◌≡◌, ◌⊎◌, inl, inr, ℕ, zero, suc, ◌+◌, ◌<◌, ◌≤◌, List, [], ◌∷◌, ◌++◌, map, Bool, true, false, not, ◌&&◌, ◌||◌, ◌==◌, IsTrue, IsFalse}
+use Rattle.std.proofs.Common.{◌≡◌, ◌⊎◌, inl, inr, ℕ, zero, suc, ◌<◌, ◌≤◌, [], true, false, not, ◌==◌, IsTrue}
 use Rattle.std.proofs.Common.{Option, Some, None, option_map, refl, sym, ap, ◌∙◌, subst, arith, true≢false}
 use Rattle.std.specs.Prelude.{IsSome}
 use Rattle.std.specs.List.{AllByRecursion}
-use Rattle.std.proofs.lemmas.Bool.{cases_Bool, false_from_ne_true, or_cases, or_from, or_left, or_right, ne_eqb, eq-eqb}
-use Rattle.std.proofs.lemmas.Option.{none-some, same_Some}
+use Rattle.std.proofs.lemmas.Bool.{cases_Bool, false_from_ne_true, or_from, or_left, or_right, ne_eqb, eq-eqb}
+use Rattle.std.proofs.lemmas.Option.{none-some}
 use Rattle.fab_base.specs.declared.object.Object.{Object}
 use Rattle.fab_base.specs.declared.object.Oid.{Oid}
 use Rattle.fab_base.specs.declared.object.Tid.{Tid}
@@ -21,7 +21,6 @@ use Rattle.fab_language.specs.Meaning.{Meant}
 use Rattle.fab_laws.specs.Closed.{IsFound}
 use Rattle.fab_laws.specs.Locality.{IsPart, IsSameOver, LacksToo, with_changes}
 use Rattle.fab_rights.specs.Computed.{may_fetch}
-use Rattle.fab_protocol.specs.declared.parts.Parts.{Parts}
 use Rattle.fab_protocol.specs.Parts.{items_at}
 use Rattle.fab_protocol.specs.Stores.{Shelf, is_stale, vote}
 use Rattle.fab_protocol.specs.Tables.{OnlyOnce, row_of}
@@ -32,12 +31,12 @@ use Rattle.fab_world.specs.Machine.{Setting}
 use Rattle.fab_world.specs.Serial.{AreFit, IsEvaluation, IsFit, changes}
 use Rattle.fab_integrity.proofs.Invariant.{In}
 use Rattle.fab_integrity.proofs.Lists.{each_of}
-use Rattle.fab_integrity.proofs.Maps.{IsAnswer, all_put, answer_of, among_in, ascends_put_all, get_in, in_among}
+use Rattle.fab_integrity.proofs.Maps.{all_put, answer_of, among_in, ascends_put_all, get_in, in_among}
 use Rattle.fab_integrity.proofs.Tids.{tid_is}
 use Rattle.fab_alone.specs.Alone.{HasRights, IsSameOverMore, NoneLacks, first_tid, map_behind, meant_behind}
 use Rattle.fab_alone.proofs.Links.{HasRow, IsThere, meant_now, parts_now, tid_next}
 use Rattle.fab_alone.proofs.StoreSteps.{IsClear, fetched_known, written_known}
-use Rattle.fab_alone.proofs.Votes.{AreFine, IsNew, IsReadable, IsWritable, evaluated_fine, fine_is_yes}
+use Rattle.fab_alone.proofs.Votes.{IsNew, IsReadable, IsWritable, evaluated_fine, fine_is_yes}
 
 -- ---- objects behind requests are roots, or were made in one of these
 

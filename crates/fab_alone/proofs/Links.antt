@@ -2,7 +2,7 @@
 --
 -- At most one Commit waits for a store, of the one transaction that is prepared there; behind it what the worker awaits of the
 -- store now, or the store's answer is on its way back. The table of a store is what it has once the Commit is applied.
-use Rattle.std.proofs.Common.{◌≡◌, ◌⊎◌, ℕ, zero, suc, ◌<◌, ◌≤◌, IsTrue, List, [], ◌∷◌, ◌++◌, map, Option, Some, None, option_map}
+use Rattle.std.proofs.Common.{◌≡◌, ◌⊎◌, ℕ, zero, suc, ◌<◌, ◌≤◌, IsTrue, List, [], ◌∷◌, ◌++◌, Option, Some, None, option_map}
 use Rattle.fab_base.specs.declared.message.Answer.TheVariants.{Yes}
 use Rattle.fab_base.specs.declared.message.Items.{Items}
 use Rattle.fab_base.specs.declared.message.Message.{Message}

@@ -1,17 +1,15 @@
 -- In every calm run a worker that is alone comes to what its requests come to one after the other; and so does a run that is over.
-use Rattle.std.proofs.Common.{◌≡◌, ◌⊎◌, inl, inr, ℕ, zero, suc, ◌+◌, ◌-◌, ◌<◌, ◌≤◌, List, [], ◌∷◌, ◌++◌, map, length, Bool, true, false, not, ◌&&◌, ◌==◌, IsTrue, if◌then◌else◌}
+use Rattle.std.proofs.Common.{◌≡◌, ◌⊎◌, inl, inr, ℕ, zero, suc, ◌-◌, ◌<◌, ◌≤◌, List, [], ◌∷◌, ◌++◌, map, length, Bool, true, false, not, ◌&&◌, ◌==◌, IsTrue, if◌then◌else◌}
 use Rattle.std.proofs.Common.{Option, Some, None, option_map, refl, sym, ap, ◌∙◌, subst, arith, append-nil, append_assoc, lit≤, true≢false, cond}
-use Rattle.std.specs.Prelude.{nat_lt, slice_get, unwrap_or}
+use Rattle.std.specs.Prelude.{nat_lt, slice_get}
 use Rattle.std.specs.List.{AllByRecursion, filter, range_with_len}
 use Rattle.std.proofs.lemmas.Bool.{and_parts, both_ways, cases_Bool, cases_eq, cases_lt, eq-eqb, false_from_ne_true, ltb-true, ne_eqb, not-true, or_cases}
-use Rattle.std.proofs.lemmas.Option.{same_Some, unwrap_or-slice_get}
+use Rattle.std.proofs.lemmas.Option.{unwrap_or-slice_get}
 use Rattle.fab_base.specs.declared.message.Message.TheVariants as m
 use Rattle.fab_base.specs.declared.object.Object.{Object}
 use Rattle.fab_base.specs.declared.object.Oid.{Oid}
-use Rattle.fab_base.specs.declared.object.Tid.{Tid}
 use Rattle.fab_base.specs.FieldSpelling.{IsTid}
 use Rattle.fab_base.specs.FlatMap.{FlatMap, get, is_same}
-use Rattle.fab_base.specs.FlatMap as flat
 use Rattle.fab_base.specs.MessageSpelling.{spelled}
 use Rattle.fab_base.proofs.NameOrder.{one_name}
 use Rattle.fab_base.proofs.Lists.{all_append}
@@ -21,17 +19,17 @@ use Rattle.fab_language.specs.Evaluation.{if_ended}
 use Rattle.fab_net.specs.declared.event.Inner.{Inner}
 use Rattle.fab_net.specs.declared.event.Inner.TheVariants as i
 use Rattle.fab_net.specs.declared.note.Commit.{Commit}
-use Rattle.fab_net.specs.declared.outcome.ReqOutcome.{ReqOutcome}
 use Rattle.fab_rights.specs.Computed.{is_node, is_store, is_worker}
 use Rattle.fab_protocol.specs.declared.parts.Decision.{Decision}
 use Rattle.fab_protocol.specs.declared.sender.Sender.{Sender}
-use Rattle.fab_protocol.specs.Stores.{Prepared, behind, last_of, sender_in, shelf_at_start, unheard}
+use Rattle.fab_protocol.specs.Stores.{Prepared, behind, sender_in, unheard}
 use Rattle.fab_protocol.specs.Tables.{row_of}
-use Rattle.fab_protocol.specs.Versions.{Row, Rows, begun, is_tid, name_of}
+use Rattle.fab_protocol.specs.Versions.{Row, begun, is_tid, name_of}
 use Rattle.fab_protocol.proofs.Records.{worker_below}
+use Rattle.fab_protocol.proofs.Commits.{tid_itself}
 use Rattle.fab_world.specs.Crashing.{CrashLine, IsOver}
 use Rattle.fab_world.specs.Machine.{Setting, World, Move, Form, Does, Cuts, Fails, Posts, Crashes, Never, act, at_start, enabled, form_of, held_at, is_decided, is_empty, is_evaluating, is_idle, is_running}
-use Rattle.fab_world.specs.Machine.{kept, lands, may, option_list, outcome, outcome_of, ready, shelf, step, steps}
+use Rattle.fab_world.specs.Machine.{kept, lands, may, option_list, outcome_of, ready, shelf, step, steps}
 use Rattle.fab_world.specs.Serial.{AreFit, ArePosts, Excludes, IsEvaluation, IsFit, IsOrdinary, IsRun, IsSetting, commits_in, held_map, world_of}
 use Rattle.fab_world.specs.Workers as workers
 use Rattle.fab_world.specs.Workers.{Act, Phase}
@@ -44,7 +42,6 @@ use Rattle.fab_integrity.proofs.Lists.{each_of}
 use Rattle.fab_integrity.proofs.Over.{over_is_done}
 use Rattle.fab_integrity.proofs.Runs.{front_run, holds_run}
 use Rattle.fab_integrity.proofs.Steps.{Holds}
-use Rattle.fab_integrity.proofs.Tids.{tid_itself}
 use Rattle.fab_integrity.proofs.WorkerSteps.{is_evaluating_at, is_idle_at}
 use Rattle.fab_outcomes.proofs.Outcomes.{move_enabled, run_append}
 use Rattle.fab_outcomes.proofs.Slots.{slot_left, slot_next}
@@ -53,10 +50,10 @@ use Rattle.fab_ended.specs.Silence.{IsCalm, NoneIsHostile}
 use Rattle.fab_ended.proofs.Served.{store_is}
 use Rattle.fab_ended.proofs.Silent.{none_gives_up}
 use Rattle.fab_ended.proofs.Waiting.{read_itself}
-use Rattle.fab_alone.specs.Alone.{HasRights, IsAlone, IsInTurn, IsSameOverMore, NoneLacks, first_tid, map_behind, meant_behind, outcome_by}
+use Rattle.fab_alone.specs.Alone.{HasRights, IsInTurn, IsSameOverMore, NoneLacks, first_tid, map_behind, meant_behind, outcome_by}
 use Rattle.fab_alone.proofs.Caches.{cached_blank}
 use Rattle.fab_alone.proofs.Evaluations.{ascends_behind}
-use Rattle.fab_alone.proofs.Links.{Alone, HasRow, IsDue, Left, Link, Rests, commit_bytes, outcomes_to, parts_now}
+use Rattle.fab_alone.proofs.Links.{HasRow, IsDue, Left, Link, Rests, commit_bytes, outcomes_to, parts_now}
 use Rattle.fab_alone.proofs.Steps.{AloneIn, answer_lands, begin_result, other_lands, resume_result, store_lands, stranger_lands, worker_lands}
 use Rattle.fab_alone.proofs.Tables.{object_in}
 use Rattle.fab_alone.proofs.Views.{landed_failed, landed_up}

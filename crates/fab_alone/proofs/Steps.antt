@@ -1,18 +1,15 @@
 -- Each event keeps a worker that is alone as it is to be.
-use Rattle.std.proofs.Common.{◌≡◌, ◌⊎◌, inl, inr, ℕ, suc, ◌+◌, ◌<◌, ◌≤◌, List, [], ◌∷◌, ◌++◌, map, length, Bool, true, false, not, ◌&&◌, ◌||◌, ◌==◌, IsTrue, if◌then◌else◌}
-use Rattle.std.proofs.Common.{Option, Some, None, refl, sym, ap, ◌∙◌, subst, arith, append-nil, lit≤, nat_lt, option_map, true≢false}
+use Rattle.std.proofs.Common.{◌≡◌, inl, inr, ℕ, suc, ◌+◌, ◌<◌, ◌≤◌, List, [], ◌∷◌, ◌++◌, map, length, true, false, not, ◌&&◌, ◌==◌, IsTrue, if◌then◌else◌}
+use Rattle.std.proofs.Common.{Option, Some, None, refl, sym, ap, ◌∙◌, subst, arith, append-nil, nat_lt, option_map, true≢false}
 use Rattle.std.specs.List.{AllByRecursion, filter}
-use Rattle.std.proofs.lemmas.Bool.{and_from, and_parts, both_ways, cases_Bool, cases_eq, eq-eqb, false_from_ne_true, ltb-true, not-true, or_cases, or_left, or_right}
+use Rattle.std.proofs.lemmas.Bool.{and_from, both_ways, cases_eq, eq-eqb, or_left, or_right}
 use Rattle.std.proofs.lemmas.Bool.Decides.{nat_tests}
-use Rattle.fab_base.specs.declared.entry.Entry.{Entry}
 use Rattle.fab_base.specs.declared.message.Answer.TheVariants.{Yes}
 use Rattle.fab_base.specs.declared.message.Message.{Message}
 use Rattle.fab_base.specs.declared.message.Message.TheVariants as m
-use Rattle.fab_base.specs.declared.object.Object.{Object}
 use Rattle.fab_base.specs.declared.object.Oid.{Oid}
 use Rattle.fab_base.specs.declared.object.Stop.{Stop}
 use Rattle.fab_base.specs.declared.object.Stop.TheVariants as stop
-use Rattle.fab_base.specs.declared.object.Tid.{Tid}
 use Rattle.fab_base.specs.declared.object.Value.{Value}
 use Rattle.fab_base.specs.FieldSpelling.{IsTid}
 use Rattle.fab_base.specs.FlatMap.{get, map_of}
@@ -24,49 +21,48 @@ use Rattle.fab_language.specs.Evaluation.{if_ended}
 use Rattle.fab_language.specs.Heaps.{touched}
 use Rattle.fab_language.specs.Meaning.{Meant}
 use Rattle.fab_laws.specs.Locality.{with_changes}
-use Rattle.fab_net.specs.declared.event.Inner.{Inner}
 use Rattle.fab_net.specs.declared.event.Inner.TheVariants as i
 use Rattle.fab_net.specs.declared.note.Commit.{Commit}
 use Rattle.fab_net.specs.declared.outcome.ReqOutcome.TheVariants.{Committed, Denied, Failed, Stopped}
 use Rattle.fab_net.specs.declared.outcome.Denial.TheVariants.{IllFormed}
-use Rattle.fab_rights.specs.Computed.{is_node, is_store, is_worker, may_fetch, suits}
+use Rattle.fab_rights.specs.Computed.{is_store, is_worker, may_fetch, suits}
 use Rattle.fab_protocol.specs.declared.parts.Parts.{Parts}
 use Rattle.fab_protocol.specs.declared.said.Said.{Said}
 use Rattle.fab_protocol.specs.Caches.{cached, cached_row}
 use Rattle.fab_protocol.specs.Parts.{items_at, puts_of, stores_of}
-use Rattle.fab_protocol.specs.Stores.{Prepared, Shelf, does, is_own, last_of, keeps_said, named_by, says, silent, vote}
+use Rattle.fab_protocol.specs.Stores.{Prepared, does, is_own, last_of, keeps_said, named_by, says, silent, vote}
 use Rattle.fab_protocol.specs.Shelves.{IsShelf}
 use Rattle.fab_protocol.specs.Tables.{OnlyOnce, row_of}
-use Rattle.fab_protocol.specs.Versions.{Row, Rows, is_tid, maker_of, name_of, names_of, objects_of}
+use Rattle.fab_protocol.specs.Versions.{Row, is_tid, maker_of, name_of, objects_of}
 use Rattle.fab_protocol.proofs.Records.{worker_below}
 use Rattle.fab_protocol.proofs.TableLaws.{row_of_all, row_of_name}
+use Rattle.fab_protocol.proofs.Commits.{tid_itself}
 use Rattle.fab_world.specs.Attempts.{parts_of, value_of}
-use Rattle.fab_world.specs.Machine.{Setting, World, Does, act, front_of, hears, is_empty, kept, lands, may, meant, node_of, of_store, parts, ready, rest_of, shelf, steps}
-use Rattle.fab_world.specs.Serial.{AreFit, IsEvaluation, IsFitName, IsSetting}
+use Rattle.fab_world.specs.Machine.{Setting, World, Does, act, front_of, hears, is_empty, kept, lands, meant, of_store, parts, ready, rest_of, shelf, steps}
+use Rattle.fab_world.specs.Serial.{AreFit, IsEvaluation, IsSetting}
 use Rattle.fab_world.specs.Workers as workers
 use Rattle.fab_world.specs.Workers.{Act, Attempt, Kept, Phase, asks_all, awaits_object, awaits_vote, closed, decides, dropped, ends, fresh, gives, got, is_in, is_made_before, kept_of, needs, next, not_voted}
 use Rattle.fab_world.specs.Workers.{request_of, resumes_at, stays, takes, takes_any, telling, tid_of, to_all, voted_by, waits_for, worker_keeps, yes_from}
 use Rattle.fab_integrity.proofs.Invariant.{In, IsPreparing, WorkerOk, standing}
 use Rattle.fab_integrity.proofs.Lasting.{kept_behind}
-use Rattle.fab_integrity.proofs.Lists.{each_of, number_in}
+use Rattle.fab_integrity.proofs.Lists.{number_in}
 use Rattle.fab_integrity.proofs.Replays.{ended_is}
 use Rattle.fab_integrity.proofs.Runs.{no_classes}
-use Rattle.fab_integrity.proofs.Tids.{tid_itself}
+use Rattle.fab_integrity.proofs.Roles.{heard_by_store}
 use Rattle.fab_integrity.proofs.Transport.{bytes_for, other_queue, taken_queue}
 use Rattle.fab_integrity.proofs.WorkerSpelling.{prepare_spelled}
-use Rattle.fab_integrity.proofs.WorkerSteps.{is_evaluating_at, is_idle_at}
 use Rattle.fab_base.proofs.Names.{same_self}
 use Rattle.fab_base.specs.FlatMap.{is_same}
 use Rattle.fab_outcomes.proofs.Stored.{IsGood}
 use Rattle.fab_outcomes.proofs.Tidy.{Good, Made, Tidy}
 use Rattle.fab_ended.specs.Silence.{NoneIsHostile}
-use Rattle.fab_ended.proofs.Served.{answers_fit, answers_low, few_asked, missing_name, no_worker, not_store, ok, rows_answer, store_act, store_is, store_node, taking_part, tid_fits, worker_is}
+use Rattle.fab_ended.proofs.Served.{answers_fit, answers_low, few_asked, missing_name, not_store, ok, rows_answer, store_act, store_is, store_node, taking_part, tid_fits, worker_is}
 use Rattle.fab_ended.proofs.Short.{fetch_short, prepare_short, vote_short}
 use Rattle.fab_ended.proofs.Waiting.{read_itself}
-use Rattle.fab_alone.specs.Alone.{HasRights, IsAlone, IsSameOverMore, NoneLacks, first_tid, map_behind, meant_behind}
+use Rattle.fab_alone.specs.Alone.{HasRights, IsSameOverMore, NoneLacks, map_behind, meant_behind}
 use Rattle.fab_alone.proofs.Caches.{found_cached}
 use Rattle.fab_alone.proofs.Evaluations.{IsEarlier, Made as MadeIn, Root, carried, earlier, ending_same, made_absent, missing_there, not_missing, touched_there, votes_yes, written_touched}
-use Rattle.fab_alone.proofs.Links.{Alone, Answers, Asks, Awaits, HasRow, IsThere, Left, Link, Owes, Prepares, number_by, Queue, Rests, meant_now, parts_now, tid_next, yes_bytes}
+use Rattle.fab_alone.proofs.Links.{Alone, Answers, Awaits, HasRow, IsThere, Left, Link, Owes, Prepares, number_by, Queue, meant_now, parts_now, tid_next, yes_bytes}
 use Rattle.fab_alone.proofs.StoreSteps.{IsClear, IsHeard, clear, hears_so}
 use Rattle.fab_alone.proofs.Tables.{caches_behind, content_behind, table_behind, table_stays}
 use Rattle.fab_alone.proofs.Views.{landed_attempt, landed_kept, landed_queue, landed_shelf, other_attempt, other_kept, other_queues, other_shelf}
@@ -644,6 +640,5 @@ module _ (S : Setting) (given : IsSetting S) (law : IsEvaluation S) (honest : No
         stays_so : (message : Option Message) → hears S w x s message ≡ stays (w.node s).attempt
         stays_so None = refl
         stays_so (Some message) =
-            ap (λ b. if b then takes S.rights S.cache s (kept S w s) x message (w.node s).attempt (parts S w s)
-            else of_store S (w.node s).attempt (says S.rights s x message (shelf S w s))) (no_worker S given law honest s store)
+            heard_by_store S given w s x store (Some message)
             ∙ ap (λ b. of_store S (w.node s).attempt (if b && is_own x message then does S.rights s x message (shelf S w s) else silent)) no_work

@@ -1,9 +1,9 @@
 -- What a store does with what the worker sends it: it applies the Commit, answers the Fetch by its object, and the Prepare by Yes.
-use Rattle.std.proofs.Common.{◌≡◌, ◌⊎◌, inl, inr, ℕ, suc, ◌+◌, ◌<◌, ◌≤◌, List, [], ◌∷◌, ◌++◌, map, Bool, true, false, not, ◌&&◌, ◌||◌, ◌==◌, IsTrue, cond, lit≤, zero}
-use Rattle.std.proofs.Common.{Option, Some, None, length, nat_lt, refl, sym, ap, ◌∙◌, subst, arith, append-nil, true≢false, if◌then◌else◌}
+use Rattle.std.proofs.Common.{◌≡◌, inl, inr, ℕ, ◌<◌, ◌≤◌, List, [], ◌∷◌, ◌++◌, map, true, false, not, ◌||◌, IsTrue, cond, lit≤}
+use Rattle.std.proofs.Common.{Option, Some, None, refl, sym, ap, ◌∙◌, subst, arith, append-nil, true≢false, if◌then◌else◌}
 use Rattle.std.specs.Prelude.{slice_get}
-use Rattle.std.specs.List.{AllByRecursion, filter, list_any, range_with_len}
-use Rattle.std.proofs.lemmas.Bool.{cases_eq, eq-eqb, ltb-true, or_from, or_left, or_right}
+use Rattle.std.specs.List.{AllByRecursion, list_any}
+use Rattle.std.proofs.lemmas.Bool.{cases_eq, eq-eqb, or_left}
 use Rattle.std.proofs.lemmas.Bool.Decides.{nat_tests}
 use Rattle.std.proofs.lemmas.Option.{slice_get_within}
 use Rattle.fab_base.specs.declared.entry.Entry.TheVariants as e
@@ -14,7 +14,7 @@ use Rattle.fab_base.specs.declared.message.Message.TheVariants as m
 use Rattle.fab_base.specs.declared.message.Why.TheVariants as why
 use Rattle.fab_base.specs.declared.object.Oid.{Oid}
 use Rattle.fab_base.specs.declared.object.Tid.{Tid}
-use Rattle.fab_base.specs.FieldSpelling.{IsOid, IsTid}
+use Rattle.fab_base.specs.FieldSpelling.{IsTid}
 use Rattle.fab_base.specs.MessageSpelling.{spelled}
 use Rattle.fab_base.specs.Tids.{is_above}
 use Rattle.fab_net.specs.declared.note.Note.TheVariants as note
@@ -25,23 +25,23 @@ use Rattle.fab_protocol.specs.declared.parts.Parts.{Parts}
 use Rattle.fab_protocol.specs.declared.said.Said.{Said}
 use Rattle.fab_protocol.specs.declared.sender.Sender.{Sender}
 use Rattle.fab_protocol.specs.Parts.{items_at, stores_of}
-use Rattle.fab_protocol.specs.Stores.{Prepared, Shelf, asked, behind, does, fetched, found, is_own, is_prepared, keeps, keeps_said, last_of, prepared_as, records, replies, sender_in, vote, voted, votes, without}
+use Rattle.fab_protocol.specs.Stores.{Prepared, Shelf, behind, does, found, is_own, keeps, keeps_said, last_of, prepared_as, records, replies, sender_in, vote, voted, votes, without}
 use Rattle.fab_protocol.specs.Tables.{row_of}
 use Rattle.fab_protocol.specs.Versions.{Row, Rows, is_tid, name_of}
 use Rattle.fab_protocol.proofs.Senders.{AreRemembered, as_many, sender_at}
-use Rattle.fab_protocol.proofs.TableLaws.{row_of_all, row_of_name}
+use Rattle.fab_protocol.proofs.TableLaws.{row_of_all}
+use Rattle.fab_protocol.proofs.Commits.{tid_itself}
 use Rattle.fab_world.specs.Machine.{Setting, front_of, is_empty, option_list, rest_of}
 use Rattle.fab_world.specs.Serial.{IsSetting}
 use Rattle.fab_world.specs.Workers as workers
 use Rattle.fab_world.specs.Workers.{Phase}
 use Rattle.fab_integrity.proofs.Invariant.{In}
 use Rattle.fab_integrity.proofs.Readings.{spelled_so}
-use Rattle.fab_integrity.proofs.Tids.{tid_itself}
 use Rattle.fab_integrity.proofs.Transport.{bytes_for}
 use Rattle.fab_ended.proofs.Replies.{CanAnswer}
-use Rattle.fab_ended.proofs.Short.{object_short, vote_short}
+use Rattle.fab_ended.proofs.Short.{object_short}
 use Rattle.fab_ended.proofs.Waiting.{read_itself}
-use Rattle.fab_alone.proofs.Links.{Answers, Asks, Awaits, IsDue, IsThere, Link, Owes, Prepares, Queue, Rests, commit_bytes, tid_next, yes_bytes}
+use Rattle.fab_alone.proofs.Links.{Asks, IsDue, Link, Owes, Prepares, Queue, Rests, commit_bytes, tid_next}
 
 -- ---- what is known
 

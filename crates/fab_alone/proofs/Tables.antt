@@ -1,28 +1,27 @@
 -- What a commit makes of the tables of stores: the objects that the evaluation leaves, and the rows that caches keep.
-use Rattle.std.proofs.Common.{◌≡◌, ◌⊎◌, inl, inr, ℕ, List, [], ◌∷◌, ◌++◌, map, Bool, true, false, cond, ◌==◌, if◌then◌else◌, IsTrue, IsFalse}
+use Rattle.std.proofs.Common.{◌≡◌, ◌⊎◌, inl, inr, ℕ, List, [], ◌∷◌, ◌++◌, map, true, false, cond, ◌==◌, if◌then◌else◌, IsFalse}
 use Rattle.std.proofs.Common.{Option, Some, None, option_map, refl, sym, ap, ◌∙◌, subst, append-nil}
-use Rattle.std.specs.List.{AllByRecursion, cons_option, filter, filter_map, flat_map}
+use Rattle.std.specs.List.{cons_option, filter, filter_map}
 use Rattle.std.proofs.lemmas.Bool.{cases_eq, eq-eqb, eqb-true, false_from_ne_true, ne_eqb}
 use Rattle.std.proofs.lemmas.List.{map-append}
-use Rattle.std.proofs.lemmas.Option.{none-some, same_Some}
+use Rattle.std.proofs.lemmas.Option.{none-some}
 use Rattle.fab_base.specs.declared.object.Object.{Object}
 use Rattle.fab_base.specs.declared.object.Oid.{Oid}
 use Rattle.fab_base.specs.declared.object.Tid.{Tid}
 use Rattle.fab_base.specs.declared.message.Items.{Items}
-use Rattle.fab_base.specs.FlatMap.{FlatMap, get, is_among, is_same, put, put_all}
+use Rattle.fab_base.specs.FlatMap.{FlatMap, get, is_same, put, put_all}
 use Rattle.fab_language.specs.Heaps.{touched}
 use Rattle.fab_language.specs.Meaning.{Meant}
 use Rattle.fab_laws.specs.Locality.{rows_among, with_changes}
 use Rattle.fab_protocol.specs.declared.parts.Parts.{Parts}
 use Rattle.fab_protocol.specs.Caches.{cached}
 use Rattle.fab_protocol.specs.Parts.{items_at, puts_of, stores_of, touched_names}
-use Rattle.fab_protocol.specs.Stores.{Prepared, behind, named_by}
+use Rattle.fab_protocol.specs.Stores.{behind, named_by}
 use Rattle.fab_protocol.specs.Tables.{OnlyOnce, placed, placed_all, row_of}
 use Rattle.fab_protocol.specs.Versions.{Row, Rows, begun, left_by, name_of, names_of, objects_of, raised, version_of}
 use Rattle.fab_protocol.proofs.TableLaws.{each_placed_all, row_of_name, row_of_placed, row_of_placed_all}
 use Rattle.fab_protocol.proofs.VersionLaws.{changed_once, left_names}
 use Rattle.fab_world.specs.Attempts.{parts_of}
-use Rattle.fab_world.specs.Workers.{is_in}
 use Rattle.fab_integrity.proofs.Invariant.{In}
 use Rattle.fab_integrity.proofs.Items.{write_here}
 use Rattle.fab_base.proofs.Names.{same_self}

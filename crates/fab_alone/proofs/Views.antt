@@ -1,12 +1,11 @@
 -- What a worker and the stores have behind an act: the record, the attempt, and all that is sent waits, since every node is up.
-use Rattle.std.proofs.Common.{◌≡◌, ◌⊎◌, inl, inr, ℕ, List, [], ◌∷◌, ◌++◌, map, true, false, not, ◌&&◌, ◌==◌, IsTrue, if◌then◌else◌}
-use Rattle.std.proofs.Common.{refl, sym, ap, ◌∙◌, subst}
+use Rattle.std.proofs.Common.{◌≡◌, inl, inr, ℕ, List, [], ◌++◌, map, true, not, ◌&&◌, ◌==◌, if◌then◌else◌}
+use Rattle.std.proofs.Common.{sym, ap, ◌∙◌, subst}
 use Rattle.std.specs.List.{filter}
 use Rattle.std.proofs.lemmas.Bool.{and_from, not_from_false}
-use Rattle.fab_base.specs.declared.entry.Entry.{Entry}
-use Rattle.fab_rights.specs.Computed.{is_node, is_store, is_worker}
+use Rattle.fab_rights.specs.Computed.{is_node}
 use Rattle.fab_protocol.specs.Stores.{keeps_said, shelf_of}
-use Rattle.fab_world.specs.Machine.{Setting, World, Node, acted, bytes_to, kept, lands, shelf, waiting_for}
+use Rattle.fab_world.specs.Machine.{Setting, World, Node, acted, bytes_to, kept, lands, shelf}
 use Rattle.fab_world.specs.Workers.{Act, kept_of}
 use Rattle.fab_integrity.proofs.Lasting.{kept_behind, keeps_behind, shelf_more}
 use Rattle.fab_integrity.proofs.Transport.{bytes_for, mutes, out_of, out_to, queue_behind, queue_beside}

@@ -1,6 +1,6 @@
 -- What becomes of a worker that is alone at each of its acts, and at each of a store.
-use Rattle.std.proofs.Common.{◌≡◌, ◌⊎◌, inl, inr, ℕ, zero, suc, ◌+◌, ◌<◌, ◌≤◌, List, [], ◌∷◌, ◌++◌, map, length, Bool, true, false, not, ◌==◌, IsTrue, if◌then◌else◌}
-use Rattle.std.proofs.Common.{Option, Some, None, option_map, refl, sym, ap, ◌∙◌, subst, arith, append-nil, length-append}
+use Rattle.std.proofs.Common.{◌≡◌, ◌⊎◌, inl, inr, ℕ, zero, suc, ◌<◌, ◌≤◌, List, [], ◌∷◌, ◌++◌, map, length, not, ◌==◌, IsTrue, if◌then◌else◌}
+use Rattle.std.proofs.Common.{Option, Some, option_map, refl, sym, ap, ◌∙◌, subst, arith, append-nil, length-append}
 use Rattle.std.specs.List.{filter}
 use Rattle.std.proofs.lemmas.Bool.{both_ways, cases_Bool, cases_eq, eq-eqb, ne_eqb, not_from_false, not-true}
 use Rattle.fab_base.specs.declared.message.Message.{Message}
@@ -17,7 +17,7 @@ use Rattle.fab_net.specs.declared.outcome.ReqOutcome.TheVariants.{Committed}
 use Rattle.fab_rights.specs.Computed.{is_store, may_fetch}
 use Rattle.fab_protocol.specs.declared.parts.Parts.{Parts}
 use Rattle.fab_protocol.specs.Parts.{items_at, stores_of}
-use Rattle.fab_protocol.specs.Stores.{Prepared, Shelf, behind}
+use Rattle.fab_protocol.specs.Stores.{Shelf, behind}
 use Rattle.fab_protocol.specs.Tables.{row_of}
 use Rattle.fab_protocol.specs.Versions.{Row, Rows, name_of}
 use Rattle.fab_protocol.proofs.TableLaws.{row_of_name}
@@ -29,7 +29,7 @@ use Rattle.fab_integrity.proofs.Lists.{filter_in, in_append, in_filter, in_numbe
 use Rattle.fab_integrity.proofs.Transport.{bytes_for}
 use Rattle.fab_alone.specs.Alone.{map_behind, meant_behind, outcome_by}
 use Rattle.fab_alone.proofs.Caches.{Cached, cached_blank}
-use Rattle.fab_alone.proofs.Links.{Alone, Answers, Asks, Awaits, HasRow, IsThere, Left, Link, Owes, Prepares, Queue, Rests, number_by, outcomes_to, parts_now, tid_next, yes_bytes}
+use Rattle.fab_alone.proofs.Links.{Alone, Answers, Awaits, HasRow, IsThere, Left, Link, Prepares, Queue, Rests, number_by, outcomes_to, parts_now, tid_next, yes_bytes}
 use Rattle.fab_alone.proofs.Sends.{none_each, one_each}
 
 -- ---- what is sent to one node

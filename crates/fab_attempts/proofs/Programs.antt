@@ -6,7 +6,7 @@ use Rattle.std.proofs.Math.Nat.{le-max_left, le-max_right}
 use Rattle.std.proofs.lemmas.Bool.{false≢true, eq-eqb}
 use Rattle.std.proofs.lemmas.List.{length-map}
 use Rattle.std.proofs.lemmas.List.Sums.{sum_by-cons}
-use Rattle.fab_base.proofs.Lists.{left_nil, right_nil, each_nil, at_index}
+use Rattle.fab_base.proofs.Lists.{left_nil, right_nil, each_nil, at_index, all_two}
 use Rattle.fab_tree.specs.declared.name.Name.{Name}
 use Rattle.fab_tree.specs.declared.declaration.Class.{Class}
 use Rattle.fab_tree.specs.declared.declaration.Node.{Node}
@@ -32,7 +32,7 @@ use Rattle.fab_language.proofs.Named.{before_cons, honest_worker_node}
 use Rattle.fab_laws.specs.Shapes.{IsFitting}
 use Rattle.fab_places.specs.Places.{AreRights}
 use Rattle.fab_rights.specs.declared.rights.Rights.{Rights}
-use Rattle.fab_shapes.proofs.Lists.{in_each, from_two}
+use Rattle.fab_shapes.proofs.Lists.{in_each}
 use Rattle.fab_shapes.proofs.Named.{found}
 use Rattle.fab_shapes.proofs.Objects.{requests_have_kinds}
 use Rattle.fab_shapes.proofs.Programs.{program_fits}
@@ -133,7 +133,7 @@ module _ (s : Start) where
       let two = unknown.unknown s ++ doubled s in
       let three = two ++ roles.misplaced s in
       let front = left_nil three (miscounted s) (left_nil (three ++ miscounted s) (mistyped s) e) in
-      from_two (λ x. unknown.in_session s x ≡ []) (λ x. roles.in_session s x ≡ []) HasNode s.sessions has_node
+      all_two (λ x. unknown.in_session s x ≡ []) (λ x. roles.in_session s x ≡ []) HasNode has_node s.sessions
       (each_nil (unknown.in_session s) s.sessions (sessions_declared (left_nil (unknown.unknown s) (doubled s) (left_nil two (roles.misplaced s) front))))
       (each_nil (roles.in_session s) s.sessions (sessions_placed (right_nil two (roles.misplaced s) front)))
 

@@ -14,6 +14,7 @@ use Rattle.fab_base.proofs.NameOrder.{one_name}
 use Rattle.fab_map.proofs.Made.{distinct_from_ascends}
 use Rattle.fab_map.proofs.Rows.{leads, ascends_leads, ascends_rest, get_here, get_none_before, get-put_same, get-put_other}
 use Rattle.fab_laws.specs.Locality.{rows_among}
+use Rattle.fab_shapes.proofs.Maps.{each_of_map}
 use Rattle.fab_protocol.specs.Versions.{Rows, names_of, objects_of}
 
 -- ---- ascending rows
@@ -67,26 +68,9 @@ few_rows names rows h =
 
 -- ---- a map of answers
 
--- what holds of each object that is put, and of each that was there, holds of each that is found
-all_put : (P : Oid → Object → Type 0) (rows m : FlatMap) → AllByRecursion (λ row. P row.0 row.1) rows → ((o : Oid) (x : Object) → get m o ≡ Some x → P o x)
-    → (o : Oid) (x : Object) → get (put_all rows m) o ≡ Some x → P o x
-all_put P [] m a f = f
-all_put P (row ∷ rows) m a f = all_put P rows (put row.0 row.1 m) a.1 once
-  where
-    once : (o : Oid) (x : Object) → get (put row.0 row.1 m) o ≡ Some x → P o x
-    once o x e =
-        elim (is_same row.0 o) as (λ b. is_same row.0 o ≡ b → P o x) [
-          | true ↦ λ i.
-              let name : row.0 ≡ o = one_name row.0 o i in
-              let here : Some row.1 ≡ Some x = sym (ap (get (put row.0 row.1 m)) (sym name) ∙ get-put_same row.0 row.1 m) ∙ e in
-              let object : row.1 ≡ x = cc in
-              subst (λ p. P p x) name (subst (P row.0) object a.0)
-          | false ↦ λ i. f o x (sym (get-put_other row.0 o row.1 m i) ∙ e)
-        ] refl
-
 pub all_found : (P : Oid → Object → Type 0) (answers : Rows) → AllByRecursion (λ row. P row.0 row.2) answers
     → (o : Oid) (x : Object) → get (map_of (objects_of answers)) o ≡ Some x → P o x
-all_found P answers a = all_put P (objects_of answers) [] (each answers a) (λ o x e. let no : None ≡ Some x = e in cc)
+all_found P answers a = each_of_map P (objects_of answers) (each answers a)
   where
     each : (rows : Rows) → AllByRecursion (λ row. P row.0 row.2) rows → AllByRecursion (λ row. P row.0 row.1) (objects_of rows)
     each [] h = tt

@@ -1,5 +1,5 @@
 -- An object that suits its name by the rights of a program has the shape of its class, and no more than 16 fields.
-use Rattle.std.proofs.Common.{◌≡◌, ℕ, zero, suc, ◌≤◌, ◌==◌, true, IsTrue, List, [], ◌∷◌, map, length, refl, sym, ap, subst, arith}
+use Rattle.std.proofs.Common.{◌≡◌, ℕ, zero, suc, ◌≤◌, ◌==◌, true, IsTrue, List, [], ◌∷◌, map, length, refl, sym, subst, arith}
 use Rattle.std.specs.Prelude.{slice_get}
 use Rattle.std.specs.List.{AllByRecursion}
 use Rattle.std.proofs.lemmas.Bool.{true≢false, and_parts}
@@ -14,8 +14,9 @@ use Rattle.fab_tree.specs.declared.resolved.Field.{Field}
 use Rattle.fab_tree.specs.declared.resolved.Resolved.{Resolved}
 use Rattle.fab_tree.specs.declared.resolved.Sort.{Sort}
 use Rattle.fab_tree.specs.declared.resolved.Sort.TheVariants as sorts
-use Rattle.fab_laws.specs.Kinds.{Kind, kind_of_sort, class_kinds}
+use Rattle.fab_laws.specs.Kinds.{kind_of_sort, class_kinds}
 use Rattle.fab_laws.specs.Shapes.{suits, AllSuit, IsShaped}
+use Rattle.fab_laws.proofs.Shapes.{suit_length}
 use Rattle.fab_places.specs.Places as places
 use Rattle.fab_rights.specs.Computed as computed
 use Rattle.fab_rights.specs.declared.rights.ClassRights.{ClassRights}
@@ -62,12 +63,6 @@ answer_shaped program n rights o x fits h =
 
 -- ---- how many fields there are
 
-as_many : (ks : List Kind) (vs : List Value) → AllSuit ks vs → length vs ≡ length ks
-as_many [] [] h = refl
-as_many [] (v ∷ vs) h = absurd h
-as_many (k ∷ ks) [] h = absurd h
-as_many (k ∷ ks) (v ∷ vs) h = ap suc (as_many ks vs h.1)
-
 few_kinds : (cs : List Class) → AllByRecursion (λ c. length c.fields ≤ 16) cs → (n : ℕ) → length (class_kinds cs n) ≤ 16
 few_kinds [] h n = omega arith
 few_kinds (c ∷ cs) h zero = let m = length-map c.fields (λ (f : Field). kind_of_sort f.sort) in omega (arith, h.0, m)
@@ -75,6 +70,6 @@ few_kinds (c ∷ cs) h (suc n) = few_kinds cs h.1 n
 
 pub few_fields : (cs : List Class) → AllByRecursion (λ c. length c.fields ≤ 16) cs → (o : Oid) (x : Object) → IsShaped cs o x → length x.fields ≤ 16
 few_fields cs h o x shaped =
-    let n = as_many (class_kinds cs o.class) x.fields shaped.fields in
+    let n = suit_length (class_kinds cs o.class) x.fields shaped.fields in
     let m = few_kinds cs h o.class in
     omega (arith, n, m)

@@ -1,5 +1,5 @@
 -- Objects that an attempt knows, and the parts of one over its answers.
-use Rattle.std.specs.Prelude.{◌<◌, not, ◌||◌, ◌==◌, IsTrue}
+use Rattle.std.specs.Prelude.{not, ◌||◌, ◌==◌, IsTrue}
 use Rattle.std.specs.List.{AllByRecursion}
 use Rattle.fab_base.specs.declared.object.Tid.{Tid}
 use Rattle.fab_base.specs.FlatMap.{is_among}

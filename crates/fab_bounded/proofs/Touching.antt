@@ -1,5 +1,5 @@
 -- What a request lacks it touches, once it is there.
-use Rattle.std.proofs.Common.{◌≡◌, ℕ, ◌<◌, Bool, true, false, if◌then◌else◌, List, [], ◌∷◌, ◌++◌, map, length, Option, Some, None, refl, sym, ap, ◌∙◌, subst, arith, append-nil, length-append}
+use Rattle.std.proofs.Common.{◌≡◌, ℕ, ◌<◌, Bool, true, false, List, [], ◌∷◌, ◌++◌, map, length, Option, Some, None, refl, sym, ap, ◌∙◌, subst, arith, append-nil, length-append}
 use Rattle.std.proofs.lemmas.List.{map-append}
 use Rattle.fab_base.specs.declared.object.Oid.{Oid}
 use Rattle.fab_base.specs.declared.object.Object.{Object}
@@ -11,31 +11,18 @@ use Rattle.fab_tree.specs.declared.resolved.Request.{Request}
 use Rattle.fab_tree.specs.declared.resolved.Resolved.{Resolved}
 use Rattle.fab_tree.specs.declared.start.Start.{Start}
 use Rattle.fab_language.specs.declared.ending.Ending.TheVariants.{Stopped, Missing}
-use Rattle.fab_language.specs.Heaps.{each_once, touched, without}
+use Rattle.fab_language.specs.Heaps.{each_once, touched}
 use Rattle.fab_language.specs.Meaning.{Meant, meaning}
 use Rattle.fab_language.specs.Numbers.{resolved}
 use Rattle.fab_laws.specs.Locality.{AgreesOn, IsPart, IsSameOver}
 use Rattle.fab_laws.proofs.Changes.{leaves, missing_is_absent}
 use Rattle.fab_laws.proofs.Locality.{goes_on, over_more}
+use Rattle.fab_laws.proofs.Names.{once_both}
 use Rattle.fab_rights.specs.declared.rights.Rights.{Rights}
 use Rattle.fab_finite.specs.Finite.{TouchesWhatWasMissing}
 use Rattle.fab_settings.specs.Settings.{meant_of, request_at, setting_of}
 
 -- ---- more touches: the objects that were touched stand in front
-
-without_both : (o : Oid) (xs ys : List Oid) → without o (xs ++ ys) ≡ without o xs ++ without o ys
-without_both o [] ys = refl
-without_both o (x ∷ xs) ys =
-    elim (is_same x o) as (λ b. (if b then without o (xs ++ ys) else x ∷ without o (xs ++ ys)) ≡ (if b then without o xs else x ∷ without o xs) ++ without o ys) [
-      | true ↦ without_both o xs ys
-      | false ↦ ap (λ l. x ∷ l) (without_both o xs ys)
-    ]
-
-once_both : (xs ys : List Oid) → (more : List Oid) × (each_once (xs ++ ys) ≡ each_once xs ++ more)
-once_both [] ys = (each_once ys, refl)
-once_both (x ∷ xs) ys =
-    let later = once_both xs ys in
-    (without x later.0, ap (λ l. x ∷ without x l) later.1 ∙ ap (λ l. x ∷ l) (without_both x (each_once xs) later.0))
 
 touched_both : (first more : List (ℕ × Oid)) → (later : List Oid) × (touched (first ++ more) ≡ touched first ++ later)
 touched_both first more =

@@ -1,107 +1,28 @@
--- Loops over rows, and the walk over distinct names beside newer rows.
-use Rattle.std.proofs.Common.{◌≡◌, ℕ, ◌+◌, ◌-◌, ◌==◌, nat_le, Bool, true, false, not, ◌||◌, if◌then◌else◌}
-use Rattle.std.proofs.Common.{[], ◌∷◌, ◌++◌, length, reverse, refl, sym, ap, ◌∙◌, inl, inr, arith, length-append}
-use Rattle.std.specs.List.{list_any}
-use Rattle.std.proofs.lemmas.Bool.{not-true, not-false, cases_lt, le-leb, lt-leb}
-use Rattle.std.proofs.lemmas.List.{reverse-append, length-reverse}
-use Rattle.std.proofs.lemmas.List.Elements.{filter-append}
-use Rattle.std.proofs.lemmas.List.Folds.{list_any-append}
-use Rattle.fab_base.specs.declared.object.Oid.{Oid}
-use Rattle.fab_base.specs.FlatMap.{is_among, is_same}
+-- The walk over distinct names beside newer rows, and the walk over the newest first.
+use Rattle.std.proofs.Common.{◌≡◌, ℕ, suc, ◌+◌, ◌-◌, nat_le, Bool, true, false, not, ◌||◌, cond, if◌then◌else◌}
+use Rattle.std.proofs.Common.{[], ◌∷◌, ◌++◌, length, reverse, take, refl, sym, ap, ◌∙◌, inl, inr, arith, length-append, append_assoc}
+use Rattle.std.specs.List.{filter}
+use Rattle.std.proofs.lemmas.Bool.{cases_lt, le-leb, lt-leb, leb-true, leb-false}
+use Rattle.std.proofs.lemmas.List.{reverse-append, take_all}
+use Rattle.fab_base.specs.FlatMap.{is_among}
 use Rattle.fab_protocol.specs.Tables.{OnlyOnce}
 use Rattle.fab_protocol.specs.Versions.{Row, Rows, names_of}
-use Rattle.fab_protocol.specs.Caches.{with_older, last_distinct, at_store}
-use Rattle.fab_cache.specs.Caching.{lasting, beside, staying}
-use Rattle.fab_cache.proofs.Lasting.{named, settled, older_settled, older_new, among_along, lasting_behind, last_behind}
+use Rattle.fab_protocol.specs.Caches.{last_distinct}
+use Rattle.fab_cache.proofs.Lasting.{lasting, settled, among_along, last_behind}
+use Rattle.fab_cache.proofs.Behind.{is_new}
 
--- ---- rows that are kept, the newest first
+-- a row in front of those that stay beside newer ones: it stays where none of these has its name and there is room
+abbrev pub beside : ℕ → Rows → Row → Rows → Rows
+beside room newer row kept = if is_among row.0 (names_of newer) || nat_le room (length kept) then kept else row ∷ kept
 
-reverse_more : (rows : Rows) (row : Row) → reverse (rows ++ row ∷ []) ≡ row ∷ reverse rows
-reverse_more rows row = reverse-append rows (row ∷ [])
-
-any_reversed : (test : Row → Bool) (rows : Rows) → list_any test (reverse rows) ≡ list_any test rows
-any_reversed test [] = refl
-any_reversed test (row ∷ rows) =
-    ap (list_any test) (reverse-append (row ∷ []) rows)
-    ∙ list_any-append test (reverse rows) (row ∷ [])
-    ∙ ap (λ b. b || (test row || false)) (any_reversed test rows)
-    ∙ turned (list_any test rows) (test row)
-  where
-    turned : (a b : Bool) → (a || (b || false)) ≡ (b || a)
-    turned true b = elim b as (λ c. true ≡ (c || true)) [ true ↦ refl | false ↦ refl ]
-    turned false b = refl
-
-among_reversed : (o : Oid) (rows : Rows) → is_among o (names_of (reverse rows)) ≡ is_among o (names_of rows)
-among_reversed o rows = named o (reverse rows) ∙ any_reversed (λ row. is_same row.0 o) rows ∙ sym (named o rows)
-
-settled_reversed : (k : ℕ) (o : Oid) (rows : Rows) → settled k o (reverse rows) ≡ (is_among o (names_of rows) || nat_le k (length rows))
-settled_reversed k o rows = λ i. among_reversed o rows i || nat_le k (length-reverse rows i)
-
--- ---- the last puts of a store
-
-store_last : (s : ℕ) (older : Rows) (row : Row) (b : Bool) → (row.0.store == s) ≡ b → at_store s (older ++ row ∷ []) ≡ at_store s older ++ (if b then row ∷ [] else [])
-store_last s older row b h = filter-append (λ (r : Row). r.0.store == s) older (row ∷ []) ∙ ap (λ c. at_store s older ++ (if c then row ∷ [] else [])) h
-
-module _ (k s : ℕ) (rest older : Rows) (row : Row) (rows : Rows) (split : rest ≡ older ++ row ∷ []) where
-  walked_last : (row.0.store == s) ≡ true → lasting k (at_store s rest) (reverse rows) ≡ lasting k (at_store s older) (with_older k row (reverse rows))
-  walked_last here =
-      ap (λ l. lasting k (at_store s l) (reverse rows)) split
-      ∙ ap (λ l. lasting k l (reverse rows)) (store_last s older row true here)
-      ∙ lasting_behind k (at_store s older) (row ∷ []) (reverse rows)
-
-  -- it is of another store
-  pub put_elsewhere : (row.0.store == s) ≡ false → lasting k (at_store s rest) (reverse rows) ≡ lasting k (at_store s older) (reverse rows)
-  put_elsewhere there =
-      ap (λ l. lasting k (at_store s l) (reverse rows)) split
-      ∙ ap (λ l. lasting k l (reverse rows)) (store_last s older row false there)
-      ∙ lasting_behind k (at_store s older) [] (reverse rows)
-
-  -- m of these are seen, all of them
-  module _ (seen : Rows) (m : ℕ) (all : seen ≡ rows) (long : m ≡ length rows) where
-    tested : settled k row.0 (reverse rows) ≡ (is_among row.0 (names_of seen) || nat_le k m)
-    tested = settled_reversed k row.0 rows ∙ (λ i. is_among row.0 (names_of (sym all i)) || nat_le k (sym long i))
-
-    -- one more is kept
-    pub put_kept : (more : Rows) → more ≡ rows ++ row ∷ [] → (row.0.store == s) ≡ true → not (is_among row.0 (names_of seen) || nat_le k m) ≡ true
-        → lasting k (at_store s rest) (reverse rows) ≡ lasting k (at_store s older) (reverse more)
-    put_kept more is here room =
-        walked_last here
-        ∙ ap (lasting k (at_store s older))
-        (older_new k row (reverse rows) (tested ∙ not-true (is_among row.0 (names_of seen) || nat_le k m) room)
-        ∙ sym (reverse_more rows row)
-        ∙ ap reverse (sym is))
-
-    -- it isn't kept
-    pub put_settled : (row.0.store == s) ≡ true → not (is_among row.0 (names_of seen) || nat_le k m) ≡ false
-        → lasting k (at_store s rest) (reverse rows) ≡ lasting k (at_store s older) (reverse rows)
-    put_settled here room =
-        walked_last here
-        ∙ ap (lasting k (at_store s older)) (older_settled k row (reverse rows) (tested ∙ not-false (is_among row.0 (names_of seen) || nat_le k m) room))
-
--- ---- rows that stay beside newer ones
+-- those of these rows that stay beside newer ones, in front of what stays behind them
+abbrev pub staying : ℕ → Rows → Rows → Rows → Rows
+staying room newer [] kept = kept
+staying room newer (row ∷ rows) kept = beside room newer row (staying room newer rows kept)
 
 staying_behind : (room : ℕ) (newer xs ys kept : Rows) → staying room newer (xs ++ ys) kept ≡ staying room newer xs (staying room newer ys kept)
 staying_behind room newer [] ys kept = refl
 staying_behind room newer (x ∷ xs) ys kept = ap (beside room newer x) (staying_behind room newer xs ys kept)
-
-module _ (room : ℕ) (newer rest older : Rows) (row : Row) (rows : Rows) (m : ℕ) (split : rest ≡ older ++ row ∷ []) (long : m ≡ length rows) where
-  stays_last : (b : Bool) → (is_among row.0 (names_of newer) || nat_le room m) ≡ b
-      → staying room newer rest (reverse rows) ≡ staying room newer older (if b then reverse rows else row ∷ reverse rows)
-  stays_last b h =
-      ap (λ l. staying room newer l (reverse rows)) split
-      ∙ staying_behind room newer older (row ∷ []) (reverse rows)
-      ∙ ap (λ n. staying room newer older (if is_among row.0 (names_of newer) || nat_le room n then reverse rows else row ∷ reverse rows)) (length-reverse rows ∙ sym long)
-      ∙ ap (λ c. staying room newer older (if c then reverse rows else row ∷ reverse rows)) h
-
-  pub row_stays : (more : Rows) → more ≡ rows ++ row ∷ [] → not (is_among row.0 (names_of newer) || nat_le room m) ≡ true
-      → staying room newer rest (reverse rows) ≡ staying room newer older (reverse more)
-  row_stays more is h =
-      stays_last false (not-true (is_among row.0 (names_of newer) || nat_le room m) h)
-      ∙ ap (staying room newer older) (sym (reverse_more rows row) ∙ ap reverse (sym is))
-
-  pub row_goes : not (is_among row.0 (names_of newer) || nat_le room m) ≡ false
-      → staying room newer rest (reverse rows) ≡ staying room newer older (reverse rows)
-  row_goes h = stays_last true (not-false (is_among row.0 (names_of newer) || nat_le room m) h)
 
 -- a walk over distinct names asks newer rows alone
 room_beside : (k n m : ℕ) → nat_le k (n + m) ≡ nat_le (k - m) n
@@ -138,3 +59,30 @@ kept_is k cache here newer room once new is =
     ∙ sym (lasting_beside k newer cache once)
     ∙ ap (lasting k cache) new
     ∙ sym (last_behind k cache here)
+
+-- of rows whose newest stands first, those stay that are new, as many as there is room for
+module _ (room : ℕ) (newer : Rows) where
+  pub newest_stay : (rows kept : Rows) → staying room newer (reverse rows) kept ≡ reverse (take (room - length kept) (filter (is_new newer) rows)) ++ kept
+  newest_stay [] kept = ap (λ l. reverse l ++ kept) (sym (take_all (room - length kept) [] (omega arith)))
+  newest_stay (row ∷ rows) kept =
+      ap (λ l. staying room newer l kept) (reverse-append (row ∷ []) rows)
+      ∙ staying_behind room newer (reverse rows) (row ∷ []) kept
+      ∙ step (is_among row.0 (names_of newer)) (nat_le room (length kept)) refl (newest_stay rows kept) (newest_stay rows (row ∷ kept))
+    where
+      rest : Rows
+      rest = filter (is_new newer) rows
+
+      step : (b c : Bool) → nat_le room (length kept) ≡ c
+          → staying room newer (reverse rows) kept ≡ reverse (take (room - length kept) rest) ++ kept
+          → staying room newer (reverse rows) (row ∷ kept) ≡ reverse (take (room - suc (length kept)) rest) ++ row ∷ kept
+          → staying room newer (reverse rows) (if b || c then kept else row ∷ kept) ≡ reverse (take (room - length kept) (cond (not b) (row ∷ rest) rest)) ++ kept
+      step true c h goes stays = goes
+      step false true h goes stays =
+          let none : room - length kept ≡ 0 = omega (arith, leb-true room (length kept) h) in
+          goes ∙ ap (λ n. reverse (take n rest) ++ kept) none ∙ sym (ap (λ n. reverse (take n (row ∷ rest)) ++ kept) none)
+      step false false h goes stays =
+          let one : room - length kept ≡ suc (room - suc (length kept)) = omega (arith, leb-false room (length kept) h) in
+          stays
+          ∙ sym (append_assoc (reverse (take (room - suc (length kept)) rest)) (row ∷ []) kept)
+          ∙ ap (λ l. l ++ kept) (sym (reverse-append (row ∷ []) (take (room - suc (length kept)) rest)))
+          ∙ ap (λ n. reverse (take n (row ∷ rest)) ++ kept) (sym one)

@@ -3,7 +3,8 @@ use Rattle.std.proofs.Common.{◌≡◌, ℕ, List, [], ◌∷◌, Some, None, p
 use Rattle.fab_protocol.specs.Versions.{Row, Rows}
 use Rattle.fab_protocol.specs.Caches.{last_distinct}
 use Rattle.fab_protocol.proofs.Toy.{account, holding}
-use Rattle.fab_cache.specs.Caching.{laid, renewed, staying}
+use Rattle.fab_cache.specs.Caching.{laid, renewed}
+use Rattle.fab_cache.proofs.Beside.{staying}
 
 -- version n of an account, at store 1
 abbrev seen : ℕ → ℕ → Row

@@ -1,12 +1,11 @@
 -- New caches in the places of old ones.
-use Rattle.std.proofs.Common.{◌≡◌, ℕ, suc, ◌<◌, ◌≤◌, List, [], ◌∷◌, ◌++◌, map, length, set, true, false, ◌==◌, ◌||◌, cond, Option, Some, None, IfSome, unwrap_or, refl, sym, ap, ◌∙◌, append-nil, length-append, arith}
+use Rattle.std.proofs.Common.{◌≡◌, ℕ, suc, ◌<◌, ◌≤◌, List, [], ◌∷◌, ◌++◌, map, length, set, true, false, ◌==◌, ◌||◌, cond, Option, Some, None, unwrap_or, refl, sym, ap, ◌∙◌, append-nil, length-append, arith}
 use Rattle.std.specs.List.{list_any}
 use Rattle.std.proofs.lemmas.Bool.{or_parts, true≢false}
 use Rattle.std.proofs.lemmas.List.{length-set}
-use Rattle.fab_protocol.specs.Tables.{OnlyOnce}
-use Rattle.fab_protocol.specs.Versions.{Rows, names_of}
+use Rattle.fab_protocol.specs.Versions.{Rows}
 use Rattle.fab_protocol.specs.Caches.{last_distinct, at_store, cached}
-use Rattle.fab_cache.specs.Caching.{AreFew, AreLast, AreNewOnce, AreOnce, laid, renewed, renewed_one}
+use Rattle.fab_cache.specs.Caching.{AreFew, AreLast, AreOnce, laid, renewed, renewed_one}
 use Rattle.fab_cache.proofs.Lasting.{last_again, last_few, last_once}
 
 -- ---- laid over the old ones, new caches are what puts make of them
@@ -34,37 +33,15 @@ pub cached_once : (k : ℕ) (puts : Rows) (s : ℕ) (caches : List Rows) → Are
 cached_once k puts s [] = tt
 cached_once k puts s (cache ∷ caches) = (last_once k (cache ++ at_store s puts), cached_once k puts (suc s) caches)
 
-pub cached_as_many : (k : ℕ) (puts : Rows) (s : ℕ) (caches : List Rows) → length (cached k puts s caches) ≡ length caches
-cached_as_many k puts s [] = refl
-cached_as_many k puts s (cache ∷ caches) = ap suc (cached_as_many k puts (suc s) caches)
-
 pub empty_last : {A : Type 0} (k : ℕ) (xs : List A) → AreLast k (map (λ x. []) xs)
 empty_last k [] = tt
 empty_last k (x ∷ xs) = (refl, empty_last k xs)
-
-pub empty_once : {A : Type 0} (xs : List A) → AreOnce (map (λ x. []) xs)
-empty_once [] = tt
-empty_once (x ∷ xs) = (tt, empty_once xs)
 
 -- ---- new caches
 
 pub renewed_as_many : (k : ℕ) (puts : Rows) (s : ℕ) (caches : List Rows) → length (renewed k puts s caches) ≡ length caches
 renewed_as_many k puts s [] = refl
 renewed_as_many k puts s (cache ∷ caches) = ap suc (renewed_as_many k puts (suc s) caches)
-
-pub renewed_once : (k : ℕ) (puts : Rows) (s : ℕ) (caches : List Rows) → AreNewOnce (renewed k puts s caches)
-renewed_once k puts s [] = tt
-renewed_once k puts s (cache ∷ caches) = (one (at_store s puts), renewed_once k puts (suc s) caches)
-  where
-    one : (here : Rows) → IfSome (renewed_one k here cache) (λ rows. OnlyOnce (names_of rows))
-    one [] = tt
-    one (put ∷ here) = last_once k (cache ++ put ∷ here)
-
-pub laid_once : (news : List (Option Rows)) (olds : List Rows) → AreNewOnce news → AreOnce olds → AreOnce (laid news olds)
-laid_once [] olds new old = old
-laid_once (one ∷ news) [] new old = tt
-laid_once (None ∷ news) (o ∷ olds) new old = (old.0, laid_once news olds new.1 old.1)
-laid_once (Some rows ∷ news) (o ∷ olds) new old = (new.0, laid_once news olds new.1 old.1)
 
 -- a store that no put is of, and one that some is of
 pub none_here : (s : ℕ) (puts : Rows) → list_any (λ row. row.0.store == s) puts ≡ false → at_store s puts ≡ []

@@ -3,4 +3,5 @@ pub mod Counts
 pub mod Behind
 pub mod Beside
 pub mod Laying
+pub mod Putting
 mod CachingExamples

@@ -1,11 +1,13 @@
--- Caches as contracts see them, what replaces them behind puts, and the walk over older rows.
-use Rattle.std.specs.Prelude.{◌≡◌, ℕ, suc, ◌≤◌, ◌||◌, nat_le, if◌then◌else◌, List, [], ◌∷◌, ◌++◌, length}
-use Rattle.std.specs.Prelude.{Option, Some, None, IfSome, unwrap_or}
+-- Caches as contracts see them, what replaces them behind puts, and the cache of one store.
+use Rattle.std.specs.Prelude.{◌≡◌, ℕ, suc, ◌<◌, ◌≤◌, List, [], ◌∷◌, ◌++◌, length, map, reverse}
+use Rattle.std.specs.Prelude.{Option, Some, None, unwrap_or}
 use Rattle.std.specs.List.{AllByRecursion}
-use Rattle.fab_base.specs.FlatMap.{is_among}
+use Rattle.lru.specs.LruCache.{LruCache}
+use Rattle.fab_base.specs.declared.object.Oid.{Oid}
+use Rattle.fab_base.specs.declared.object.Object.{Object}
 use Rattle.fab_protocol.specs.Tables.{OnlyOnce}
 use Rattle.fab_protocol.specs.Versions.{Row, Rows, names_of}
-use Rattle.fab_protocol.specs.Caches.{with_older, last_distinct, at_store}
+use Rattle.fab_protocol.specs.Caches.{last_distinct, at_store}
 
 -- how many rows a cache keeps at most, and the cache of each store
 pub record Caching : Type 0 where
@@ -36,9 +38,6 @@ laid (new ∷ news) (old ∷ olds) = unwrap_or new old ∷ laid news olds
 abbrev pub AreOnce : List Rows → Type 0
 AreOnce caches = AllByRecursion (λ cache. OnlyOnce (names_of cache)) caches
 
-abbrev pub AreNewOnce : List (Option Rows) → Type 0
-AreNewOnce news = AllByRecursion (λ new. IfSome new (λ cache. OnlyOnce (names_of cache))) news
-
 -- each is its own last k distinct
 abbrev pub AreLast : ℕ → List Rows → Type 0
 AreLast k caches = AllByRecursion (λ cache. last_distinct k cache ≡ cache) caches
@@ -47,18 +46,21 @@ AreLast k caches = AllByRecursion (λ cache. last_distinct k cache ≡ cache) ca
 abbrev pub AreFew : ℕ → List Rows → Type 0
 AreFew k caches = AllByRecursion (λ cache. length cache ≤ k) caches
 
--- ---- walks from the newest row to the oldest
+-- ---- the cache of one store
 
--- these put in front of newer ones, the last first
-abbrev pub lasting : ℕ → Rows → Rows → Rows
-lasting k [] newer = newer
-lasting k (row ∷ rows) newer = with_older k row (lasting k rows newer)
+-- the row of an entry: a name with a version and an object
+abbrev pub row_of_entry : Oid × (ℕ × Object) → Row
+row_of_entry e = (e.0, e.1.0, e.1.1)
 
--- a row in front of those that stay beside newer ones: it stays where none of these has its name and there is room
-abbrev pub beside : ℕ → Rows → Row → Rows → Rows
-beside room newer row kept = if is_among row.0 (names_of newer) || nat_le room (length kept) then kept else row ∷ kept
+-- its rows, the oldest first: what was put last is the entry that was used last, and that stands first
+abbrev pub rows_in : LruCache Oid (ℕ × Object) → Rows
+rows_in cache = reverse (map row_of_entry cache.entries)
 
--- those of these rows that stay beside newer ones, in front of what stays behind them
-abbrev pub staying : ℕ → Rows → Rows → Rows → Rows
-staying room newer [] kept = kept
-staying room newer (row ∷ rows) kept = beside room newer row (staying room newer rows kept)
+-- the same, where there is none yet
+abbrev pub rows_of : Option (LruCache Oid (ℕ × Object)) → Rows
+rows_of None = []
+rows_of (Some cache) = rows_in cache
+
+-- it has room for a row, and is its own last distinct rows
+abbrev pub IsLatest : LruCache Oid (ℕ × Object) → Type 0
+IsLatest cache = (0 < cache.cap) × (last_distinct cache.cap (rows_in cache) ≡ rows_in cache)

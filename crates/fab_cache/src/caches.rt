@@ -5,7 +5,8 @@ ghost use Rattle.fab_protocol.specs.Caches.{cached, cached_row};
 ghost use Rattle.fab_cache.specs.Caching.{AreLast, laid, renewed};
 
 use crate::rows::{emptied, empties, lay, named_row, renewed_all};
-use fab_base::{NoMemory, Object, Oid, Seq};
+use crate::store_cache::StoreCache;
+use fab_base::{NoMemory, Object, Oid};
 use std::alloc::Global;
 use std::marker::Model;
 
@@ -15,7 +16,7 @@ use std::marker::Model;
 pub struct Caches {
     alloc: Global,
     k: u32,
-    caches: Vec<Seq<(Oid, u32, Object)>>,
+    caches: Vec<StoreCache>,
 }
 
 impl Drop for Caches {
@@ -25,32 +26,27 @@ impl Drop for Caches {
 }
 
 impl Model for Caches {
-    ghost use Rattle.fab_cache.specs.Caching.{AreOnce, Caching};
+    ghost use Rattle.fab_cache.specs.Caching.{Caching};
 
     ghost Value = { Caching };
 
     ghost view = { λ c. record { k = c.k; caches = c.caches.items } };
-
-    ghost invariant = { λ c. AreOnce c.caches.items };
 }
 
 /// Caches that are built and not yet in place. Contracts see for each store its new cache, where
 /// it has one.
 #[derive(Debug, Drop)]
 pub struct NewCaches {
-    caches: Vec<Option<Seq<(Oid, u32, Object)>>>,
+    caches: Vec<Option<StoreCache>>,
 }
 
 impl Model for NewCaches {
     ghost use Rattle.std.specs.Prelude.{List, Option};
     ghost use Rattle.fab_protocol.specs.Versions.{Rows};
-    ghost use Rattle.fab_cache.specs.Caching.{AreNewOnce};
 
     ghost Value = { List (Option Rows) };
 
     ghost view = { λ n. n.caches.items };
-
-    ghost invariant = { λ n. AreNewOnce n.caches.items };
 }
 
 impl Caches {
@@ -99,6 +95,6 @@ impl Caches {
     pub fn clear(&mut self)
         ensures { self.new ≡ record self.old { caches = map (λ cache. []) self.old.caches } }
     {
-        emptied(self.alloc, &mut self.caches);
+        emptied(&mut self.caches);
     }
 }

@@ -2,7 +2,7 @@
 use Rattle.std.proofs.Common.{◌≡◌, ◌⊎◌, inl, inr, ℕ, ◌+◌, ◌<◌, ◌≤◌, List, [], ◌∷◌, ◌++◌, map, length, true, false, ◌||◌, ◌==◌, IsTrue, if◌then◌else◌}
 use Rattle.std.proofs.Common.{Option, Some, None, refl, sym, ap, ◌∙◌, subst, arith, get_or}
 use Rattle.std.specs.List.{AllByRecursion, filter}
-use Rattle.std.proofs.lemmas.Bool.{and_from, and_parts, both_ways, cases_eq, eq-eqb, false_from_ne_true, not-true, or_left, or_right}
+use Rattle.std.proofs.lemmas.Bool.{and_from, and_parts, both_ways, cases_eq, eq-eqb, not-true, or_left, or_right}
 use Rattle.std.proofs.lemmas.List.{get_or-map, length-map}
 use Rattle.std.proofs.lemmas.List.FromFn.{get_or-range_with_len}
 use Rattle.std.proofs.lemmas.Option.{same_Some, unwrap_or-slice_get}
@@ -43,6 +43,7 @@ use Rattle.fab_integrity.proofs.Lasting.{kept_behind, keeps_behind}
 use Rattle.fab_integrity.proofs.Lists.{all_of, in_left, map_in}
 use Rattle.fab_integrity.proofs.Maps.{ascends_put_all, few_rows}
 use Rattle.fab_integrity.proofs.Readings.{spelled_so}
+use Rattle.fab_integrity.proofs.Roles.{heard_by_store, no_worker}
 use Rattle.fab_integrity.proofs.Runs.{no_classes}
 use Rattle.fab_integrity.proofs.Tids.{tid_spelled}
 use Rattle.fab_integrity.proofs.Transport.{lands_muted, lands_whole}
@@ -108,9 +109,6 @@ module _ (S : Setting) where
     pub store_is : (s : ℕ) → IsTrue (is_store S.rights s) → Store S s
     store_is s is = record { kind = is; outside = honest s }
 
-    pub no_worker : (s : ℕ) → IsTrue (is_store S.rights s) → is_worker S.rights s ≡ false
-    no_worker s is = false_from_ne_true (is_worker S.rights s) (λ w. both_ways (is_store S.rights s) (given.apart s w) is)
-
     worker_node : (n : ℕ) → IsTrue (is_worker S.rights n) → is_node S.rights n ≡ true
     worker_node n is = or_left (is_worker S.rights n) (is_store S.rights n) is
 
@@ -119,7 +117,7 @@ module _ (S : Setting) where
 
     -- a worker is no store
     pub not_store : (n s : ℕ) → IsTrue (is_worker S.rights n) → IsTrue (is_store S.rights s) → n ≡ s → ⊥
-    not_store n s worker store same = both_ways (is_worker S.rights s) (no_worker s store) (subst (λ z. is_worker S.rights z ≡ true) same worker)
+    not_store n s worker store same = both_ways (is_worker S.rights s) (no_worker S given s store) (subst (λ z. is_worker S.rights z ≡ true) same worker)
 
     -- ---- a worker's attempt, spelled
 
@@ -207,9 +205,7 @@ module _ (S : Setting) where
         pub store_act : (message : Message) → S.read (front_of (w.queue n s)) ≡ Some message → is_own n message ≡ true
             → act S w (i.Deliver n s) ≡ of_store S (w.node s).attempt (does S.rights s n message now)
         store_act message read own =
-            ap (hears S w n s) read
-            ∙ ap (λ b. if b then takes S.rights S.cache s (kept S w s) n message (w.node s).attempt (parts S w s)
-            else of_store S (w.node s).attempt (says S.rights s n message now)) (no_worker s store)
+            ap (hears S w n s) read ∙ heard_by_store S given w s n store (Some message)
             ∙ ap (λ b. of_store S (w.node s).attempt (if b then does S.rights s n message now else silent))
             (and_from (is_worker S.rights n) (is_own n message) me own)
 

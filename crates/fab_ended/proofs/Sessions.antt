@@ -4,7 +4,7 @@ use Rattle.std.proofs.Common.{Option, Some, None, option_map, unwrap_or, refl, s
 use Rattle.std.specs.Prelude.{IsFalse, slice_get, find}
 use Rattle.std.specs.List.{AllByRecursion, flat_map}
 use Rattle.std.proofs.lemmas.Bool.{and_parts, eqb-true, not-true}
-use Rattle.fab_base.proofs.Lists.{left_nil, right_nil, each_nil, at_index, true_if_empty}
+use Rattle.fab_base.proofs.Lists.{left_nil, right_nil, each_nil, at_index, true_if_empty, all_two}
 use Rattle.fab_tree.specs.declared.declaration.Node.{Node}
 use Rattle.fab_tree.specs.declared.declaration.Role.{Role}
 use Rattle.fab_tree.specs.declared.resolved.Principal.{Principal}
@@ -29,7 +29,6 @@ use Rattle.fab_rights.specs.declared.rights.Rights.{Rights}
 use Rattle.fab_rights.specs.Computed.{is_worker}
 use Rattle.fab_rights.proofs.Bits.{has_bit_exact}
 use Rattle.fab_attempts.specs.Sessions.{requests_in, requests_of}
-use Rattle.fab_shapes.proofs.Lists.{from_two}
 use Rattle.fab_shapes.proofs.Named.{found}
 use Rattle.fab_settings.specs.Settings.{is_hostile_node}
 use Rattle.fab_settings.proofs.Posts.{role_at}
@@ -64,7 +63,7 @@ module _ (s : Start) where
       let three : two ++ roles.misplaced s ≡ [] = left_nil _ (miscounted s) (left_nil _ (mistyped s) e) in
       let declared : unknown.unknown s ≡ [] = left_nil (unknown.unknown s) (doubled s) (left_nil two (roles.misplaced s) three) in
       let placed : roles.misplaced s ≡ [] = right_nil two (roles.misplaced s) three in
-      from_two (λ x. unknown.in_session s x ≡ []) (λ x. roles.in_session s x ≡ []) IsHonest s.sessions is_honest
+      all_two (λ x. unknown.in_session s x ≡ []) (λ x. roles.in_session s x ≡ []) IsHonest is_honest s.sessions
       (each_nil (unknown.in_session s) s.sessions (right_nil _ _ (left_nil _ _ (left_nil _ _ (left_nil _ _ declared)))))
       (each_nil (roles.in_session s) s.sessions (right_nil _ _ (left_nil _ _ (left_nil _ _ (left_nil _ _ placed)))))
 

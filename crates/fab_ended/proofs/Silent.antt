@@ -22,6 +22,7 @@ use Rattle.fab_world.specs.Workers.{Phase}
 use Rattle.fab_integrity.proofs.Invariant.{In}
 use Rattle.fab_integrity.proofs.Lists.{in_numbers}
 use Rattle.fab_integrity.proofs.Runs.{front_run}
+use Rattle.fab_integrity.proofs.Roles.{at_node}
 use Rattle.fab_integrity.proofs.Steps.{lacks_none}
 use Rattle.fab_outcomes.specs.Causes.{IsGiven}
 use Rattle.fab_outcomes.proofs.Having.{have_causes}
@@ -31,7 +32,7 @@ use Rattle.fab_outcomes.proofs.Tidy.{Good, good_run, tidy_run}
 use Rattle.fab_ended.specs.Ended.{AreUnmarked}
 use Rattle.fab_ended.specs.Silence.{AreCalm, IsCalm, NoneGivesUp, NoneIsHostile, NoneIsSilent, no_lines}
 use Rattle.fab_ended.proofs.Served.{IsServed, Served, served_does, store_is}
-use Rattle.fab_ended.proofs.Waiting.{at_node, not_empty}
+use Rattle.fab_ended.proofs.Waiting.{not_empty}
 
 -- of two that are none, either
 none_both : {A : Type 0} (b : Bool) (x : Option A) → x ≡ None → (if b then x else None) ≡ None
@@ -53,7 +54,7 @@ module _ (S : Setting) where
               | inr failed ↦ absurd (both_ways (w.node x).failed (served.sound x) failed)
             ]
             | inr none ↦
-                at_node S given (λ b. is_empty (w.queue b x))
+                at_node S.rights given.workers given.stores (λ b. is_empty (w.queue b x))
                 (and_parts ((w.node x).up && not (is_evaluating (w.node x).attempt.phase)) (list_all (λ a. is_empty (w.queue a x)) (nodes_in S.rights)) none).1 a is
           ]
 
@@ -61,10 +62,10 @@ module _ (S : Setting) where
           (all : list_all (is_settled S w) (nodes_in S.rights) ≡ true) where
         -- no question waits for s, and no answer for n
         none_to : (bytes : List ℕ) → In bytes (w.queue n s) → ⊥
-        none_to bytes h = not_empty bytes (w.queue n s) h (settled_hears s (at_node S given (is_settled S w) all s other) n node)
+        none_to bytes h = not_empty bytes (w.queue n s) h (settled_hears s (at_node S.rights given.workers given.stores (is_settled S w) all s other) n node)
 
         none_back : (bytes : List ℕ) → In bytes (w.queue s n) → ⊥
-        none_back bytes h = not_empty bytes (w.queue s n) h (settled_hears n (at_node S given (is_settled S w) all n node) s other)
+        none_back bytes h = not_empty bytes (w.queue s n) h (settled_hears n (at_node S.rights given.workers given.stores (is_settled S w) all n node) s other)
 
         -- so nothing of it is awaited
         none_lacked : (p : Phase) → IsServed S n (kept S w n) (w.node n).attempt (w.queue n) (λ x. w.queue x n) p → lacks s p ≡ true → ⊥

@@ -1,20 +1,19 @@
 -- What waits in a queue stays there until it is delivered, and what is sent to a node that is up waits.
-use Rattle.std.proofs.Common.{◌≡◌, ◌⊎◌, inl, inr, ℕ, List, [], ◌∷◌, map, Bool, true, false, not, ◌&&◌, ◌==◌, IsTrue}
-use Rattle.std.proofs.Common.{◌<◌, Some, refl, sym, ap, ◌∙◌, subst, true≢false, if◌then◌else◌, arith}
-use Rattle.std.specs.List.{filter, list_all, range_with_len}
-use Rattle.std.proofs.lemmas.Bool.{and_from, cases_eq, eq-eqb, not_from_false, or_cases}
+use Rattle.std.proofs.Common.{◌≡◌, ◌⊎◌, inl, inr, ℕ, List, [], ◌∷◌, map, true, false, not, ◌&&◌, ◌==◌, IsTrue}
+use Rattle.std.proofs.Common.{Some, refl, sym, ap, ◌∙◌, subst, true≢false, if◌then◌else◌}
+use Rattle.std.specs.List.{filter}
+use Rattle.std.proofs.lemmas.Bool.{and_from, cases_eq, eq-eqb, not_from_false}
 use Rattle.fab_base.specs.declared.message.Message.{Message}
 use Rattle.fab_base.specs.MessageSpelling.{IsBody, spelled}
 use Rattle.fab_base.specs.FieldSpelling.{sent_version}
 use Rattle.fab_net.specs.declared.event.Inner.{Inner}
 use Rattle.fab_net.specs.declared.event.Inner.TheVariants as i
-use Rattle.fab_rights.specs.Computed.{is_node, is_store, is_worker, nodes_in}
-use Rattle.fab_rights.proofs.Bits.{bit_below, has_bit_exact}
+use Rattle.fab_rights.specs.Computed.{is_node}
 use Rattle.fab_world.specs.Machine.{Setting, World, bytes_to, front_of, is_empty, lands, node_of, ready, rest_of}
 use Rattle.fab_world.specs.Serial.{IsSetting}
 use Rattle.fab_world.specs.Workers.{Act}
 use Rattle.fab_integrity.proofs.Invariant.{In}
-use Rattle.fab_integrity.proofs.Lists.{all_in, filter_in, in_left, in_range, in_right, map_in}
+use Rattle.fab_integrity.proofs.Lists.{filter_in, in_left, in_right, map_in}
 use Rattle.fab_integrity.proofs.Transport.{bytes_for, mutes, other_queue, out_of, out_to, queue_behind, queue_beside, taken_queue}
 use Rattle.fab_ended.proofs.Short.{IsShort}
 
@@ -122,15 +121,3 @@ module _ (S : Setting) where
       read = read_itself message body short;
       fits = fits;
     }
-
-    pub node_below : (n : ℕ) → is_node S.rights n ≡ true → n < 64
-    node_below n is = elim (or_cases (is_worker S.rights n) (is_store S.rights n) is) [
-      | inl worker ↦ bit_below S.rights.workers n given.workers ((has_bit_exact S.rights.workers n).0 worker)
-      | inr store ↦ bit_below S.rights.stores n given.stores ((has_bit_exact S.rights.stores n).0 store)
-    ]
-
-    -- what holds of all nodes holds of each
-    pub at_node : (f : ℕ → Bool) → list_all f (nodes_in S.rights) ≡ true → (n : ℕ) → is_node S.rights n ≡ true → f n ≡ true
-    at_node f all n is =
-        let low = node_below n is in
-        all_in f n (nodes_in S.rights) all (filter_in (is_node S.rights) n (range_with_len 0 64) (in_range 0 64 n (omega arith) (omega (arith, low))) is)

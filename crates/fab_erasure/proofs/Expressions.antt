@@ -26,7 +26,7 @@ use Rattle.fab_labelling.specs.Obligations as ob
 use Rattle.fab_labelling.specs.Obligations.{Owed, Tail, all_flow, all_fail, division, label_of_local, label_of_class, class_of_sort, class_of_local}
 use Rattle.fab_labelling.specs.declared.rule.LabelRule.{LabelRule}
 use Rattle.fab_labelling.specs.Sites.{form_sites, sites_in, all_sites}
-use Rattle.fab_language.specs.Meaning.{State, Run, goes, ends, M, and_then, gives, ◌>>=◌, local, read, access, field_of, int_of, holds, truth, compares, operate, quotient, chained, form_step, value, applied}
+use Rattle.fab_language.specs.Meaning.{State, Run, goes, ends, M, and_then, gives, ◌>>=◌, local, read, access, field_of, int_of, truth, compares, operate, quotient, chained, form_step, value, applied}
 use Rattle.fab_laws.specs.Runs.{state_behind}
 use Rattle.fab_laws.specs.Kinds.{Kind, kind_of_sort}
 use Rattle.fab_laws.specs.Shapes.{suits, AllSuit, IsShaped}

@@ -10,6 +10,7 @@ use Rattle.fab_base.specs.declared.object.Tid.{Tid}
 use Rattle.fab_base.specs.declared.object.Value.{Value}
 use Rattle.fab_base.specs.declared.object.Value.TheVariants.{Ref}
 use Rattle.fab_base.specs.FlatMap.{get}
+use Rattle.fab_base.proofs.Lists.{all_along}
 use Rattle.fab_tree.specs.declared.resolved.Method.{Method}
 use Rattle.fab_labelling.specs.Sites.{Sited, method_sites}
 use Rattle.fab_language.specs.Heaps.{found, full, reach_in, reach_before, is_among, touched, noted, is_full, is_spent, is_changed, with_row, newly_written}
@@ -31,10 +32,6 @@ first_false false b h = refl
 all_last : {A : Type 0} (P : A → Type 0) (xs : List A) (x : A) → AllByRecursion P xs → P x → AllByRecursion P (xs ++ x ∷ [])
 all_last P [] x h p = (p, tt)
 all_last P (y ∷ ys) x h p = (h.0, all_last P ys x h.1 p)
-
-all_more : {A : Type 0} (P Q : A → Type 0) (xs : List A) → ((x : A) → P x → Q x) → AllByRecursion P xs → AllByRecursion Q xs
-all_more P Q [] f h = tt
-all_more P Q (x ∷ xs) f h = (f x h.0, all_more P Q xs f h.1)
 
 -- it stands among the objects of these touches
 abbrev pub Held : List (ℕ × Oid) → Oid → Type 0
@@ -115,7 +112,7 @@ module _ (sight : Sight) where
       touches = noted_seen seen site o t.touches e ∙ ap (noted site o) p.touches;
       written = p.written;
       made = p.made;
-      wrote = all_more (Held t.touches) (Held (noted site o t.touches)) t.heap.written (λ q i. touched_still site o q t.touches i) p.wrote;
+      wrote = all_along (Held t.touches) (Held (noted site o t.touches)) (λ q i. touched_still site o q t.touches i) t.heap.written p.wrote;
     };
     held = λ q i. touched_still site o q t.touches i;
   }
@@ -214,7 +211,7 @@ module _ (sight : Sight) where
           touches = h.plain.touches;
           written = p.written;
           made = p.made;
-          wrote = all_more (Held t.touches) (Held q.touches) t.heap.written h.held p.wrote;
+          wrote = all_along (Held t.touches) (Held q.touches) h.held t.heap.written p.wrote;
         };
         held = h.held;
       } in
@@ -269,5 +266,5 @@ module _ (sight : Sight) where
   pub all_stay : ((i : ℕ) (m : Method) → slice_get sight.program.methods i ≡ Some m → Placed (method_sites sight.program.classes m))
       → (depth i : ℕ) (vs : List Value) → Stays (erase.called sight.sees sight.shows sight.program sight.tid depth i vs)
   all_stay placed depth i vs = every.all_calls Stay Spot sight.sees sight.shows steps_stay sight.program sight.tid
-      (λ j m e. all_more (λ (y : ℕ × List ℕ). sight.site_seen y.0 ≡ list_all sight.sees y.1) (λ y. list_all sight.sees y.1 ≡ true → Spot y.0)
-      (method_sites sight.program.classes m) (λ y h k. h ∙ k) (placed j m e)) depth i vs
+      (λ j m e. all_along (λ (y : ℕ × List ℕ). sight.site_seen y.0 ≡ list_all sight.sees y.1) (λ y. list_all sight.sees y.1 ≡ true → Spot y.0)
+      (λ y h k. h ∙ k) (method_sites sight.program.classes m) (placed j m e)) depth i vs

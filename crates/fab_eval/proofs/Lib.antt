@@ -1,3 +1,5 @@
-pub mod Making
-pub mod Running
+pub mod Acting
+pub mod Beginning
+pub mod Calling
 pub mod Settling
+pub mod Going

@@ -1,5 +1,8 @@
 pub mod Attempts
-pub mod Points
-pub mod Gives
 pub mod Outcomes
 pub mod Settles
+pub mod Lefts
+pub mod Founds
+pub mod Answered
+pub mod Pauses
+pub mod Turns

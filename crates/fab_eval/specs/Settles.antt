@@ -2,13 +2,13 @@
 use Rattle.std.specs.Prelude.{◌≡◌, ℕ, List, Option, Result, Ok, Err}
 use Rattle.fab_base.specs.declared.object.Oid.{Oid}
 use Rattle.fab_base.specs.declared.object.Value.{Value}
-use Rattle.fab_language.specs.declared.ending.Ending.TheVariants as e
+use Rattle.fab_language.specs.declared.ending.Ending.{Ending}
+use Rattle.fab_language.specs.declared.ending.Ending.TheVariants.{Ended}
 use Rattle.fab_language.specs.Meaning.{Meant, meant_at, ending_at}
+use Rattle.fab_stack.specs.declared.halt.End.{End}
+use Rattle.fab_stack.specs.Gives.{end_of}
+use Rattle.fab_stack.specs.Points.{Point}
 use Rattle.fab_eval.specs.declared.job.Outcome.{Outcome}
-use Rattle.fab_eval.specs.declared.halt.Halt.{Halt}
-use Rattle.fab_eval.specs.declared.halt.Halt.TheVariants.{Memory, Ended}
-use Rattle.fab_eval.specs.Points.{Point}
-use Rattle.fab_eval.specs.Gives.{end_of}
 use Rattle.fab_eval.specs.Outcomes.{outcome_by}
 
 -- these are the parts of what was meant
@@ -17,8 +17,11 @@ pub record Comes (versions : List (Oid × ℕ)) (meant : Meant) (outcome : Outco
   pub touches_are : touches ≡ meant.touches
   pub downs_are : downs ≡ meant.downs
 
--- the same at the end of a run; without memory nothing was meant
-abbrev pub Settles : Result (Option Value) Halt → Point → Outcome → List (ℕ × Oid) → List (ℕ × Value) → Type 0
-Settles (Ok v) p outcome touches downs = Comes p.base.versions (meant_at (e.Ended v) p.state) outcome touches downs
-Settles (Err Memory) p outcome touches downs = ⊥
-Settles (Err (Ended end)) p outcome touches downs = Comes p.base.versions (meant_at (ending_at (end_of end)) p.state) outcome touches downs
+-- how a run ended
+abbrev pub ending_of : Result (Option Value) End → Ending
+ending_of (Ok v) = Ended v
+ending_of (Err end) = ending_at (end_of end)
+
+-- the same at the end of a run
+abbrev pub Settles : Result (Option Value) End → Point → Outcome → List (ℕ × Oid) → List (ℕ × Value) → Type 0
+Settles ended p outcome touches downs = Comes p.base.versions (meant_at (ending_of ended) p.state) outcome touches downs

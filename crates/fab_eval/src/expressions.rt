@@ -1,19 +1,18 @@
 //! Expressions.
 ghost use Rattle.std.specs.Prelude.{◌≡◌, map};
 ghost use Rattle.fab_language.specs.Meaning.{chained, operate, value, values};
-ghost use Rattle.fab_eval.specs.Gives.{Gives};
-ghost use Rattle.fab_eval.specs.Points.{Point};
+ghost use Rattle.fab_stack.specs.Gives.{Gives};
+ghost use Rattle.fab_stack.specs.Points.{Point};
 
-use crate::halt::{End, Halt};
-use crate::state::State;
 use fab_base::{Seq, Value};
+use fab_stack::{End, Halt, State};
 use fab_tree::Operator;
 use fab_tree::resolved::{Expression, Form, Operand};
 use fab_values::{applied, compares, operate, truth};
 
 /// The value of an expression.
 #[cycle(value)]
-pub(crate) fn value(state: &mut State, expression: &Expression) -> Result<Value, Halt>
+pub(crate) fn value(state: &mut State<'_>, expression: &Expression) -> Result<Value, Halt>
     ensures gives { Gives result state.new (value expression.now state.old.state) }
     ensures base { state.new.base ≡ state.old.base }
     ensures fuel { state.new.state.fuel ≡ state.old.state.fuel }
@@ -52,7 +51,7 @@ pub(crate) fn value(state: &mut State, expression: &Expression) -> Result<Value,
 
 /// A value, and what the other operands of a chain make of it, from the left.
 #[cycle(value)]
-fn chained(state: &mut State, others: &[Operand], first: Value) -> Result<Value, Halt>
+fn chained(state: &mut State<'_>, others: &[Operand], first: Value) -> Result<Value, Halt>
     ensures gives { Gives result state.new (chained operate (map (λ u. (u.operator, value u.operand)) others.now) first state.old.state) }
     ensures base { state.new.base ≡ state.old.base }
     ensures fuel { state.new.state.fuel ≡ state.old.state.fuel }
@@ -76,7 +75,7 @@ fn operated(operator: Operator, left: Value, right: Value) -> Result<Value, Halt
 }
 
 /// The values of arguments, from the left.
-pub(crate) fn values(state: &mut State, arguments: &[Expression]) -> Result<Seq<Value>, Halt>
+pub(crate) fn values(state: &mut State<'_>, arguments: &[Expression]) -> Result<Seq<Value>, Halt>
     ensures gives { Gives result state.new (values arguments.now state.old.state) }
     ensures base { state.new.base ≡ state.old.base }
     ensures fuel { state.new.state.fuel ≡ state.old.state.fuel }

@@ -17,12 +17,13 @@ use Rattle.fab_world.specs.Serial.{IsSetting, IsEvaluation, attempts_in, attempt
 use Rattle.fab_world.specs.Workers as workers
 use Rattle.fab_world.specs.Workers.{Attempt, Act, Phase, Kept, fresh, kept_of, takes}
 use Rattle.fab_world.proofs.WorkerActs.{woken}
-use Rattle.fab_integrity.proofs.Changes.{Changes, does_changes, down_changes, fails_changes, cuts_changes, posted_node, if_whole}
+use Rattle.fab_integrity.proofs.Changes.{Changes, does_changes, down_changes, fails_changes, cuts_changes, posted_node, if_whole, ready_attempt}
 use Rattle.fab_integrity.proofs.Invariant.{In}
 use Rattle.fab_integrity.proofs.Lasting.{kept_behind, keeps_behind}
 use Rattle.fab_integrity.proofs.Readings.{spelled_so}
 use Rattle.fab_integrity.proofs.Transport.{front_and_rest, mutes, other_queue, out_of, queue_behind, queue_beside, ready_other, ready_up, running_up, taken_queue, waiting_is}
 use Rattle.fab_integrity.proofs.Worlds.{at_same, at_other, down_here, down_other}
+use Rattle.fab_integrity.proofs.Steps.{may_node}
 use Rattle.fab_lined.proofs.Begun.{one}
 use Rattle.fab_finite.specs.Finite.{TouchesWhatWasMissing, of_prepare, of_start}
 use Rattle.fab_finite.proofs.Rising.{Apart}
@@ -206,16 +207,6 @@ module _ (S : Setting) (T : ℕ) where
       comes : Comes w e (act S w e)
       comes = comes_act e can
 
-      ready_attempt : (u.node n).attempt ≡ (w.node n).attempt
-      ready_attempt = by e
-        where
-          by : (x : Inner) → ((ready S w x).node (node_of x)).attempt ≡ (w.node (node_of x)).attempt
-          by (i.Begin m) = refl
-          by (i.Resume m) = refl
-          by (i.Deliver m o) = refl
-          by (i.Idle m o) = refl
-          by (i.Recover m) = ap (λ (x : Node). x.attempt) (at_same w.node m (record (w.node m) { torn = []; up = true }))
-
       -- what a record makes of what is owed
       later : (y : ℕ) → left * owed S.roots n y ((u.node n).entries ++ option_list (act S w e).entry)
           ≤ left * owed S.roots n y (u.node n).entries + T * gains y (act S w e).entry
@@ -229,7 +220,7 @@ module _ (S : Setting) (T : ℕ) where
           let c = comes.cost y in
           let l = later y in
           let node = ap (own left n y) (at_same u.node n (acted S (act S w e) (u.node n))) in
-          let before = ap (λ (a : Attempt). work T a.phase (length a.answers)) ready_attempt in
+          let before = ap (λ (a : Attempt). work T a.phase (length a.answers)) (ready_attempt S w e n) in
           let queue = ap (load T) (queue_behind S u n (act S w e) y) in
           let both = load_append T (u.queue n y) (waiting_for S (mutes S u n (act S w e)) y (out_of (act S w e))) in
           let new = sent_load y in
@@ -272,7 +263,7 @@ module _ (S : Setting) (T : ℕ) where
           let f = ap (λ b. one (not b)) (cut_failed keep whole) in
           let node = ap (own left n y) (down_here S (at_node S u n (λ _. marred keep)) n) in
           let changed = ap (λ (x : Node). own left n y (record x { attempt = fresh; up = false })) (at_same u.node n (marred keep)) in
-          let before = ap (λ (a : Attempt). work T a.phase (length a.answers)) ready_attempt in
+          let before = ap (λ (a : Attempt). work T a.phase (length a.answers)) (ready_attempt S w e n) in
           let queue = down_load (at_node S u n (λ _. marred keep)) n n y in
           omega (arith, c, l, f, node, changed, before, queue)
 
@@ -325,13 +316,6 @@ module _ (S : Setting) (T : ℕ) (ns : List ℕ) (apart : Apart ns) (there : (n 
   abbrev pub to_come : ℕ → World → ℕ
   to_come left w = total (λ x. total (between S T left w x) ns) ns
 
-  its_node : (w : World) (e : Inner) → may S w e ≡ true → is_node S.rights (node_of e) ≡ true
-  its_node w (i.Begin n) h = (and_parts _ _ (and_parts _ _ (and_parts _ _ (and_parts _ _ (and_parts _ _ h).0).0).0).0).0
-  its_node w (i.Resume n) h = (and_parts _ _ (and_parts _ _ (and_parts _ _ h).0).0).0
-  its_node w (i.Deliver a b) h = (and_parts _ _ (and_parts _ _ (and_parts _ _ (and_parts _ _ h).0).0).0).0
-  its_node w (i.Idle n s) h = (and_parts _ _ (and_parts _ _ (and_parts _ _ (and_parts _ _ (and_parts _ _ h).0).0).0).0).0
-  its_node w (i.Recover n) h = (and_parts _ _ (and_parts _ _ (and_parts _ _ h).0).0).0
-
   -- what a start may bring about, of all pairs
   abbrev pub of_starts : ℕ
   of_starts = length ns * of_start T
@@ -353,19 +337,19 @@ module _ (S : Setting) (T : ℕ) (ns : List ℕ) (apart : Apart ns) (there : (n 
         → ((x : ℕ) → (x ≡ node_of e → ⊥) → (y : ℕ) → between S T left v x y ≤ between S T left (ready S w e) x y)
         → to_come left v + 1 ≤ to_come before w + attempts_in e * of_starts
     by_event v (i.Begin n) can count row others =
-        let h = falls left before w v n (of_start T) (its_node w (i.Begin n) can)
+        let h = falls left before w v n (of_start T) (may_node S w (i.Begin n) can)
         (λ x ne y. let a = others x ne y in let l = less x y in omega (arith, a, l)) (λ y. let a = row y in let l = less n y in omega (arith, a, l)) in
         omega (arith, h)
     by_event v (i.Resume n) can count row others =
-        let h = falls left before w v n 0 (its_node w (i.Resume n) can)
+        let h = falls left before w v n 0 (may_node S w (i.Resume n) can)
         (λ x ne y. let a = others x ne y in let l = less x y in omega (arith, a, l)) (λ y. let a = row y in let l = less n y in omega (arith, a, l)) in
         omega (arith, h)
     by_event v (i.Idle n s) can count row others =
-        let h = falls left before w v n 0 (its_node w (i.Idle n s) can)
+        let h = falls left before w v n 0 (may_node S w (i.Idle n s) can)
         (λ x ne y. let a = others x ne y in let l = less x y in omega (arith, a, l)) (λ y. let a = row y in let l = less n y in omega (arith, a, l)) in
         omega (arith, h)
     by_event v (i.Recover n) can count row others =
-        let h = falls left before w v n (of_start T) (its_node w (i.Recover n) can) other_rows back in omega (arith, h)
+        let h = falls left before w v n (of_start T) (may_node S w (i.Recover n) can) other_rows back in omega (arith, h)
       where
         other_rows : (x : ℕ) → (x ≡ n → ⊥) → (y : ℕ) → between S T left v x y ≤ between S T before w x y
         other_rows x ne y =
@@ -396,7 +380,7 @@ module _ (S : Setting) (T : ℕ) (ns : List ℕ) (apart : Apart ns) (there : (n 
         sender = (and_parts (is_running S w b) (is_node S.rights a) (and_parts (is_running S w b && is_node S.rights a) (not (is_empty (w.queue a b))) can).0).1
 
         hearer : is_node S.rights b ≡ true
-        hearer = its_node w (i.Deliver a b) can
+        hearer = may_node S w (i.Deliver a b) can
 
         -- the front is gone, and nothing else
         other_queues : (x y : ℕ) → ((x ≡ a) × (y ≡ b) → ⊥) → between S T left u x y ≤ between S T before w x y
@@ -450,7 +434,7 @@ module _ (S : Setting) (T : ℕ) (ns : List ℕ) (apart : Apart ns) (there : (n 
     step_falls w all (Fails keep e) can left before count few =
         let may_come : may S w e ≡ true = (and_parts _ _ (and_parts _ _ can).0).0 in
         let fewer : left ≤ before = omega (arith, count) in
-        let h = falls left before w (steps S w (Fails keep e)) (node_of e) 0 (its_node w e may_come) (fails_others S T w keep e before left fewer)
+        let h = falls left before w (steps S w (Fails keep e)) (node_of e) 0 (may_node S w e may_come) (fails_others S T w keep e before left fewer)
         (fails_row S T w keep e before left fewer (was_there w e may_come)) in
         omega (arith, h)
     step_falls w all (Posts h) can left before count few =

@@ -1,12 +1,12 @@
 -- Numbers of lists, read one element after the other.
 use Rattle.std.proofs.Common.{◌≡◌, List, [], ◌∷◌, ◌++◌, map, refl, sym, ap, subst}
 use Rattle.std.specs.List.{flat_map}
-use Rattle.fab_laws.proofs.Values.{all_joined}
+use Rattle.fab_base.proofs.Lists.{all_append}
 use Rattle.fab_settings.specs.Numbers.{AllFit, all_of, IsSmall}
 use Rattle.fab_base.specs.declared.object.Value.{Value}
 
 pub joined : (xs ys : List Value) → AllFit xs → AllFit ys → AllFit (xs ++ ys)
-joined xs ys h k = all_joined IsSmall xs ys h k
+joined xs ys h k = all_append IsSmall xs ys h k
 
 -- those of equal trees
 pub same : {A : Type 0} (f : A → List Value) (x y : A) → x ≡ y → AllFit (f x) → AllFit (f y)

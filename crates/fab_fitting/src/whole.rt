@@ -1,6 +1,6 @@
 //! The numbers in a bundle.
 ghost use Rattle.std.specs.List.{flat_map};
-ghost use Rattle.fab_settings.specs.Numbers.{AllFit, in_session, in_value, in_values, values_of};
+ghost use Rattle.fab_settings.specs.Numbers.{AllFit, IsSmall, in_session, values_of};
 
 use crate::bodies::read_methods;
 use fab_base::Value;
@@ -8,7 +8,7 @@ use fab_tree::resolved::{Asked, Resolved, Root, Session};
 
 /// Reads the number that a value is, if it is one.
 fn read_value(value: &Value)
-    ensures { AllFit (in_value value.now) }
+    ensures { IsSmall value.now }
 {
     if let Value::Int(number) = value {
         let _number = *number;
@@ -17,7 +17,7 @@ fn read_value(value: &Value)
 
 /// Reads the numbers among values.
 fn read_values(values: &[Value])
-    ensures { AllFit (in_values values.now) }
+    ensures { AllFit values.now }
 {
     for value in values {
         read_value(value);
@@ -26,7 +26,7 @@ fn read_values(values: &[Value])
 
 /// Reads the numbers that the fields of roots begin with.
 fn read_roots(roots: &[Root])
-    ensures { AllFit (flat_map (λ x. in_values x.values) roots.now) }
+    ensures { AllFit (flat_map (λ x. x.values) roots.now) }
 {
     for root in roots {
         read_values(root.values.as_slice());
@@ -35,7 +35,7 @@ fn read_roots(roots: &[Root])
 
 /// Reads the numbers that requests give.
 fn read_requests(requests: &[Asked])
-    ensures { AllFit (flat_map (λ a. in_values a.request.args) requests.now) }
+    ensures { AllFit (flat_map (λ a. a.request.args) requests.now) }
 {
     for asked in requests {
         read_values(asked.request.args.as_slice());

@@ -12,13 +12,13 @@ use Rattle.fab_language.specs.Evaluation.{rows_of, map_at_start, requests_of, co
 use Rattle.fab_language.specs.Numbers.{resolved}
 use Rattle.fab_labelling.specs.Claims.{IsWellLabelled}
 use Rattle.fab_laws.specs.Closed.{IsThere, AreThere, HasOne}
-use Rattle.fab_laws.proofs.Values.{all_more}
 use Rattle.fab_shapes.proofs.Maps.{each_of_map}
 use Rattle.fab_shapes.proofs.Objects.{closed, given_there}
 use Rattle.fab_held.specs.Held.{IsHeld, RefersToHeld, AllHeld, HasOnlyHeld}
 use Rattle.fab_held.proofs.Made.{roots_held}
 use Rattle.fab_held.proofs.Requests.{course_held}
 use Rattle.fab_base.specs.Values.{referred}
+use Rattle.fab_base.proofs.Lists.{all_along}
 use Rattle.std.specs.Prelude.{IfSome}
 
 module _ (r : Resolved) where
@@ -35,7 +35,7 @@ module _ (r : Resolved) where
       by (Some o) h = names o h.0 h.1
 
   all_there : (m : FlatMap) → ((o : Oid) (x : Object) → get m o ≡ Some x → IsHeld r o) → (vs : List Value) → AreThere m vs → AllHeld r vs
-  all_there m names vs h = all_more (IsThere m) (RefersToHeld r) vs (there_held m names) h
+  all_there m names vs h = all_along (IsThere m) (RefersToHeld r) (there_held m names) vs h
 
 module _ (s : Start) (well : IsWellLabelled (resolved s)) where
   roots_named : (o : Oid) (x : Object) → get (map_at_start (resolved s)) o ≡ Some x → IsHeld (resolved s) o
@@ -46,5 +46,5 @@ module _ (s : Start) (well : IsWellLabelled (resolved s)) where
       let r = resolved s in
       let start = map_at_start r in
       course_held r well start (requests_of r)
-      (all_more (λ q. AreThere start q.args) (λ q. AllHeld r q.args) (requests_of r) (λ q h. all_there r start roots_named q.args h) (given_there s))
+      (all_along (λ q. AreThere start q.args) (λ q. AllHeld r q.args) (λ q h. all_there r start roots_named q.args h) (requests_of r) (given_there s))
       (record { names = roots_named; references = λ o x e. all_there r start roots_named x.fields (closed s o x e) })

@@ -3,7 +3,7 @@ use Rattle.std.proofs.Common.{ℕ, List, [], ◌∷◌, ◌++◌, map, length, O
 use Rattle.std.specs.Prelude.{slice_get}
 use Rattle.std.specs.List.{AllByRecursion, flat_map}
 use Rattle.std.proofs.lemmas.List.Elements.{recursion_from_All}
-use Rattle.fab_base.proofs.Lists.{all_split, all_flat}
+use Rattle.fab_base.proofs.Lists.{all_append, all_split, all_flat, all_along}
 use Rattle.fab_tree.specs.declared.resolved.Right.{Right}
 use Rattle.fab_tree.specs.declared.resolved.Right.TheVariants as rights
 use Rattle.fab_tree.specs.declared.resolved.Statement.{Statement, ind-Statement, roll-Statement, fold-roll-Statement, map-Statement}
@@ -16,7 +16,6 @@ use Rattle.fab_labelling.specs.declared.rule.LabelRule.TheVariants.{Write, Atomi
 use Rattle.fab_labelling.specs.Obligations.{Owed, part, under, all_flow, to_each, label_of_local, right_labels, right_owes, Owes, in_order, statement_step, statement_owes, block_owes, return_owes, failure_of, authority_of, method_owes, root_owes, session_owes, owed}
 use Rattle.fab_labelling.specs.Claims.{Holds, IsWellLabelled}
 use Rattle.fab_laws.specs.Kinds.{Kind, parameter_kinds, class_kinds, local_kinds, Claim, each_given, kind_of, right_claims, all_of, statement_claims_step, statement_claims, block_claims, method_claims, claims_of}
-use Rattle.fab_laws.proofs.Values.{all_joined, all_more}
 use Rattle.fab_shapes.proofs.Lists.{in_each}
 use Rattle.fab_held.specs.Held.{IsHeld, MakesHeld}
 
@@ -70,7 +69,7 @@ module _ (r : Resolved) where
     each [] pc failure h = tt
     each (k ∷ ks) pc failure h =
         let p = all_split Kept (owes k.0 pc failure) (all_owe (plain ks) pc failure) h in
-        all_joined (MakesHeld r) (claims k.0) (all_claims (plain ks)) (k.1.makes pc failure p.0) (each ks pc failure p.1)
+        all_append (MakesHeld r) (claims k.0) (all_claims (plain ks)) (k.1.makes pc failure p.0) (each ks pc failure p.1)
 
     abbrev pieces : s.Statement-F Known → s.Statement-F Statement
     pieces y = map-Statement Known Statement (λ k. k.0) y
@@ -88,7 +87,7 @@ module _ (r : Resolved) where
         let tested = (part r.classes locals e).owes pc failure in
         let p = all_split Kept (tested ++ all_owe (plain a) inside failure) (all_owe (plain b) inside failure) h in
         let q = all_split Kept tested (all_owe (plain a) inside failure) p.0 in
-        all_joined (MakesHeld r) (all_claims (plain a)) (all_claims (plain b)) (each a inside failure q.1) (each b inside failure p.1)
+        all_append (MakesHeld r) (all_claims (plain a)) (all_claims (plain b)) (each a inside failure q.1) (each b inside failure p.1)
     layer (s.While e a) pc failure h =
         let inside = under pc (part r.classes locals e).labels in
         each a inside failure (all_split Kept ((part r.classes locals e).owes pc failure) (all_owe (plain a) inside failure) h).1
@@ -97,7 +96,7 @@ module _ (r : Resolved) where
         let begun = all_flow Atomic at pc x.number in
         let p = all_split Kept (begun ++ all_owe (plain a) inside (Some x.number)) (all_owe (plain b) inside failure) h in
         let q = all_split Kept begun (all_owe (plain a) inside (Some x.number)) p.0 in
-        all_joined (MakesHeld r) (all_claims (plain a)) (all_claims (plain b)) (each a inside (Some x.number) q.1) (each b inside failure p.1)
+        all_append (MakesHeld r) (all_claims (plain a)) (all_claims (plain b)) (each a inside (Some x.number) q.1) (each b inside failure p.1)
     layer (s.Fail at) pc failure h = tt
 
     statements : (x : Statement) → Stands x
@@ -111,7 +110,7 @@ module _ (r : Resolved) where
     block_made [] pc failure h = tt
     block_made (x ∷ xs) pc failure h =
         let p = all_split Kept (owes x pc failure) (all_owe xs pc failure) h in
-        all_joined (MakesHeld r) (claims x) (all_claims xs) ((statements x).makes pc failure p.0) (block_made xs pc failure p.1)
+        all_append (MakesHeld r) (claims x) (all_claims xs) ((statements x).makes pc failure p.0) (block_made xs pc failure p.1)
 
   method_made : (m : Method) → AllKept (method_owes r.classes r.methods m) → AllMade (method_claims r.classes r.methods m)
   method_made m h =
@@ -132,7 +131,7 @@ module _ (r : Resolved) where
     pub all_made : AllMade (claims_of r)
     all_made =
         all_flat (MakesHeld r) (method_claims r.classes r.methods) r.methods
-        (all_more (λ m. AllKept (method_owes r.classes r.methods m)) (λ m. AllMade (method_claims r.classes r.methods m)) r.methods method_made
+        (all_along (λ m. AllKept (method_owes r.classes r.methods m)) (λ m. AllMade (method_claims r.classes r.methods m)) method_made r.methods
         (in_each Kept (method_owes r.classes r.methods) r.methods methods_and_roots.0))
 
     each_root : (xs : List Root) → AllKept (map root_owes xs) → AllByRecursion (λ x. IsHeld r x.oid) xs

@@ -1,5 +1,5 @@
 -- In a well labelled bundle a request leaves objects at stores that may hold them.
-use Rattle.std.proofs.Common.{◌≡◌, ℕ, List, [], ◌∷◌, Bool, true, false, Some, refl, sym, ◌∙◌, Option, None}
+use Rattle.std.proofs.Common.{◌≡◌, ℕ, List, Bool, true, false, Some, refl, sym, ◌∙◌, Option, None}
 use Rattle.std.specs.List.{AllByRecursion}
 use Rattle.fab_base.specs.declared.object.Oid.{Oid}
 use Rattle.fab_base.specs.declared.object.Object.{Object}
@@ -8,9 +8,7 @@ use Rattle.fab_base.specs.declared.object.Value.{Value}
 use Rattle.fab_base.specs.FlatMap.{FlatMap, get}
 use Rattle.fab_tree.specs.declared.resolved.Request.{Request}
 use Rattle.fab_tree.specs.declared.resolved.Resolved.{Resolved}
-use Rattle.fab_language.specs.declared.ending.Ending.{Ending}
-use Rattle.fab_language.specs.declared.ending.Ending.TheVariants.{Ended, Failed, Stopped, Missing}
-use Rattle.fab_language.specs.Evaluation.{tid_of, meant, if_ended, map_behind, in_turn}
+use Rattle.fab_language.specs.Evaluation.{tid_of, in_turn}
 use Rattle.fab_language.specs.Heaps.{is_among}
 use Rattle.fab_language.specs.Meaning.{Meant, meaning}
 use Rattle.fab_labelling.specs.Claims.{IsWellLabelled}
@@ -21,11 +19,12 @@ use Rattle.fab_laws.specs.Changes.{OnlyChanges}
 use Rattle.fab_laws.specs.Kinds.{Claim, given, counted, made, claims_of}
 use Rattle.fab_laws.specs.Origins.{Passes, MakesPassing, OnlyPassing}
 use Rattle.fab_laws.proofs.Changes.{leaves}
+use Rattle.fab_laws.proofs.Courses.{course_keeps}
 use Rattle.fab_laws.proofs.Placed.{meant_passes}
-use Rattle.fab_laws.proofs.Values.{all_more}
 use Rattle.fab_held.specs.Held.{IsHeld, RefersToHeld, AllHeld, HasOnlyHeld, MakesHeld, OnlyHeld}
 use Rattle.fab_held.proofs.Made.{all_made}
 use Rattle.fab_base.specs.Values.{referred}
+use Rattle.fab_base.proofs.Lists.{all_along}
 use Rattle.std.specs.Prelude.{IfSome}
 
 module _ (r : Resolved) where
@@ -68,9 +67,9 @@ module _ (r : Resolved) where
     pub meant_held : (known : FlatMap) (request : Request) (tid : Tid) (fuel : ℕ) → AllHeld r request.args → HasOnlyHeld r known → OnlyHeld r (meaning r known request tid fuel)
     meant_held known request tid fuel args h =
         let p : OnlyPassing is_held (meaning r known request tid fuel) =
-        meant_passes is_held r tid (all_more (MakesHeld r) (MakesPassing is_held tid) (claims_of r) (making tid) (all_made r well)) known request fuel
-        (all_more (RefersToHeld r) (Passes is_held) request.args passing args)
-        (λ o x e. all_more (RefersToHeld r) (Passes is_held) x.fields passing (h.references o x e)) in
+        meant_passes is_held r tid (all_along (MakesHeld r) (MakesPassing is_held tid) (making tid) (claims_of r) (all_made r well)) known request fuel
+        (all_along (RefersToHeld r) (Passes is_held) passing request.args args)
+        (λ o x e. all_along (RefersToHeld r) (Passes is_held) passing x.fields (h.references o x e)) in
         record {
           touched = λ o e. is_so o (p.touched o e);
           written = λ o e. is_so o (p.written o e);
@@ -78,19 +77,11 @@ module _ (r : Resolved) where
           missing = λ site o e. is_so o (p.missing site o e);
           objects = record {
             names = name_behind known (meaning r known request tid fuel) h (leaves known r tid request fuel).changes p;
-            references = λ o x e. all_more (Passes is_held) (RefersToHeld r) x.fields from_passing (p.objects o x e);
+            references = λ o x e. all_along (Passes is_held) (RefersToHeld r) from_passing x.fields (p.objects o x e);
           };
           result = λ v e. from_passing v (p.result v e);
         }
 
-    behind_ending : (e : Ending) (m n : FlatMap) → HasOnlyHeld r m → HasOnlyHeld r n → HasOnlyHeld r (if_ended e m n)
-    behind_ending (Ended result) m n h k = h
-    behind_ending Failed m n h k = k
-    behind_ending (Stopped stop) m n h k = k
-    behind_ending (Missing site o) m n h k = k
-
     pub course_held : (known : FlatMap) (requests : List Request) → AllByRecursion (λ q. AllHeld r q.args) requests → HasOnlyHeld r known → HasOnlyHeld r (in_turn r known requests).map
-    course_held known [] a h = h
-    course_held known (request ∷ requests) a h =
-        let k = meant_held known request (tid_of request) 1000000 a.0 h in
-        course_held (map_behind r known request) requests a.1 (behind_ending (meant r known request).ending (meant r known request).map known k.objects h)
+    course_held known requests a h =
+        (course_keeps r (HasOnlyHeld r) (λ q. AllHeld r q.args) (λ e. Unit {0}) (λ m request k args. (tt, (meant_held m request (tid_of request) 1000000 args k).objects)) known requests h a).1

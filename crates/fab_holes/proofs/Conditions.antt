@@ -3,7 +3,7 @@ use Rattle.std.proofs.Common.{◌≡◌, ℕ, suc, ◌+◌, ◌<◌, ◌≤◌, 
 use Rattle.std.specs.Prelude.{slice_get}
 use Rattle.std.specs.List.{AllByRecursion, flat_map}
 use Rattle.std.proofs.lemmas.Bool.{cases_lt}
-use Rattle.fab_base.proofs.Lists.{left_nil, right_nil, at_index}
+use Rattle.fab_base.proofs.Lists.{left_nil, right_nil, at_index, all_along}
 use Rattle.fab_tree.specs.declared.name.Name.{Name}
 use Rattle.fab_tree.specs.declared.program.Parameter.{Parameter}
 use Rattle.fab_tree.specs.declared.program.Method.{Method}
@@ -22,7 +22,6 @@ use Rattle.fab_language.specs.Uses.{label_use}
 use Rattle.fab_language.specs.MethodNumbers.{in_turn, numbered_local, method_of, methods_of}
 use Rattle.fab_language.specs.Numbers.{resolved}
 use Rattle.fab_labelling.specs.Obligations.{Claim, flows, conf, nowhere, declassifies, endorses, holds, answers_for, Owed, label_of_returns, owed}
-use Rattle.fab_laws.proofs.Values.{all_more}
 use Rattle.fab_views.proofs.Labels.{AreBelow, IsLabelledLocal, IsLabelledClass, IsLabelledMethod, HasLabels, labels_in_block}
 use Rattle.fab_views.proofs.Declared.{labels_declared}
 use Rattle.fab_holes.specs.Holes.{is_hole, holes, chosen_name, filled_parameter, filled_method, filled, IsNamed}
@@ -188,17 +187,17 @@ module _ (start : Start) (named : IsNamed start) where
   declared_methods = opened_declared (many start) (many start) (resolved start).methods 0 parts.1
 
   pub declared_classes : AllByRecursion (λ (c : Class). c.label.number < many start) (resolved start).classes
-  declared_classes = all_more (IsLabelledClass (many start)) (λ (c : Class). c.label.number < many start) (resolved start).classes (λ c h. h.label) labelled.classes
+  declared_classes = all_along (IsLabelledClass (many start)) (λ (c : Class). c.label.number < many start) (λ c h. h.label) (resolved start).classes labelled.classes
 
   -- numbers that leave declared labels as they are leave those of heads, and those that statements name
   pub stay : (f : ℕ → ℕ) → ((l : ℕ) → l < many start → f l ≡ l) → Stays f (opened (resolved start))
   stay f keeps = record {
-    classes = all_more (IsLabelledClass (many start)) (λ (c : Class). f c.label.number ≡ c.label.number) (resolved start).classes (λ c h. keeps c.label.number h.label) labelled.classes;
-    methods = all_more (IsDeclared (many start)) (MethodStays f) (opened (resolved start)).methods (λ m h. record {
+    classes = all_along (IsLabelledClass (many start)) (λ (c : Class). f c.label.number ≡ c.label.number) (λ c h. keeps c.label.number h.label) (resolved start).classes labelled.classes;
+    methods = all_along (IsDeclared (many start)) (MethodStays f) (λ m h. record {
       begin = keeps m.begin.number h.begin;
-      returns = all_more (λ l. l < many start) (λ l. f l ≡ l) (label_of_returns m.returns) keeps h.returns;
-      body = all_more (λ l. l < many start) (λ l. f l ≡ l) (labels_in_block m.body) keeps h.body;
-    }) declared_methods;
+      returns = all_along (λ l. l < many start) (λ l. f l ≡ l) keeps (label_of_returns m.returns) h.returns;
+      body = all_along (λ l. l < many start) (λ l. f l ≡ l) keeps (labels_in_block m.body) h.body;
+    }) (opened (resolved start)).methods declared_methods;
   }
 
   -- what flows is a declared label or a hole

@@ -3,6 +3,7 @@
 use Rattle.std.proofs.Common.{◌≡◌, ◌↔◌, ℕ, suc, ◌+◌, ◌-◌, ◌<◌, ◌≤◌, nat_lt, not, Bool, true, false, cond, if◌then◌else◌, List, [], ◌∷◌, ◌++◌, map, filter, length, Some, None, refl, sym, ap, ◌∙◌, subst, arith, Contains, IsBitSet}
 use Rattle.std.specs.List.{AllByRecursion, flat_map, range_with_len}
 use Rattle.std.proofs.lemmas.List.{length-append, length-map}
+use Rattle.fab_base.proofs.Lists.{all_along}
 use Rattle.fab_tree.specs.declared.program.Parameter.{Parameter}
 use Rattle.fab_tree.specs.declared.program.Method.{Method as Written}
 use Rattle.fab_tree.specs.declared.resolved.Class.{Class}
@@ -19,7 +20,6 @@ use Rattle.fab_language.specs.MethodNumbers.{in_turn, numbered_local, method_of,
 use Rattle.fab_language.specs.Numbers.{resolved}
 use Rattle.fab_labelling.specs.declared.rule.LabelRule.TheVariants.{Authority}
 use Rattle.fab_labelling.specs.Obligations.{answers_for, Owed, owe, authority_of, failure_of, block_owes, return_owes, method_owes, root_owes, request_owes, session_owes, owed}
-use Rattle.fab_laws.proofs.Values.{all_more}
 use Rattle.fab_holes.specs.Holes.{is_hole, holes_in, holes, IsNamed}
 use Rattle.fab_holes.specs.Open.{with_label, opened_local, opened_method, opened}
 use Rattle.fab_holes.specs.Least.{into_holes, LiesBelow}
@@ -96,7 +96,7 @@ module _ (start : Start) (named : IsNamed start) where
   flows_are =
       let n = many start in
       let s = opened r in
-      let heads = all_more (IsDeclared n) (HeadBelow n) s.methods (head_of n) (declared_methods start named) in
+      let heads = all_along (IsDeclared n) (HeadBelow n) (head_of n) s.methods (declared_methods start named) in
       let methods = flat_map (method_owes s.classes s.methods) s.methods in
       let roots = map root_owes s.roots in
       let sessions = flat_map (session_owes (length s.nodes)) s.sessions in

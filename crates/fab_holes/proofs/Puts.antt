@@ -1,22 +1,19 @@
 -- Labels that are put for holes in turn are those of the renamed bundle, and the places of holes are those of the text.
-use Rattle.std.proofs.Common.{◌≡◌, ℕ, zero, suc, ◌+◌, ◌<◌, ◌≤◌, inl, inr, nat_lt, not, Bool, true, false, cond, if◌then◌else◌, List, [], ◌∷◌, ◌++◌, map, filter, length, Option, Some, None, refl, sym, ap, ◌∙◌, subst, arith, drop}
+use Rattle.std.proofs.Common.{◌≡◌, ℕ, zero, suc, ◌+◌, ◌<◌, ◌≤◌, nat_lt, not, Bool, true, false, cond, if◌then◌else◌, List, [], ◌∷◌, ◌++◌, map, filter, length, Some, refl, sym, ap, ◌∙◌, arith, drop}
 use Rattle.std.specs.Prelude.{slice_get}
 use Rattle.std.specs.List.{AllByRecursion, flat_map}
-use Rattle.std.proofs.lemmas.List.{length-map}
 use Rattle.fab_tree.specs.declared.program.Parameter.{Parameter}
 use Rattle.fab_tree.specs.declared.program.Method.{Method as Written}
 use Rattle.fab_tree.specs.declared.start.Start.{Start}
 use Rattle.fab_tree.specs.declared.resolved.Local.{Local}
 use Rattle.fab_tree.specs.declared.resolved.Method.{Method}
-use Rattle.fab_tree.specs.declared.resolved.Resolved.{Resolved}
 use Rattle.fab_tree.specs.Limits.{locals_of}
-use Rattle.fab_language.specs.Uses.{label_use}
 use Rattle.fab_language.specs.MethodNumbers.{in_turn, numbered_local, method_of, methods_of}
 use Rattle.fab_language.specs.Numbers.{resolved}
 use Rattle.fab_holes.specs.Holes.{is_hole, holes_in, holes, filled, IsNamed}
-use Rattle.fab_holes.specs.Open.{with_label, opened_local, opened_method, opened, renamed_method, renamed}
+use Rattle.fab_holes.specs.Open.{with_label, opened_local, opened_method, renamed_method}
 use Rattle.fab_holes.specs.Least.{chosen_label, IsChoice}
-use Rattle.fab_holes.proofs.Choosing.{slice_some, stays_below, at_hole, lt_true, lt_false}
+use Rattle.fab_holes.proofs.Choosing.{slice_some, stays_below, at_hole, lt_true}
 use Rattle.fab_holes.proofs.Conditions.{fine, gives}
 use Rattle.fab_holes.proofs.Numbering.{many, hole_or_not, IsFine, AreFine, all_opened}
 use Rattle.fab_holes.proofs.Solving.{numbered}

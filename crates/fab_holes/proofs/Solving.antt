@@ -6,7 +6,7 @@ use Rattle.std.proofs.lemmas.Bool.{cases_lt}
 use Rattle.std.proofs.lemmas.List.{length-map, length-append}
 use Rattle.std.proofs.lemmas.List.Elements.{All-from_recursion, recursion_from_All}
 use Rattle.fab_base.specs.Principals.{Leads}
-use Rattle.fab_base.proofs.Lists.{at_index}
+use Rattle.fab_base.proofs.Lists.{at_index, all_along}
 use Rattle.fab_tree.specs.declared.resolved.Use.{Use}
 use Rattle.fab_tree.specs.declared.resolved.Method.{Method}
 use Rattle.fab_tree.specs.declared.resolved.Resolved.{Resolved}
@@ -18,7 +18,6 @@ use Rattle.fab_labelling.specs.Claims.{called_in, calls_from, Holds, IsWellLabel
 use Rattle.fab_labelling.specs.Obligations.{Claim, flows, conf, nowhere, declassifies, endorses, holds, answers_for, Owed, authority_of, owed}
 use Rattle.fab_labelling.specs.Refusals.{IsFirstRefusal}
 use Rattle.fab_labelling.proofs.OneRefusal.{one_refusal}
-use Rattle.fab_laws.proofs.Values.{all_more}
 use Rattle.fab_holes.specs.Holes.{holes, filled, IsNamed}
 use Rattle.fab_holes.specs.Open.{opened_method, opened, renamed_method, renamed, renamed_claim}
 use Rattle.fab_holes.specs.Least.{count, Goes, IsLeast, AreLeast, chosen_label, IsChoice, Solves, IsSolved, HasNoLeast, HasNoSolution}
@@ -135,11 +134,11 @@ module _ (start : Start) (named : IsNamed start) where
     pub to_holds : Solves start choice → AllHoldFor r choice
     to_holds solves =
         let all = recursion_from_All (λ (x : Owed). Holds then x.claim) (owed then) (subst IsWellLabelled numbered solves) in
-        all_more (λ (x : Owed). Holds then (renamed_claim f x.claim)) (λ (x : Owed). HoldsFor r choice x.claim) (owed (opened r)) (λ x h. holds_alike then r.methods same_bodies (renamed_claim f x.claim) h) (stays_whole.back all)
+        all_along (λ (x : Owed). Holds then (renamed_claim f x.claim)) (λ (x : Owed). HoldsFor r choice x.claim) (λ x h. holds_alike then r.methods same_bodies (renamed_claim f x.claim) h) (owed (opened r)) (stays_whole.back all)
 
     pub from_holds : AllHoldFor r choice → Solves start choice
     from_holds all =
-        let there = all_more (λ (x : Owed). HoldsFor r choice x.claim) (λ (x : Owed). Holds then (renamed_claim f x.claim)) (owed (opened r)) (λ x h. holds_alike r then.methods (alike_back then.methods r.methods same_bodies) (renamed_claim f x.claim) h) all in
+        let there = all_along (λ (x : Owed). HoldsFor r choice x.claim) (λ (x : Owed). Holds then (renamed_claim f x.claim)) (λ x h. holds_alike r then.methods (alike_back then.methods r.methods same_bodies) (renamed_claim f x.claim) h) (owed (opened r)) all in
         subst IsWellLabelled (sym numbered) (All-from_recursion (λ (x : Owed). Holds then x.claim) (owed then) (stays_whole.to there))
 
     -- by the place of what is owed
@@ -150,7 +149,7 @@ module _ (start : Start) (named : IsNamed start) where
     )
 
     declared : AllByRecursion (λ k. k < count r) choice
-    declared = all_more (λ k. k < length start.program.labels) (λ k. k < count r) choice (λ k h. subst (λ n. k < n) (sym (length-map start.program.labels (label_of start))) h) is.declared
+    declared = all_along (λ k. k < length start.program.labels) (λ k. k < count r) (λ k h. subst (λ n. k < n) (sym (length-map start.program.labels (label_of start))) h) choice is.declared
 
   module _ (choice : List ℕ) (is : IsChoice start choice) (least : AreLeast r 0 choice) where
     within_all : AllByRecursion (λ (x : Owed). IsWithin (count r + length choice) x.claim) (owed (opened r))

@@ -1,7 +1,7 @@
 -- Labels that are put for the holes of methods in turn, and the places of these.
 --
 -- A hole is a local whose label has a number behind those of the declared labels.
-use Rattle.std.specs.Prelude.{ℕ, Bool, not, nat_lt, if◌then◌else◌, List, [], ◌∷◌, map, filter, length}
+use Rattle.std.specs.Prelude.{ℕ, not, nat_lt, if◌then◌else◌, List, [], ◌∷◌, map, filter, length}
 use Rattle.std.specs.List.{flat_map}
 use Rattle.fab_tree.specs.declared.resolved.Local.{Local}
 use Rattle.fab_tree.specs.declared.resolved.Method.{Method}

@@ -90,7 +90,14 @@ changes_further w u v n entry a node is entries attempt c = record {
 }
 
 module _ (S : Setting) where
-  ready_attempt : (w : World) (e : Inner) (x : ℕ) → ((ready S w e).node x).attempt ≡ (w.node x).attempt
+  pub ready_posts : (w : World) (e : Inner) → (ready S w e).posts ≡ w.posts
+  ready_posts w (i.Begin n) = refl
+  ready_posts w (i.Resume n) = refl
+  ready_posts w (i.Deliver a b) = refl
+  ready_posts w (i.Idle n s) = refl
+  ready_posts w (i.Recover n) = refl
+
+  pub ready_attempt : (w : World) (e : Inner) (x : ℕ) → ((ready S w e).node x).attempt ≡ (w.node x).attempt
   ready_attempt w (i.Begin n) x = refl
   ready_attempt w (i.Resume n) x = refl
   ready_attempt w (i.Idle n s) x = refl

@@ -20,6 +20,7 @@ use Rattle.fab_protocol.specs.Tables.{row_of, placed, placed_all, ascends}
 use Rattle.fab_protocol.specs.Versions.{Row, Rows, name_of, objects_of, left_by, is_tid}
 use Rattle.fab_protocol.proofs.TableLaws.{row_of_placed, all_placed_all, ascends_placed_all}
 use Rattle.fab_protocol.proofs.TableLaws.{ascends_once}
+use Rattle.fab_protocol.proofs.Commits.{tid_itself}
 use Rattle.fab_world.specs.Machine.{Setting, World, kept, shelf, is_decided, held_at}
 use Rattle.fab_world.specs.Serial.{IsSetting, Excludes, within, held_map}
 use Rattle.fab_integrity.proofs.Invariant.{In, State, committed, Inv, IsWorker, IsStore, CellOk, decision_of, deals}
@@ -27,7 +28,7 @@ use Rattle.fab_integrity.proofs.Lists.{in_filter, filter_in, in_map, map_in, any
 use Rattle.fab_integrity.proofs.Lists.{in_range}
 use Rattle.fab_integrity.proofs.Maps.{put_all_other, put_all_one, same_maps, ascends_map_of, object_committed, row_once, row_listed, among_row, row_among}
 use Rattle.std.proofs.lemmas.Option.{same_Some}
-use Rattle.fab_integrity.proofs.Tids.{tid_is, tid_itself}
+use Rattle.fab_integrity.proofs.Tids.{tid_is}
 use Rattle.fab_integrity.proofs.Deals.{in_deals, deal_of, dealt}
 use Rattle.fab_integrity.proofs.Items.{may_by_items, left_here}
 use Rattle.fab_integrity.proofs.Frames.{sender_is, holder_is}

@@ -11,6 +11,7 @@ pub mod Lasting
 pub mod Deals
 pub mod Items
 pub mod Worlds
+pub mod Roles
 pub mod Transport
 -- what a change of one node leaves of the rest
 pub mod Frames

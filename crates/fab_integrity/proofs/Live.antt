@@ -13,14 +13,14 @@ use Rattle.fab_net.specs.declared.event.Inner.{Inner}
 use Rattle.fab_net.specs.declared.event.Inner.TheVariants as i
 use Rattle.fab_net.specs.declared.note.Commit.{Commit}
 use Rattle.fab_rights.specs.Computed.{is_node, is_store, is_worker, nodes_in}
-use Rattle.fab_world.specs.Machine.{Setting, World, Node, Move, Form, Does, Cuts, Fails, Posts, Crashes, Never, form_of, act, node_of, ready, at_start, step, steps}
+use Rattle.fab_world.specs.Machine.{Setting, World, Node, Move, Form, Does, Cuts, Fails, Posts, Crashes, Never, form_of, act, node_of, at_start, step, steps}
 use Rattle.fab_world.specs.Machine.{posted, enabled, are_enabled, may, record_at, kept, lacks, is_idle, is_evaluating, is_empty, is_running, is_settled}
 use Rattle.fab_world.specs.Serial.{IsSetting, IsEvaluation, Excludes, IsRun, IsLive, IsWaiting, GoesOn, ArePosts, world_of, commits_in}
 use Rattle.fab_world.specs.Workers as workers
 use Rattle.fab_world.specs.Workers.{Phase, Attempt, is_in}
 use Rattle.fab_integrity.proofs.Invariant.{In, IsWorker}
 use Rattle.fab_integrity.proofs.Lists.{in_filter}
-use Rattle.fab_integrity.proofs.Changes.{Changes, does_changes, down_changes, fails_changes, cuts_changes, posted_node, if_whole}
+use Rattle.fab_integrity.proofs.Changes.{Changes, does_changes, down_changes, fails_changes, cuts_changes, posted_node, if_whole, ready_posts}
 use Rattle.fab_integrity.proofs.Worlds.{at_other}
 use Rattle.fab_integrity.proofs.Steps.{Holds}
 use Rattle.fab_integrity.proofs.Runs.{enabled_front, excludes_none, front_run, holds_run, no_classes}
@@ -197,13 +197,6 @@ module _ (S : Setting) (given : IsSetting S) (law : IsEvaluation S) where
   waits_steps w cs good h (Crashes x) n me = waits_by w (steps S w (Crashes x)) x None workers.fresh (down_changes S w x) h (λ _. tt) n me
   waits_steps w cs good h Never n me = h.waits n me
 
-  ready_posts : (w : World) (e : Inner) → (ready S w e).posts ≡ w.posts
-  ready_posts w (i.Begin n) = refl
-  ready_posts w (i.Resume n) = refl
-  ready_posts w (i.Deliver a b) = refl
-  ready_posts w (i.Idle n s) = refl
-  ready_posts w (i.Recover n) = refl
-
   posted_posts : (w : World) → Lasts w → (x : ℕ) → S.hostile x ≡ true → (ps : List (ℕ × List ℕ)) → (k : ℕ) → S.hostile k ≡ false
       → (posted S w x ps).posts k ≡ []
   posted_posts w h x hostile [] k honest = h.posts k honest
@@ -211,8 +204,8 @@ module _ (S : Setting) (given : IsSetting S) (law : IsEvaluation S) where
       at_other w.posts x ps k (λ e. both_ways (S.hostile x) (subst (λ z. S.hostile z ≡ false) e honest) hostile) ∙ h.posts k honest
 
   posts_steps : (w : World) → Lasts w → (form : Form) → IsTrue (enabled S w form) → (k : ℕ) → S.hostile k ≡ false → (steps S w form).posts k ≡ []
-  posts_steps w h (Does e) can k honest = ap (λ (f : ℕ → List (ℕ × List ℕ)). f k) (ready_posts w e) ∙ h.posts k honest
-  posts_steps w h (Cuts keep e) can k honest = ap (λ (f : ℕ → List (ℕ × List ℕ)). f k) (ready_posts w e) ∙ h.posts k honest
+  posts_steps w h (Does e) can k honest = ap (λ (f : ℕ → List (ℕ × List ℕ)). f k) (ready_posts S w e) ∙ h.posts k honest
+  posts_steps w h (Cuts keep e) can k honest = ap (λ (f : ℕ → List (ℕ × List ℕ)). f k) (ready_posts S w e) ∙ h.posts k honest
   posts_steps w h (Fails keep e) can k honest = h.posts k honest
   posts_steps w h (Posts x) can k honest =
       let p = and_parts (is_node S.rights x && S.hostile x) (not (is_empty (w.posts x))) can in

@@ -32,6 +32,7 @@ use Rattle.fab_protocol.specs.Versions.{is_tid}
 use Rattle.fab_protocol.proofs.Records.{worker_below, last_at, last_other}
 use Rattle.fab_protocol.proofs.Senders.{sender_at, sender_other}
 use Rattle.fab_protocol.proofs.StoreActs.{answered, is_due}
+use Rattle.fab_protocol.proofs.Commits.{tid_itself}
 use Rattle.fab_world.specs.Machine.{Setting, World, at_start, kept, shelf, down, option_list}
 use Rattle.fab_world.specs.Serial.{IsSetting}
 use Rattle.fab_world.specs.Workers.{to_all, wakes}
@@ -40,7 +41,7 @@ use Rattle.fab_integrity.proofs.Invariant.{TakesPart, Before, Boots, Ordered, de
 use Rattle.fab_integrity.proofs.Lists.{in_append, in_right, in_one, in_filter, filter_in, in_map, map_in, in_any, any_in}
 use Rattle.fab_integrity.proofs.Lists.{split_at, in_middle, one_split, in_flat, flat_in}
 use Rattle.fab_integrity.proofs.Worlds.{IsAsBefore, down_entries}
-use Rattle.fab_integrity.proofs.Tids.{tid_itself, above_rank, limit_asleep, early_spelled}
+use Rattle.fab_integrity.proofs.Tids.{above_rank, limit_asleep, early_spelled}
 use Rattle.fab_integrity.proofs.Readings.{commit_back, boot_back, commit_no_prepare, commit_no_boot}
 use Rattle.fab_integrity.proofs.Lasting.{shelf_more}
 use Rattle.fab_integrity.proofs.Frames.{store_is_other, shelf_same}

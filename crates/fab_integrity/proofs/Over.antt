@@ -2,20 +2,18 @@
 --
 -- An ordinary event that may come is due as it is, or as the cut that a line makes of it, or its node's crash is due.
 use Rattle.std.proofs.Common.{◌≡◌, ℕ, ◌<◌, ◌^◌, List, Bool, true, false, not, ◌&&◌, nat_lt}
-use Rattle.std.proofs.Common.{if◌then◌else◌, IsTrue, IsFalse, Option, Some, None, is_some, length, min, refl, ap, ◌∙◌, inl, inr, arith, true≢false, sym}
-use Rattle.std.specs.List.{list_all, range_with_len}
-use Rattle.std.proofs.lemmas.Bool.{cases_Bool, and_from, and_parts, or_cases, both_ways, eq-eqb, not_from_false, not-true}
+use Rattle.std.proofs.Common.{if◌then◌else◌, IsTrue, IsFalse, Option, Some, None, is_some, length, min, refl, ap, ◌∙◌, inl, inr, true≢false, sym}
+use Rattle.std.specs.List.{list_all}
+use Rattle.std.proofs.lemmas.Bool.{cases_Bool, and_from, and_parts, both_ways, eq-eqb, not_from_false, not-true}
 use Rattle.fab_net.specs.declared.event.Inner.{Inner}
 use Rattle.fab_net.specs.declared.event.Inner.TheVariants as i
-use Rattle.fab_rights.specs.Computed.{is_node, is_store, is_worker, nodes_in}
-use Rattle.fab_rights.proofs.Bits.{bit_below, has_bit_exact}
+use Rattle.fab_rights.specs.Computed.{is_node, is_worker, nodes_in}
 use Rattle.fab_world.specs.Machine.{Setting, World, Move, Form, Does, Cuts, Fails, Posts, Crashes, Never, node_of, enabled, may, record_at, is_running}
 use Rattle.fab_world.specs.Machine.{kept, lacks, is_idle, is_evaluating, is_empty, is_settled}
 use Rattle.fab_world.specs.Serial.{IsSetting, IsEvaluation, IsRun, IsWaiting, IsOrdinary, ArePosts, world_of}
 use Rattle.fab_world.specs.Crashing.{CrashLine, IsOver, must_crash, crashes_by, cut_at, is_cut_to, target, is_due}
-use Rattle.fab_integrity.proofs.Lists.{all_in, filter_in}
-use Rattle.fab_integrity.proofs.Lists.{in_range}
 use Rattle.fab_integrity.proofs.Live.{live}
+use Rattle.fab_integrity.proofs.Roles.{at_node}
 
 -- ---- what is due where an event may come
 
@@ -117,27 +115,16 @@ module _ (S : Setting) (lines : ℕ → List CrashLine) (w : World) (moves : Lis
       let front = (and_parts (is_node S.rights n && not (S.hostile n)) (w.node n).up h).0 in (and_parts (is_node S.rights n) (not (S.hostile n)) front).0
 
   module _ (workers : S.rights.workers < 2 ^ 64) (stores : S.rights.stores < 2 ^ 64) (none : none_due ≡ true) where
-    node_below : (n : ℕ) → is_node S.rights n ≡ true → n < 64
-    node_below n is = elim (or_cases (is_worker S.rights n) (is_store S.rights n) is) [
-      | inl worker ↦ bit_below S.rights.workers n workers ((has_bit_exact S.rights.workers n).0 worker)
-      | inr store ↦ bit_below S.rights.stores n stores ((has_bit_exact S.rights.stores n).0 store)
-    ]
-
-    at_each : (f : ℕ → Bool) → list_all f (nodes_in S.rights) ≡ true → (n : ℕ) → is_node S.rights n ≡ true → f n ≡ true
-    at_each f all n is =
-        let low = node_below n is in
-        all_in f n (nodes_in S.rights) all (filter_in (is_node S.rights) n (range_with_len 0 64) (in_range 0 64 n (omega arith) (omega (arith, low))) is)
-
     -- what none_at says of a node
     module _ (n : ℕ) (is : is_node S.rights n ≡ true) where
       abbrev six : (not (comes (i.Begin n)) ≡ true) × (not (comes (i.Resume n)) ≡ true) × (not (comes (i.Recover n)) ≡ true)
           × (not (is_due S lines w moves (Posts n)) ≡ true) × (not (is_due S lines w moves (Crashes n)) ≡ true)
           × (list_all (none_between n) (nodes_in S.rights) ≡ true)
       six = all_six (not (comes (i.Begin n))) (not (comes (i.Resume n))) (not (comes (i.Recover n))) (not (is_due S lines w moves (Posts n)))
-          (not (is_due S lines w moves (Crashes n))) (list_all (none_between n) (nodes_in S.rights)) (at_each none_at none n is)
+          (not (is_due S lines w moves (Crashes n))) (list_all (none_between n) (nodes_in S.rights)) (at_node S.rights workers stores none_at none n is)
 
       between : (m : ℕ) → is_node S.rights m ≡ true → (not (comes (i.Deliver n m)) ≡ true) × (not (comes (i.Idle n m)) ≡ true)
-      between m too = and_parts (not (comes (i.Deliver n m))) (not (comes (i.Idle n m))) (at_each (none_between n) six.5 m too)
+      between m too = and_parts (not (comes (i.Deliver n m))) (not (comes (i.Idle n m))) (at_node S.rights workers stores (none_between n) six.5 m too)
 
     -- an event that comes is of nodes, and there it doesn't
     stays_out : (e : Inner) → comes e ≡ true → not (comes e) ≡ true

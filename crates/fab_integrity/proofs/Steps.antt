@@ -3,7 +3,7 @@ use Rattle.std.specs.Prelude.{◌≡◌, ◌⊎◌, ℕ, ◌+◌, ◌≤◌, Boo
 use Rattle.std.specs.Prelude.{List, [], ◌∷◌, ◌++◌, length, Option, Some, None, fold}
 use Rattle.std.specs.List.{filter, flat_map, AllByRecursion}
 use Rattle.std.proofs.Common.{refl, sym, ap, ◌∙◌, subst, inl, inr, arith}
-use Rattle.std.proofs.lemmas.Bool.{cases_eq, cases_Bool, and_parts, both_ways, or_cases, not-true, false_from_ne_true, true≢false}
+use Rattle.std.proofs.lemmas.Bool.{cases_eq, cases_Bool, and_parts, both_ways, or_cases, not-true, true≢false}
 use Rattle.std.proofs.lemmas.List.{append-nil}
 use Rattle.fab_base.specs.declared.object.Tid.{Tid}
 use Rattle.fab_base.specs.declared.message.Message.{Message}
@@ -15,7 +15,7 @@ use Rattle.fab_net.specs.declared.event.Inner.{Inner}
 use Rattle.fab_net.specs.declared.event.Inner.TheVariants as i
 use Rattle.fab_net.specs.declared.note.Commit.{Commit}
 use Rattle.fab_rights.specs.Computed.{is_node, is_worker, is_store}
-use Rattle.fab_protocol.specs.Stores.{Shelf, says, asks, does, is_own}
+use Rattle.fab_protocol.specs.Stores.{Shelf, asks, does, is_own}
 use Rattle.fab_protocol.specs.Stores.{silent, hears}
 use Rattle.fab_world.specs.Machine.{Setting, World, Node, Form, Does, Cuts, Fails, Posts, Crashes, Never, with_at, rest_of, front_of, is_empty}
 use Rattle.fab_world.specs.Machine.{option_list, record_behind, record_at, kept, shelf, act, node_of, ready, lands, cut, at_node, down, steps, posted}
@@ -33,6 +33,7 @@ use Rattle.fab_integrity.proofs.Plain.{is_boot, plain_begins, plain_resumes, pla
 use Rattle.fab_integrity.proofs.Transport.{out_of, mutes, taken_queue, other_queue, queue_behind, queue_beside, waiting_sent, waiting_is, front_in, front_and_rest}
 use Rattle.fab_integrity.proofs.Transport.{bytes_for}
 use Rattle.fab_integrity.proofs.Frames.{calm, outsider, keeps_down, apart_by_D, store_is_other}
+use Rattle.fab_integrity.proofs.Roles.{heard_by_store, no_worker}
 use Rattle.fab_integrity.proofs.StoreSteps.{store_hears, store_asks}
 use Rattle.fab_integrity.proofs.Orders.{ordered_calm, ordered_acts, ordered_wakes, ordered_hears, front_boot, ordered_down}
 use Rattle.fab_integrity.proofs.WorkerSteps.{Done, HasRoom, acted_done}
@@ -62,6 +63,17 @@ may_node S w (i.Resume n) can = (and_parts _ _ (and_parts _ _ (and_parts _ _ can
 may_node S w (i.Deliver a b) can = (and_parts _ _ (and_parts _ _ (and_parts _ _ (and_parts _ _ can).0).0).0).0
 may_node S w (i.Idle n s) can = (and_parts _ _ (and_parts _ _ (and_parts _ _ (and_parts _ _ (and_parts _ _ can).0).0).0).0).0
 may_node S w (i.Recover n) can = (and_parts _ _ (and_parts _ _ (and_parts _ _ can).0).0).0
+
+-- and of a node alone that isn't hostile
+pub running_honest : (S : Setting) (w : World) (n : ℕ) → IsTrue (is_running S w n) → S.hostile n ≡ false
+running_honest S w n h = not-true (S.hostile n) (and_parts _ _ (and_parts _ _ h).0).1
+
+pub may_honest : (S : Setting) (w : World) (e : Inner) → IsTrue (may S w e) → S.hostile (node_of e) ≡ false
+may_honest S w (i.Begin n) can = running_honest S w n (and_parts _ _ (and_parts _ _ (and_parts _ _ can).0).0).0
+may_honest S w (i.Resume n) can = running_honest S w n (and_parts _ _ can).0
+may_honest S w (i.Deliver a b) can = running_honest S w b (and_parts _ _ (and_parts _ _ can).0).0
+may_honest S w (i.Idle n s) can = running_honest S w n (and_parts _ _ (and_parts _ _ (and_parts _ _ can).0).0).0
+may_honest S w (i.Recover n) can = not-true (S.hostile n) (and_parts _ _ (and_parts _ _ (and_parts _ _ can).0).0).1
 
 -- ---- what an event's act decides is its node's, and but for a restart a worker sends no Boot
 
@@ -323,17 +335,6 @@ module _ (S : Setting) (D ex : ℕ → Bool) where
 
     -- ---- a store outside D
 
-    no_worker : (n : ℕ) → IsTrue (is_store S.rights n) → is_worker S.rights n ≡ false
-    no_worker n is = false_from_ne_true (is_worker S.rights n) (λ w. both_ways (is_store S.rights n) (given.apart n w) is)
-
-    -- what a store hears is an act of its own
-    store_act : (w : World) (a n : ℕ) → is_worker S.rights n ≡ false → (heard : Option Message)
-        → machine.hears S w a n heard ≡ of_store S (w.node n).attempt (hears S.rights n a heard (shelf S w n))
-    store_act w a n no_ None = refl
-    store_act w a n no_ (Some message) =
-        ap (λ b. if b then takes S.rights S.cache n (kept S w n) a message (w.node n).attempt (machine.parts S w n)
-        else of_store S (w.node n).attempt (says S.rights n a message (shelf S w n))) no_
-
     heard_calm : (s n : ℕ) (heard : Option Message) (shelf : Shelf) → noted_commits (hears S.rights s n heard shelf).notes ≡ []
     heard_calm s n None shelf = refl
     heard_calm s n (Some message) shelf = (quiet_says S.rights s n message shelf).none
@@ -374,7 +375,7 @@ module _ (S : Setting) (D ex : ℕ → Bool) where
             | inl same ↦ ordered_calm S D ex given w v cs h.ordered (λ x hx. l.follows.others x (not_worker x hx))
                 (λ s hs. elim (cases_eq s n) [
                   | inl e ↦ ap (λ z. (v.node z).entries) e ∙ landed.entries
-                      ∙ ap (λ x. (w.node n).entries ++ option_list x) (unheard_of n a heard (shelf S w n) (ap (is_worker S.rights) same ∙ no_worker n me.kind))
+                      ∙ ap (λ x. (w.node n).entries ++ option_list x) (unheard_of n a heard (shelf S w n) (ap (is_worker S.rights) same ∙ no_worker S given n me.kind))
                       ∙ append-nil (w.node n).entries ∙ ap (λ z. (w.node z).entries) (sym e)
                   | inr ne ↦ (l.follows.others s ne).entries
                 ])
@@ -396,7 +397,7 @@ module _ (S : Setting) (D ex : ℕ → Bool) where
           mine = of_store S (w.node n).attempt (hears S.rights n a heard (shelf S w n))
 
           is : act S w (i.Deliver a n) ≡ of_store S (w.node n).attempt (hears S.rights n a heard (shelf S w n))
-          is = store_act w a n (no_worker n me.kind) heard
+          is = heard_by_store S given w n a me.kind heard
 
           landed : Lands n (of_store S (w.node n).attempt (hears S.rights n a heard (shelf S w n))) w v
           landed = subst (λ x. Lands n x w v) is l
@@ -405,7 +406,7 @@ module _ (S : Setting) (D ex : ℕ → Bool) where
           → Holds v (cs ++ noted_outside D (act S w (i.Recover n)).notes)
       store_wakes l q =
           let is : act S w (i.Recover n) ≡ of_store S (w.node n).attempt (asks (shelf S w n)) =
-          ap (λ b. if b then wakes S.rights S.cache n (kept S w n) else of_store S (w.node n).attempt (asks (shelf S w n))) (no_worker n me.kind) in
+          ap (λ b. if b then wakes S.rights S.cache n (kept S w n) else of_store S (w.node n).attempt (asks (shelf S w n))) (no_worker S given n me.kind) in
           let landed = subst (λ x. Lands n x w v) is l in
           subst (λ xs. Holds v (cs ++ filter (λ c. not (D c.worker)) xs)) (sym (ap (λ (x : Act). flat_map commit_in x.notes) is))
           (subst (Holds v) (sym (append-nil cs))
@@ -422,7 +423,7 @@ module _ (S : Setting) (D ex : ℕ → Bool) where
         → IsTrue (may S w e)
         → Lands (node_of e) (act S w e) w v → Queues S w e (act S w e) v → Holds v (cs ++ noted_outside D (act S w e).notes)
     acted_of_store hyp w v cs h few (i.Begin n) me can l q =
-        absurd (both_ways (is_worker S.rights n) (no_worker n me.kind) (and_parts _ _ (and_parts _ _ (and_parts _ _ can).0).0).1)
+        absurd (both_ways (is_worker S.rights n) (no_worker S given n me.kind) (and_parts _ _ (and_parts _ _ (and_parts _ _ can).0).0).1)
     acted_of_store hyp w v cs h few (i.Resume n) me can l q = absurd (true≢false (sym (and_parts _ _ can).1 ∙ ap is_evaluating (h.idle n me)))
     acted_of_store hyp w v cs h few (i.Idle n s) me can l q = absurd (lacks_none s (w.node n).attempt.phase (h.idle n me) (and_parts _ _ (and_parts _ _ can).0).1)
     acted_of_store hyp w v cs h few (i.Deliver a n) me can l q = store_delivers hyp w v cs h few n me a can l q

@@ -8,6 +8,7 @@ use Rattle.fab_base.specs.declared.object.Tid.{Tid}
 use Rattle.fab_base.specs.FieldSpelling.{IsTid}
 use Rattle.fab_base.specs.Tids.{is_above}
 use Rattle.fab_protocol.specs.Versions.{is_tid, maker_of, is_made_in}
+use Rattle.fab_protocol.proofs.Commits.{tid_itself}
 use Rattle.fab_world.specs.Workers as workers
 use Rattle.fab_world.specs.Workers.{Attempt, Kept, Phase, tid_of}
 use Rattle.fab_integrity.proofs.Invariant.{Standing, limit, limit_in, limit_at, rank, rank_of}
@@ -20,9 +21,6 @@ tid_is t u h =
     let a = and_parts (t.worker == u.worker) ((t.boot == u.boot) && (t.number == u.number)) h in
     let b = and_parts (t.boot == u.boot) (t.number == u.number) a.1 in
     λ i. record { worker = eqb-true t.worker u.worker a.0 i; boot = eqb-true t.boot u.boot b.0 i; number = eqb-true t.number u.number b.1 i }
-
-pub tid_itself : (t : Tid) → is_tid t t ≡ true
-tid_itself t = grind (arith, nat_tests)
 
 pub tid_same : (t u : Tid) → t ≡ u → IsTrue (is_tid t u)
 tid_same t u e = subst (λ x. IsTrue (is_tid t x)) e (tid_itself t)

@@ -1,6 +1,7 @@
 -- What a set of nodes may read is closed under what confidentiality owes, so it learns of asking in view alone.
 use Rattle.std.proofs.Common.{ℕ, Bool, length}
 use Rattle.std.proofs.lemmas.List.Elements.{recursion_from_All}
+use Rattle.fab_base.proofs.Lists.{all_two}
 use Rattle.fab_tree.specs.declared.resolved.Resolved.{Resolved}
 use Rattle.fab_language.specs.Flows.{delegations_of}
 use Rattle.fab_labels.proofs.FlowLemmas.{covered_by_denial}
@@ -8,7 +9,6 @@ use Rattle.fab_labelling.specs.Claims.{Holds, IsWellLabelled}
 use Rattle.fab_labelling.specs.Obligations.{Claim, flows, conf, nowhere, declassifies, endorses, holds, answers_for, owed}
 use Rattle.fab_labelling.specs.Readers.{IsVisible, label_at, principal_of}
 use Rattle.fab_places.proofs.LawLemmas.{within_all_covered}
-use Rattle.fab_shapes.proofs.Lists.{from_two}
 use Rattle.fab_erasure.specs.Agreement.{IsView}
 use Rattle.fab_fewer.specs.Asking.{IsKeptByAccess, LearnsAsking}
 use Rattle.fab_views.specs.Views.{IsSeenBy}
@@ -38,7 +38,7 @@ module _ (r : Resolved) (nodes : ℕ) (sees shows : ℕ → Bool) (seen : IsSeen
   pub learns_asking : HasLabels r → IsWellLabelled r → IsView sees shows r → LearnsAsking sees shows r
   learns_asking declared labelled view = record {
     kept =
-        from_two (λ x. Holds r x.claim) (λ x. IsFrom (length r.labels) x.claim) (λ x. IsKeptByAccess sees shows r x.claim) (owed r) (λ x. kept_by_access x.claim)
+        all_two (λ x. Holds r x.claim) (λ x. IsFrom (length r.labels) x.claim) (λ x. IsKeptByAccess sees shows r x.claim) (λ x. kept_by_access x.claim) (owed r)
         (recursion_from_All (λ x. Holds r x.claim) (owed r) labelled) (flows_from_declared r declared);
     one_place = view.one_place;
     fitting = view.fitting;

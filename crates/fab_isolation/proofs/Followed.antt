@@ -3,13 +3,11 @@ use Rattle.std.proofs.Common.{◌≡◌, ℕ, ◌||◌, Bool, true, false, cond,
 use Rattle.std.specs.Prelude.{option_map, slice_get}
 use Rattle.std.specs.List.{filter, AllByRecursion}
 use Rattle.std.proofs.lemmas.Bool.{false≢true, and_from, or_right}
-use Rattle.fab_base.specs.declared.object.Object.{Object}
 use Rattle.fab_base.specs.declared.object.Oid.{Oid}
 use Rattle.fab_base.specs.declared.object.Tid.{Tid}
 use Rattle.fab_base.specs.declared.object.Value.{Value}
 use Rattle.fab_base.specs.FieldSpelling.{IsTid}
-use Rattle.fab_base.specs.FlatMap.{FlatMap, get, is_among, is_same, ascends}
-use Rattle.fab_base.proofs.NameOrder.{one_name}
+use Rattle.fab_base.specs.FlatMap.{FlatMap, is_among, is_same, ascends}
 use Rattle.fab_base.proofs.Names.{same_self}
 use Rattle.fab_base.proofs.Lists.{all_along}
 use Rattle.fab_tree.specs.declared.start.Start.{Start}
@@ -29,7 +27,7 @@ use Rattle.fab_world.specs.Machine.{Setting}
 use Rattle.fab_world.specs.Serial.{AreFit, IsFit}
 use Rattle.fab_settings.specs.Settings.{meant_of, request_at, setting_of}
 use Rattle.fab_settings.proofs.Fitting.{sound_of}
-use Rattle.fab_settings.proofs.Meanings.{evaluates}
+use Rattle.fab_settings.proofs.Meanings.{evaluates, found_row}
 use Rattle.fab_settings.proofs.Given.{asked_sound, few, fits}
 use Rattle.fab_erasure.specs.Erased.{blank_result, erased}
 use Rattle.fab_erasure.specs.Agreement.{IsSettled, IsView, begins_in_view, given_by, in_view, result_seen, rows_shown}
@@ -51,17 +49,6 @@ use Rattle.fab_isolation.proofs.Asking.{learns_asking}
 use Rattle.fab_isolation.proofs.Requests.{public_request, same_erased}
 use Rattle.fab_isolation.proofs.Roots.{roots_shown}
 use Rattle.fab_isolation.proofs.Sights.{held_is_asked, held_is_shown, fetched_is_shown}
-
--- what holds of each row holds of what is found
-found_row : (P : Oid × Object → Type 0) (rows : FlatMap) → AllByRecursion P rows → (o : Oid) (x : Object) → get rows o ≡ Some x → P (o, x)
-found_row P [] h o x e = cc
-found_row P (row ∷ rows) h o x e = by (is_same row.0 o) refl e (λ g. found_row P rows h.1 o x g)
-  where
-    by : (b : Bool) → is_same row.0 o ≡ b → cond b (Some row.1) (get rows o) ≡ Some x → (get rows o ≡ Some x → P (o, x)) → P (o, x)
-    by true i g later =
-        let same : row.1 ≡ x = cc in
-        subst (λ q. P (q, x)) (one_name row.0 o i) (subst (λ y. P (row.0, y)) same h.0)
-    by false i g later = later g
 
 or_left : (b c : Bool) → b ≡ true → (b || c) ≡ true
 or_left true c e = refl

@@ -1,5 +1,5 @@
 -- A run posts no more than its bundle has to post.
-use Rattle.std.proofs.Common.{◌≡◌, ◌⊎◌, inl, inr, ℕ, zero, suc, ◌+◌, ◌≤◌, ◌<◌, ◌==◌, ◌&&◌, ◌||◌, ◌^◌, not, Bool, true, false, cond, IsTrue, List, [], ◌∷◌, fold, length, None, refl, ap, ◌∙◌, arith}
+use Rattle.std.proofs.Common.{◌≡◌, ◌⊎◌, inl, inr, ℕ, zero, suc, ◌+◌, ◌≤◌, ◌<◌, ◌==◌, ◌&&◌, not, true, false, cond, IsTrue, List, [], ◌∷◌, fold, length, None, refl, ap, ◌∙◌, arith}
 use Rattle.std.specs.List.{filter}
 use Rattle.std.proofs.lemmas.Bool.{false≢true, and_parts, cases_eq, eq-eqb, ne_eqb}
 use Rattle.std.proofs.lemmas.List.{length-map}
@@ -9,13 +9,11 @@ use Rattle.fab_tree.specs.declared.resolved.Post.{Post}
 use Rattle.fab_tree.specs.Limits.{first_passed}
 use Rattle.fab_tree.proofs.Within.{is_within}
 use Rattle.fab_language.specs.Numbers.{resolved, post_of}
-use Rattle.fab_rights.specs.declared.rights.Rights.{Rights}
-use Rattle.fab_rights.specs.Computed.{is_node, has_bit}
-use Rattle.fab_rights.proofs.Bits.{bit_below, has_bit_exact}
-use Rattle.fab_net.specs.declared.event.Inner.{Inner}
-use Rattle.fab_net.specs.declared.event.Inner.TheVariants as i
-use Rattle.fab_world.specs.Machine.{Setting, World, Move, Form, Does, Cuts, Fails, Posts, Crashes, Never, with_at, form_of, ready, posted, steps, step, enabled, are_enabled, runs, at_start, is_empty}
+use Rattle.fab_rights.specs.Computed.{is_node}
+use Rattle.fab_world.specs.Machine.{Setting, World, Move, Form, Does, Cuts, Fails, Posts, Crashes, Never, with_at, form_of, posted, steps, step, enabled, are_enabled, runs, at_start, is_empty}
 use Rattle.fab_settings.specs.Settings.{posts_of, setting_of}
+use Rattle.fab_integrity.proofs.Changes.{ready_posts}
+use Rattle.fab_integrity.proofs.Roles.{node_below}
 use Rattle.fab_release.specs.Isolation.{posts_at}
 use Rattle.fab_isolation.specs.Law.{BundlesPostFew}
 
@@ -57,20 +55,13 @@ module _ (S : Setting) (below : (n : ℕ) → is_node S.rights n ≡ true → n 
   abbrev left : World → ℕ
   left v = left_below v.posts 64
 
-  ready_posts : (v : World) (e : Inner) → (ready S v e).posts ≡ v.posts
-  ready_posts v (i.Begin n) = refl
-  ready_posts v (i.Resume n) = refl
-  ready_posts v (i.Deliver a b) = refl
-  ready_posts v (i.Idle n s) = refl
-  ready_posts v (i.Recover n) = refl
-
   posted_one : (v : World) (h : ℕ) → h < 64 → (posts : List (ℕ × List ℕ)) → v.posts h ≡ posts → not (is_empty posts) ≡ true → suc (left (posted S v h posts)) ≡ left v
   posted_one v h low [] e some = absurd (false≢true some)
   posted_one v h low (post ∷ more) e some = one_less v.posts h post more e 64 low
 
   step_left : (v : World) (form : Form) → IsTrue (enabled S v form) → left (steps S v form) + posts_at form ≡ left v
-  step_left v (Does e) can = let h = ap (λ (f : ℕ → List (ℕ × List ℕ)). left_below f 64) (ready_posts v e) in omega (arith, h)
-  step_left v (Cuts keep e) can = let h = ap (λ (f : ℕ → List (ℕ × List ℕ)). left_below f 64) (ready_posts v e) in omega (arith, h)
+  step_left v (Does e) can = let h = ap (λ (f : ℕ → List (ℕ × List ℕ)). left_below f 64) (ready_posts S v e) in omega (arith, h)
+  step_left v (Cuts keep e) can = let h = ap (λ (f : ℕ → List (ℕ × List ℕ)). left_below f 64) (ready_posts S v e) in omega (arith, h)
   step_left v (Fails keep e) can = omega arith
   step_left v (Posts h) can =
       let p = and_parts (is_node S.rights h && S.hostile h) (not (is_empty (v.posts h))) can in
@@ -140,18 +131,10 @@ as_long r (suc n) =
 few_posts : (s : Start) → first_passed s ≡ None → length s.posts ≤ 10000
 few_posts s limits = (is_within s limits).posts
 
-node_below : (r : Rights) (n : ℕ) → r.workers < 2 ^ 64 → r.stores < 2 ^ 64 → is_node r n ≡ true → n < 64
-node_below r n workers stores h = one_of (has_bit r.workers n) (has_bit r.stores n) refl refl h
-  where
-    one_of : (a b : Bool) → has_bit r.workers n ≡ a → has_bit r.stores n ≡ b → (a || b) ≡ true → n < 64
-    one_of true b p q h = bit_below r.workers n workers ((has_bit_exact r.workers n).0 p)
-    one_of false true p q h = bit_below r.stores n stores ((has_bit_exact r.stores n).0 q)
-    one_of false false p q h = absurd (false≢true h)
-
 pub post_few : BundlesPostFew
 post_few s rights accepted moves run =
     let S = setting_of (resolved s) rights in
-    let counted = run_left S (λ n h. node_below rights n accepted.workers accepted.stores h) (at_start S) moves 0 run.enabled in
+    let counted = run_left S (λ n h. node_below rights accepted.workers accepted.stores n h) (at_start S) moves 0 run.enabled in
     let long = as_long (resolved s) 64 in
     let sent = all_sent (resolved s).posts 64 in
     let mapped = length-map s.posts (post_of s) in

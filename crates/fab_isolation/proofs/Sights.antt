@@ -1,5 +1,5 @@
 -- What a set of nodes of an accepted bundle sees: the classes that its stores may hold and its workers may fetch.
-use Rattle.std.proofs.Common.{◌≡◌, ℕ, ◌<◌, ◌||◌, Bool, true, false, IsTrue, length, Option, Some, None, refl, sym, ◌∙◌, arith, IsBitSet, IsSomeAnd}
+use Rattle.std.proofs.Common.{◌≡◌, ℕ, ◌<◌, ◌||◌, Bool, true, false, IsTrue, length, Option, Some, None, refl, sym, ◌∙◌, IsBitSet, IsSomeAnd}
 use Rattle.std.specs.Prelude.{slice_get, option_map}
 use Rattle.std.specs.List.{list_any}
 use Rattle.std.proofs.lemmas.Bool.{true≢false}

@@ -32,28 +32,36 @@ fn account(alloc: Global, value: i32) -> Result<Object, NoMemory> {
     })
 }
 
-fn with_a_new_one(alloc: Global) -> Result<Frames, FrameError> {
+fn with_a_new_one<'a>(alloc: Global) -> Result<Frames<'a>, FrameError> {
     let answers = vec![in alloc; (ACCOUNT, 5, account(alloc, 100)?)]?;
     let mut frames = Frames::make(alloc, &answers)?;
     frames.create(NEW, account(alloc, 1)?)?;
     Ok(frames)
 }
 
-fn undone(frames: &mut Frames) -> Result<Value, FrameError> {
+fn in_the_place_of_one<'a>(alloc: Global) -> Result<Frames<'a>, FrameError> {
+    let answers = vec![in alloc; (ACCOUNT, 5, account(alloc, 100)?)]?;
+    let mut frames = Frames::make(alloc, &answers)?;
+    frames.enter()?;
+    frames.create(ACCOUNT, account(alloc, 1)?)?;
+    Ok(frames)
+}
+
+fn undone(frames: &mut Frames<'_>) -> Result<Value, FrameError> {
     frames.enter()?;
     frames.write(3, ACCOUNT, 0, Value::Int(95))?;
     frames.abort();
     frames.read(5, ACCOUNT, 0)
 }
 
-fn kept(frames: &mut Frames) -> Result<Value, FrameError> {
+fn kept(frames: &mut Frames<'_>) -> Result<Value, FrameError> {
     frames.enter()?;
     frames.write(3, ACCOUNT, 0, Value::Int(95))?;
     frames.merge()?;
     frames.read(5, ACCOUNT, 0)
 }
 
-fn counts(frames: &Frames) -> Result<(usize, usize), FrameError> {
+fn counts(frames: &Frames<'_>) -> Result<(usize, usize), FrameError> {
     let (writes, creates) = frames.changed()?;
     Ok((writes.len(), creates.len()))
 }
@@ -64,5 +72,14 @@ fn a_write_is_undone_and_one_is_kept(rt: HostRuntime) -> Result<(), Fail> {
     assert!(rt; undone(&mut frames)? == Value::Int(100));
     assert!(rt; kept(&mut frames)? == Value::Int(95));
     assert!(rt; counts(&frames)? == (1, 1));
+    Ok(())
+}
+
+#[test]
+fn one_that_was_known_comes_back(rt: HostRuntime) -> Result<(), Fail> {
+    let mut frames = in_the_place_of_one(rt.alloc())?;
+    assert!(rt; frames.read(5, ACCOUNT, 0)? == Value::Int(1));
+    frames.abort();
+    assert!(rt; frames.read(5, ACCOUNT, 0)? == Value::Int(100));
     Ok(())
 }

@@ -278,6 +278,7 @@ module _ (known : FlatMap) (program : Resolved) (tid : Tid) where
     same = λ t. record { still = λ o i. i };
     then_on = λ t u v g h. record { still = λ o i. h.still o (g.still o i) };
     of_number = λ t w v e. tt;
+    operated = λ t k l a b v i p q. tt;
     of_null = λ t. tt;
     still = λ t u k v g h. tt;
     fitted = λ t taker k v m h. tt;

@@ -15,17 +15,19 @@ use Rattle.fab_tree.specs.declared.resolved.Sort.{Sort}
 use Rattle.fab_tree.specs.declared.resolved.Sort.TheVariants as sorts
 use Rattle.fab_tree.specs.declared.resolved.Request.{Request}
 use Rattle.fab_tree.specs.declared.resolved.Resolved.{Resolved}
-use Rattle.fab_language.specs.declared.ending.Ending.{Ending}
-use Rattle.fab_language.specs.declared.ending.Ending.TheVariants.{Ended, Failed, Stopped, Missing}
+use Rattle.fab_language.specs.declared.ending.Ending.TheVariants.{Ended}
 use Rattle.fab_language.specs.Heaps.{Heap}
 use Rattle.fab_language.specs.Meaning.{State, failed, stopped, missing, Run, with_field, next_name, default, locals_at_start, requested, meant_by, meaning, state_at_start}
-use Rattle.fab_language.specs.Evaluation.{tid_of, meant, if_ended, map_behind, in_turn}
+use Rattle.fab_language.specs.Evaluation.{tid_of, meant, in_turn}
 use Rattle.fab_laws.specs.Kinds.{Kind, Claim, parameter_kinds}
 use Rattle.fab_laws.specs.Closed.{HasOne, IsThere, AreThere, IsClosed, IsFound, IsClosedBehind}
-use Rattle.fab_laws.proofs.Values.{at_place, all_set, all_at_start, all_more, number_leads_nowhere}
+use Rattle.fab_laws.proofs.Courses.{course_keeps}
+use Rattle.fab_laws.proofs.Maps.{put_keeps}
+use Rattle.fab_laws.proofs.Values.{at_place, all_set, all_at_start, number_leads_nowhere}
 use Rattle.fab_laws.proofs.Walk as w
 use Rattle.fab_laws.proofs.Walk.{Result, on, off, Finds, made_one, touched_one, Replaces, again, fresh}
 use Rattle.fab_base.specs.Values.{referred}
+use Rattle.fab_base.proofs.Lists.{all_along}
 
 -- each object of the one map has its name in the other
 pub record Grown (m n : FlatMap) : Type 0 where
@@ -39,7 +41,7 @@ there_still m n v g = by (referred v)
     by (Some o) h = g.still o h.0 h.1
 
 all_still : (m n : FlatMap) (vs : List Value) → Grown m n → AreThere m vs → AreThere n vs
-all_still m n vs g h = all_more (IsThere m) (IsThere n) vs (λ v p. there_still m n v g p) h
+all_still m n vs g h = all_along (IsThere m) (IsThere n) (λ v p. there_still m n v g p) vs h
 
 same_map : (m : FlatMap) → Grown m m
 same_map m = record { still = λ o x e. (x, e) }
@@ -47,24 +49,17 @@ same_map m = record { still = λ o x e. (x, e) }
 grown_on : (m n k : FlatMap) → Grown m n → Grown n k → Grown m k
 grown_on m n k g h = record { still = λ o x e. let t = g.still o x e in h.still o t.0 t.1 }
 
-put_grown : (o : Oid) (y : Object) (m : FlatMap) → Grown m (put o y m)
+pub put_grown : (o : Oid) (y : Object) (m : FlatMap) → Grown m (put o y m)
 put_grown o y m = record { still = λ p x e. at p x e (is_same o p) refl }
   where
     at : (p : Oid) (x : Object) → get m p ≡ Some x → (b : Bool) → is_same o p ≡ b → HasOne (put o y m) p
     at p x e true i = (y, ap (get (put o y m)) (sym (one_name o p i)) ∙ get-put_same o y m)
     at p x e false i = (x, get-put_other o p y m i ∙ e)
 
-some_one : {A : Type 0} (x y : A) → Some x ≡ Some y → x ≡ y
-some_one x y h = cc
-
 put_closed : (o : Oid) (y : Object) (m : FlatMap) → IsClosed m → AreThere m y.fields → IsClosed (put o y m)
-put_closed o y m c h p z e = at (is_same o p) refl
-  where
-    at : (b : Bool) → is_same o p ≡ b → AreThere (put o y m) z.fields
-    at true i =
-        let f : y ≡ z = some_one y z (sym (ap (get (put o y m)) (sym (one_name o p i)) ∙ get-put_same o y m) ∙ e) in
-        subst (λ x. AreThere (put o y m) x.fields) f (all_still m (put o y m) y.fields (put_grown o y m) h)
-    at false i = all_still m (put o y m) z.fields (put_grown o y m) (c p z (sym (get-put_other o p y m i) ∙ e))
+put_closed o y m c h =
+    let still : (x : Object) → AreThere m x.fields → AreThere (put o y m) x.fields = λ x. all_still m (put o y m) x.fields (put_grown o y m) in
+    put_keeps (λ p x. AreThere (put o y m) x.fields) o y m (λ p x e. still x (c p x e)) (still y h)
 
 -- what holds along a run
 pub record Good (ls : List Kind) (t : State) : Type 0 where
@@ -124,6 +119,7 @@ module _ (program : Resolved) (tid : Tid) where
     same = λ t. record { grown = same_map t.heap.rows };
     then_on = λ t u v g h. record { grown = grown_on t.heap.rows u.heap.rows v.heap.rows g.grown h.grown };
     of_number = λ t w v e. number_leads_nowhere _ w v e;
+    operated = λ t k l a b v i h g. number_leads_nowhere _ i.width v i.is_one;
     of_null = λ t. tt;
     still = λ t u k v g h. there_still t.heap.rows u.heap.rows v g.grown h;
     fitted = λ t taker k v m h. h;
@@ -184,20 +180,13 @@ module _ (program : Resolved) (tid : Tid) where
 
 -- ---- requests one after the other
 
-args_still : (m n : FlatMap) (requests : List Request) → Grown m n → AllByRecursion (λ r. AreThere m r.args) requests → AllByRecursion (λ r. AreThere n r.args) requests
-args_still m n requests g h = all_more (λ r. AreThere m r.args) (λ r. AreThere n r.args) requests (λ r p. all_still m n r.args g p) h
-
 module _ (program : Resolved) where
-  behind_ending : (e : Ending) (m n : FlatMap) → IsClosed m → IsClosed n → Grown n m → IsClosed (if_ended e m n) × Grown n (if_ended e m n)
-  behind_ending (Ended r) m n h k g = (h, g)
-  behind_ending Failed m n h k g = (k, same_map n)
-  behind_ending (Stopped stop) m n h k g = (k, same_map n)
-  behind_ending (Missing site o) m n h k g = (k, same_map n)
-
   pub course_closed : (known : FlatMap) (requests : List Request) → IsClosed known → AllByRecursion (λ r. AreThere known r.args) requests → AllByRecursion IsFound (in_turn program known requests).endings × IsClosed (in_turn program known requests).map
-  course_closed known [] h a = (tt, h)
-  course_closed known (request ∷ requests) h a =
-      let c = meant_closed program (tid_of request) known request 1000000 h a.0 in
-      let b = behind_ending (meant program known request).ending (meant program known request).map known c.closed h (record { still = c.still }) in
-      let t = course_closed (map_behind program known request) requests b.0 (args_still known (map_behind program known request) requests b.1 a.1) in
-      ((c.found, t.0), t.1)
+  course_closed known requests h a =
+      let t = course_keeps program (λ m. IsClosed m × Grown known m) (λ r. AreThere known r.args) IsFound one known requests (h, same_map known) a in
+      (t.0, t.1.0)
+    where
+      one : (m : FlatMap) (request : Request) → IsClosed m × Grown known m → AreThere known request.args → IsFound (meant program m request).ending × (IsClosed (meant program m request).map × Grown known (meant program m request).map)
+      one m request k args =
+          let c = meant_closed program (tid_of request) m request 1000000 k.0 (all_still known m request.args k.1 args) in
+          (c.found, (c.closed, grown_on known m (meant program m request).map k.1 (record { still = c.still })))

@@ -15,15 +15,19 @@ use Rattle.fab_tree.specs.declared.resolved.Sort.TheVariants as sorts
 use Rattle.fab_tree.specs.declared.resolved.Class.{Class}
 use Rattle.fab_tree.specs.declared.resolved.Local as locals
 use Rattle.fab_tree.specs.declared.resolved.Method.{Method}
+use Rattle.fab_tree.specs.declared.expression.Comparison.TheVariants.{Equal}
+use Rattle.fab_tree.specs.declared.expression.Operator.TheVariants.{Add}
+use Rattle.fab_tree.specs.declared.expression.UnaryOperator.{UnaryOperator}
+use Rattle.fab_tree.specs.declared.expression.UnaryOperator.TheVariants.{Negative, Not}
 use Rattle.fab_tree.specs.declared.resolved.Expression.{Expression, roll-Expression, fold-roll-Expression}
-use Rattle.fab_tree.specs.declared.resolved.Form.{Form, roll-Form, fold-roll-Form}
+use Rattle.fab_tree.specs.declared.resolved.Form.{Form, roll-Form, map-Form, fold-Form, fold-roll-Form}
 use Rattle.fab_tree.specs.declared.resolved.Form.TheOpen as f
-use Rattle.fab_tree.specs.declared.resolved.Operand.{Operand}
+use Rattle.fab_tree.specs.declared.resolved.Operand.{Operand, roll-Operand, fold-Operand, fold-roll-Operand}
 use Rattle.fab_tree.specs.declared.resolved.Right.{Right}
 use Rattle.fab_tree.specs.declared.resolved.Right.TheVariants as rights
 use Rattle.fab_tree.specs.declared.resolved.Statement.{Statement, roll-Statement, fold-roll-Statement, map-Statement}
 use Rattle.fab_tree.specs.declared.resolved.Statement.TheOpen as s
-use Rattle.fab_laws.specs.Kinds.{Kind, number, object, nothing, kind_at, field_kind, Claim, form_kind, kind_of, statement_claims, statement_claims_step}
+use Rattle.fab_laws.specs.Kinds.{Kind, number, object, nothing, joined, applied_kind, kind_at, field_kind, Claim, form_kind, kind_of, statement_claims, statement_claims_step}
 use Rattle.fab_laws.specs.Shapes.{suits, is_met}
 use Rattle.fab_laws.specs.Changes.{AreMade, IsNext}
 use Rattle.fab_laws.specs.Origins.{EachComesFrom, ComesFrom, from_arguments, from_object}
@@ -54,8 +58,14 @@ kind = kind_of one_class one_method kinds
 abbrev expression : f.Form-F Form Expression Operand → Expression
 expression x = roll-Expression (record { form = roll-Form x; at = 0 })
 
-abbrev step : f.Form-F Kind Kind (Unit {0}) → Kind
+abbrev step : f.Form-F Kind Kind Kind → Kind
 step = form_kind one_class one_method kinds
+
+abbrev kind_in : Form → Kind
+kind_in = fold-Form Kind Kind Kind step (λ e. e.form) (λ u. u.operand)
+
+abbrev operand_kind : Operand → Kind
+operand_kind = fold-Operand Kind Kind Kind step (λ e. e.form) (λ u. u.operand)
 
 abbrev local : ℕ → Expression
 local x = expression (f.Local (used x))
@@ -67,14 +77,51 @@ null = expression f.Null
 abbrev read : ℕ → ℕ → Expression
 read x field = expression (f.Read (used x) field 3)
 
+-- the kind of an expression, of the layer of its form
+layer_kind : (x : f.Form-F Form Expression Operand) → kind (expression x) ≡ step (map-Form Form Expression Operand Kind Kind Kind kind_in kind operand_kind x)
+layer_kind x = fold-roll-Expression Kind Kind Kind step (λ e. e.form) (λ u. u.operand) (record { form = roll-Form x; at = 0 }) ∙ fold-roll-Form Kind Kind Kind step (λ e. e.form) (λ u. u.operand) x
+
 local_kind : (x : ℕ) → kind (local x) ≡ kind_at kinds x
-local_kind x = rw (fold-roll-Expression Kind Kind (Unit {0}) step (λ e. e.form) (λ u. tt) (record { form = roll-Form (f.Local (used x)); at = 0 }), fold-roll-Form Kind Kind (Unit {0}) step (λ e. e.form) (λ u. tt) (f.Local (used x))) refl
+local_kind x = layer_kind (f.Local (used x))
 
 null_kind : kind null ≡ nothing
-null_kind = rw (fold-roll-Expression Kind Kind (Unit {0}) step (λ e. e.form) (λ u. tt) (record { form = roll-Form f.Null; at = 0 }), fold-roll-Form Kind Kind (Unit {0}) step (λ e. e.form) (λ u. tt) f.Null) refl
+null_kind = layer_kind f.Null
 
 read_kind : (x field : ℕ) → kind (read x field) ≡ field_kind one_class (kind_at kinds x) field
-read_kind x field = rw (fold-roll-Expression Kind Kind (Unit {0}) step (λ e. e.form) (λ u. tt) (record { form = roll-Form (f.Read (used x) field 3); at = 0 }), fold-roll-Form Kind Kind (Unit {0}) step (λ e. e.form) (λ u. tt) (f.Read (used x) field 3)) refl
+read_kind x field = layer_kind (f.Read (used x) field 3)
+
+abbrev summand : Expression → Operand
+summand e = roll-Operand (record { operator = Add; at = 0; operand = e })
+
+-- `x + y`, `x + y + z`, `-x`, `!x` and `x == y`
+abbrev sum : Expression → Expression → Expression
+sum x y = expression (f.Chain x (summand y ∷ []))
+
+abbrev sum_of_three : Expression → Expression → Expression → Expression
+sum_of_three x y z = expression (f.Chain x (summand y ∷ summand z ∷ []))
+
+abbrev applied : UnaryOperator → Expression → Expression
+applied o x = expression (f.Unary o x)
+
+abbrev same : Expression → Expression → Expression
+same x y = expression (f.Compared x Equal y)
+
+summand_kind : (e : Expression) → operand_kind (summand e) ≡ kind e
+summand_kind e = fold-roll-Operand Kind Kind Kind step (λ e. e.form) (λ u. u.operand) (record { operator = Add; at = 0; operand = e })
+
+sum_kind : (x y : Expression) → kind (sum x y) ≡ joined (kind x) (kind y)
+sum_kind x y = layer_kind (f.Chain x (summand y ∷ [])) ∙ ap (joined (kind x)) (summand_kind y)
+
+sum_of_three_kind : (x y z : Expression) → kind (sum_of_three x y z) ≡ joined (joined (kind x) (kind y)) (kind z)
+sum_of_three_kind x y z =
+    layer_kind (f.Chain x (summand y ∷ summand z ∷ []))
+    ∙ ap (λ k. joined (joined (kind x) k) (operand_kind (summand z))) (summand_kind y) ∙ ap (joined (joined (kind x) (kind y))) (summand_kind z)
+
+applied_is : (o : UnaryOperator) (x : Expression) → kind (applied o x) ≡ applied_kind o (kind x)
+applied_is o x = layer_kind (f.Unary o x)
+
+same_kind : (x y : Expression) → kind (same x y) ≡ number widths.Int
+same_kind x y = layer_kind (f.Compared x Equal y)
 
 -- each claim of a statement is met
 abbrev fits : s.Statement-F Statement → Bool
@@ -108,6 +155,38 @@ reads_object = layer (s.Assign 1 (rights.Plain (read 0 1)) 0) ∙ rw (read_kind 
 
 reads_of_number : fits (s.Assign 1 (rights.Plain (read 1 0)) 0) ≡ false
 reads_of_number = layer (s.Assign 1 (rights.Plain (read 1 0)) 0) ∙ rw (read_kind 1 0) refl
+
+-- a sum of numbers is one, and that of anything else fits nowhere, whichever operand it is, nor does a number added to it make it one
+sums_numbers : fits (s.Write (used 0) 0 (sum (local 1) (local 1)) 7) ≡ true
+sums_numbers = layer (s.Write (used 0) 0 (sum (local 1) (local 1)) 7) ∙ rw (sum_kind (local 1) (local 1), local_kind 1) refl
+
+sums_null : fits (s.Write (used 0) 0 (sum (local 1) null) 7) ≡ false
+sums_null = layer (s.Write (used 0) 0 (sum (local 1) null) 7) ∙ rw (sum_kind (local 1) null, local_kind 1, null_kind) refl
+
+sums_object : fits (s.Write (used 0) 0 (sum (local 0) (local 1)) 7) ≡ false
+sums_object = layer (s.Write (used 0) 0 (sum (local 0) (local 1)) 7) ∙ rw (sum_kind (local 0) (local 1), local_kind 0) refl
+
+sums_objects : fits (s.Write (used 0) 1 (sum (local 0) (local 0)) 7) ≡ false
+sums_objects = layer (s.Write (used 0) 1 (sum (local 0) (local 0)) 7) ∙ rw (sum_kind (local 0) (local 0), local_kind 0) refl
+
+sums_three : fits (s.Write (used 0) 0 (sum_of_three (local 1) (local 1) (local 1)) 7) ≡ true
+sums_three = layer (s.Write (used 0) 0 (sum_of_three (local 1) (local 1) (local 1)) 7) ∙ rw (sum_of_three_kind (local 1) (local 1) (local 1), local_kind 1) refl
+
+sums_null_between : fits (s.Write (used 0) 0 (sum_of_three (local 1) null (local 1)) 7) ≡ false
+sums_null_between = layer (s.Write (used 0) 0 (sum_of_three (local 1) null (local 1)) 7) ∙ rw (sum_of_three_kind (local 1) null (local 1), local_kind 1, null_kind) refl
+
+-- a negative number is one, and the negative of null fits nowhere; `!null` and `null == a` are numbers
+negates_number : fits (s.Write (used 0) 0 (applied Negative (local 1)) 7) ≡ true
+negates_number = layer (s.Write (used 0) 0 (applied Negative (local 1)) 7) ∙ rw (applied_is Negative (local 1), local_kind 1) refl
+
+negates_null : fits (s.Write (used 0) 0 (applied Negative null) 7) ≡ false
+negates_null = layer (s.Write (used 0) 0 (applied Negative null) 7) ∙ rw (applied_is Negative null, null_kind) refl
+
+denies_null : fits (s.Write (used 0) 0 (applied Not null) 7) ≡ true
+denies_null = layer (s.Write (used 0) 0 (applied Not null) 7) ∙ rw (applied_is Not null) refl
+
+compares_null : fits (s.Write (used 0) 0 (same null (local 0)) 7) ≡ true
+compares_null = layer (s.Write (used 0) 0 (same null (local 0)) 7) ∙ rw (same_kind null (local 0)) refl
 
 -- `a = new C@s(n, null);` fits; with a value too few it doesn't, nor is a number what it gives
 abbrev new : List Expression → Right

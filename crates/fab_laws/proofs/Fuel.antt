@@ -39,6 +39,7 @@ module _ (limit : ℕ) where
       same = λ t. tt;
       then_on = λ t u v g h. tt;
       of_number = λ t w v e. tt;
+      operated = λ t k l a b v i p q. tt;
       of_null = λ t. tt;
       still = λ t u k v g h. tt;
       fitted = λ t taker k v m h. tt;

@@ -1,6 +1,7 @@
 pub mod Carried
 pub mod Changes
 pub mod Closed
+pub mod Courses
 pub mod Everywhere
 pub mod Fewer
 mod FittingExamples
@@ -8,6 +9,7 @@ pub mod Fuel
 pub mod Grows
 pub mod Kept
 pub mod Locality
+pub mod Maps
 pub mod Names
 pub mod Origins
 pub mod Placed

@@ -128,13 +128,19 @@ noted_once site o ts a = elim (has_pair site o ts) as (λ b. has_pair site o ts 
 
 -- ---- which objects are touched, as a list
 
-without_last : (p o : Oid) (xs : List Oid) → without p (xs ++ o ∷ []) ≡ without p xs ++ (if is_same o p then [] else o ∷ [])
-without_last p o [] = refl
-without_last p o (x ∷ xs) =
-    elim (is_same x p) as (λ b. (if b then without p (xs ++ o ∷ []) else x ∷ without p (xs ++ o ∷ [])) ≡ (if b then without p xs else x ∷ without p xs) ++ (if is_same o p then [] else o ∷ [])) [
-      | true ↦ without_last p o xs
-      | false ↦ ap (λ l. x ∷ l) (without_last p o xs)
+without_both : (o : Oid) (xs ys : List Oid) → without o (xs ++ ys) ≡ without o xs ++ without o ys
+without_both o [] ys = refl
+without_both o (x ∷ xs) ys =
+    elim (is_same x o) as (λ b. (if b then without o (xs ++ ys) else x ∷ without o (xs ++ ys)) ≡ (if b then without o xs else x ∷ without o xs) ++ without o ys) [
+      | true ↦ without_both o xs ys
+      | false ↦ ap (λ l. x ∷ l) (without_both o xs ys)
     ]
+
+pub once_both : (xs ys : List Oid) → (more : List Oid) × (each_once (xs ++ ys) ≡ each_once xs ++ more)
+once_both [] ys = (each_once ys, refl)
+once_both (x ∷ xs) ys =
+    let later = once_both xs ys in
+    (without x later.0, ap (λ l. x ∷ without x l) later.1 ∙ ap (λ l. x ∷ l) (without_both x (each_once xs) later.0))
 
 once_last : (o : Oid) (xs : List Oid) → each_once (xs ++ o ∷ []) ≡ (if is_among o xs then each_once xs else each_once xs ++ o ∷ [])
 once_last o [] = refl
@@ -142,7 +148,7 @@ once_last o (p ∷ ps) = rw (once_last o ps) (split (is_among o ps))
   where
     split : (b : Bool) → p ∷ without p (if b then each_once ps else each_once ps ++ o ∷ []) ≡ (if is_same p o || b then p ∷ without p (each_once ps) else p ∷ without p (each_once ps) ++ o ∷ [])
     split true = elim (is_same p o) as (λ c. p ∷ without p (each_once ps) ≡ (if c || true then p ∷ without p (each_once ps) else p ∷ without p (each_once ps) ++ o ∷ [])) [ true ↦ refl | false ↦ refl ]
-    split false = rw (without_last p o (each_once ps), same_flips o p) (last (is_same p o))
+    split false = rw (without_both p (each_once ps) (o ∷ []), same_flips o p) (last (is_same p o))
       where
         last : (c : Bool) → p ∷ without p (each_once ps) ++ (if c then [] else o ∷ []) ≡ (if c || false then p ∷ without p (each_once ps) else p ∷ without p (each_once ps) ++ o ∷ [])
         last true = ap (λ l. p ∷ l) (append-nil _)

@@ -24,10 +24,11 @@ use Rattle.fab_laws.specs.Kinds.{Kind, Claim, parameter_kinds}
 use Rattle.fab_laws.specs.Changes.{has_pair}
 use Rattle.fab_laws.specs.Origins.{is_to, refer, ComesFrom, from_arguments, from_object, EachComesFrom, IsFrom, HasOrigins}
 use Rattle.fab_laws.proofs.Names.{or_true, or_parts, among_more, among_last, touched_still, touched_now, changed_again, written_more, made_too, with_written}
-use Rattle.fab_laws.proofs.Values.{at_place, all_set, all_at_start, all_more, number_leads_nowhere}
+use Rattle.fab_laws.proofs.Values.{at_place, all_set, all_at_start, number_leads_nowhere}
 use Rattle.fab_laws.proofs.Walk as w
 use Rattle.fab_laws.proofs.Walk.{Result, on, off, Finds, made_one, touched_one, Replaces, again, fresh}
 use Rattle.fab_base.specs.Values.{referred}
+use Rattle.fab_base.proofs.Lists.{all_along}
 
 -- what holds of each value, if it holds of numbers, of null, and of the names to which one of these refers
 all_refer : (P : Value → Type 0) (whole vs : List Value) → ((v : Value) → ((o : Oid) → is_to o v ≡ true → P (Ref o)) → P v) → ((o : Oid) → refer o vs ≡ true → refer o whole ≡ true) → ((o : Oid) → refer o whole ≡ true → P (Ref o)) → AllByRecursion P vs
@@ -83,7 +84,7 @@ module _ (known : FlatMap) (args : List Value) where
     still t u v = still_referred t u (referred v)
 
     all_still : (t u : State) (vs : List Value) → Then t u → AllByRecursion (From t) vs → AllByRecursion (From u) vs
-    all_still t u vs g h = all_more (From t) (From u) vs (λ v p. still t u v g p) h
+    all_still t u vs g h = all_along (From t) (From u) (λ v p. still t u v g p) vs h
 
     same : (t u : State) → u.heap ≡ t.heap → u.touches ≡ t.touches → Then t u
     same t u e g = record {
@@ -189,6 +190,7 @@ module _ (known : FlatMap) (args : List Value) where
       same = λ t. same t t refl refl;
       then_on = then_on;
       of_number = λ t w v e. number_leads_nowhere _ w v e;
+      operated = λ t k l a b v i h g. number_leads_nowhere _ i.width v i.is_one;
       of_null = λ t. tt;
       still = λ t u k v g h. still t u v g h;
       fitted = λ t taker k v m h. h;

@@ -10,9 +10,8 @@ use Rattle.fab_base.specs.declared.object.Tid.{Tid}
 use Rattle.fab_base.specs.declared.object.Value.{Value}
 use Rattle.fab_base.specs.declared.object.Value.TheVariants.{Null}
 use Rattle.fab_base.specs.declared.object.Width.TheVariants as widths
-use Rattle.fab_base.specs.FlatMap.{FlatMap, get, put, is_same}
+use Rattle.fab_base.specs.FlatMap.{FlatMap, put, is_same}
 use Rattle.fab_base.proofs.NameOrder.{one_name}
-use Rattle.fab_map.proofs.Rows.{get-put_same, get-put_other}
 use Rattle.fab_tree.specs.declared.resolved.Sort.{Sort}
 use Rattle.fab_tree.specs.declared.resolved.Sort.TheVariants as sorts
 use Rattle.fab_tree.specs.declared.resolved.Request.{Request}
@@ -23,6 +22,7 @@ use Rattle.fab_language.specs.Meaning.{State, failed, stopped, missing, Run, wit
 use Rattle.fab_laws.specs.Kinds.{Kind, Claim, method_claims, claims_of, parameter_kinds}
 use Rattle.fab_laws.specs.Origins.{Passes, AllPass, HasOnlyPassing, MakesPassing, OnlyPassing}
 use Rattle.fab_laws.proofs.Names.{or_false, among_more, touched_after}
+use Rattle.fab_laws.proofs.Maps.{put_keeps}
 use Rattle.fab_laws.proofs.Values.{at_place, all_set, all_at_start, number_leads_nowhere}
 use Rattle.fab_laws.proofs.Walk as w
 use Rattle.fab_laws.proofs.Walk.{Result, on, off, Finds, made_one, touched_one, Replaces, again, fresh, claims_at}
@@ -40,14 +40,7 @@ module _ (p : Oid → Bool) where
   of_default (sorts.Class c) = tt
 
   put_passing : (o : Oid) (y : Object) (m : FlatMap) → HasOnlyPassing p m → AllPass p y.fields → HasOnlyPassing p (put o y m)
-  put_passing o y m a i q z e = by_same (is_same o q) refl
-    where
-      one : (x : Object) → Some x ≡ Some z → x ≡ z
-      one x h = cc
-
-      by_same : (b : Bool) → is_same o q ≡ b → AllPass p z.fields
-      by_same true j = subst (λ x. AllPass p x.fields) (one y (sym (ap (get (put o y m)) (sym (one_name o q j)) ∙ get-put_same o y m) ∙ e)) i
-      by_same false j = a q z (sym (get-put_other o q y m j) ∙ e)
+  put_passing o y m a i = put_keeps (λ q x. AllPass p x.fields) o y m a i
 
   -- one name more that passes
   last_passes : (o : Oid) (os : List Oid) → ((q : Oid) → is_among q os ≡ true → p q ≡ true) → p o ≡ true → (q : Oid) → is_among q (os ++ o ∷ []) ≡ true → p q ≡ true
@@ -116,6 +109,7 @@ module _ (p : Oid → Bool) where
       same = λ t. tt;
       then_on = λ t u v g h. tt;
       of_number = λ t w v e. number_leads_nowhere _ w v e;
+      operated = λ t k l a b v i h g. number_leads_nowhere _ i.width v i.is_one;
       of_null = λ t. tt;
       still = λ t u k v g h. h;
       fitted = λ t taker k v m h. h;

@@ -1,5 +1,5 @@
 -- Objects keep the shape of their classes.
-use Rattle.std.proofs.Common.{◌≡◌, ℕ, zero, suc, ◌-◌, List, [], ◌∷◌, ◌++◌, length, take, drop, map, Option, Some, Bool, true, false, ◌==◌, refl, sym, ap, ◌∙◌, subst, arith}
+use Rattle.std.proofs.Common.{◌≡◌, ℕ, zero, suc, ◌-◌, List, [], ◌∷◌, ◌++◌, length, take, drop, map, Option, Some, true, ◌==◌, refl, sym, ap, ◌∙◌, subst, arith}
 use Rattle.std.specs.Prelude.{slice_get, slice_set, unwrap_or}
 use Rattle.std.specs.List.{AllByRecursion, list_all}
 use Rattle.std.proofs.lemmas.Bool.{true≢false, and_parts}
@@ -10,9 +10,7 @@ use Rattle.fab_base.specs.declared.object.Tid.{Tid}
 use Rattle.fab_base.specs.declared.object.Value.{Value}
 use Rattle.fab_base.specs.declared.object.Value.TheVariants.{Int, Null, Ref}
 use Rattle.fab_base.specs.declared.object.Width.TheVariants as widths
-use Rattle.fab_base.specs.FlatMap.{FlatMap, get, put, is_same}
-use Rattle.fab_base.proofs.NameOrder.{one_name}
-use Rattle.fab_map.proofs.Rows.{get-put_same, get-put_other}
+use Rattle.fab_base.specs.FlatMap.{FlatMap, put}
 use Rattle.fab_tree.specs.declared.resolved.Class.{Class}
 use Rattle.fab_tree.specs.declared.resolved.Sort.{Sort}
 use Rattle.fab_tree.specs.declared.resolved.Sort.TheVariants as sorts
@@ -20,13 +18,14 @@ use Rattle.fab_tree.specs.declared.resolved.Local.{Local}
 use Rattle.fab_tree.specs.declared.resolved.Method.{Method}
 use Rattle.fab_tree.specs.declared.resolved.Request.{Request}
 use Rattle.fab_tree.specs.declared.resolved.Resolved.{Resolved}
-use Rattle.fab_language.specs.declared.ending.Ending.{Ending}
-use Rattle.fab_language.specs.declared.ending.Ending.TheVariants.{Ended, Failed, Stopped, Missing}
+use Rattle.fab_language.specs.declared.ending.Ending.TheVariants.{Ended}
 use Rattle.fab_language.specs.Heaps.{Heap}
 use Rattle.fab_language.specs.Meaning.{State, failed, stopped, missing, Run, field_of, with_field, next_name, default, locals_at_start, requested, meant_by, meaning, state_at_start}
-use Rattle.fab_language.specs.Evaluation.{tid_of, meant, if_ended, map_behind, in_turn}
-use Rattle.fab_laws.specs.Kinds.{Kind, number, object, nothing, unknown, takes, kind_of_sort, kind_at, class_kinds, field_kind, local_kinds, parameter_kinds, result_kind, Claim, method_claims, claims_of}
+use Rattle.fab_language.specs.Evaluation.{tid_of, in_turn}
+use Rattle.fab_laws.specs.Kinds.{Kind, number, object, nothing, unknown, takes, joined, kind_of_sort, kind_at, class_kinds, field_kind, local_kinds, parameter_kinds, result_kind, Claim, method_claims, claims_of}
 use Rattle.fab_laws.specs.Shapes.{suits, AllSuit, IsShaped, AreShaped, is_met, is_fitting, IsFitting, KeepsShape}
+use Rattle.fab_laws.proofs.Courses.{course_keeps}
+use Rattle.fab_laws.proofs.Maps.{put_keeps}
 use Rattle.fab_laws.proofs.Walk as w
 use Rattle.fab_laws.proofs.Walk.{claims_at, Result, on, off, Finds, made_one, touched_one, Replaces, again, fresh}
 
@@ -90,19 +89,20 @@ taken nothing nothing v h p = p
 taken nothing unknown v h p = absurd (true≢false (sym h))
 taken unknown k v h p = absurd (true≢false (sym h))
 
+-- what an operator makes of values of two kinds is of the kind that it gives
+joined_suits : (k l : Kind) (a b v : Value) → w.IsJoined a b v → suits k a ≡ true → suits l b ≡ true → suits (joined k l) v ≡ true
+joined_suits (number widths.Int) (number widths.Int) a b v i p q = i.as_both widths.Int p q
+joined_suits (number x) (object y) a b v i p q = refl
+joined_suits (number x) nothing a b v i p q = refl
+joined_suits (number x) unknown a b v i p q = refl
+joined_suits (object x) l a b v i p q = refl
+joined_suits nothing l a b v i p q = refl
+joined_suits unknown l a b v i p q = refl
+
 -- ---- objects
 
 pub put_shaped : (classes : List Class) (o : Oid) (y : Object) (m : FlatMap) → AreShaped classes m → IsShaped classes o y → AreShaped classes (put o y m)
-put_shaped classes o y m a i p z e = by_same (is_same o p) refl
-  where
-    one : (x : Object) → Some x ≡ Some z → x ≡ z
-    one x h = cc
-
-    by_same : (b : Bool) → is_same o p ≡ b → IsShaped classes p z
-    by_same true j =
-        let f : y ≡ z = one y (sym (ap (get (put o y m)) (sym (one_name o p j)) ∙ get-put_same o y m) ∙ e) in
-        subst (λ x. IsShaped classes p x) f (subst (λ q. IsShaped classes q y) (one_name o p j) i)
-    by_same false j = a p z (sym (get-put_other o p y m j) ∙ e)
+put_shaped classes o y m a i = put_keeps (IsShaped classes) o y m a i
 
 -- a field of an object that is had as one of a kind
 pub field_suits : (classes : List Class) (k : Kind) (field : ℕ) (o : Oid) (x : Object) → suits k (Ref o) ≡ true → IsShaped classes o x → suits (field_kind classes k field) (field_of field x) ≡ true
@@ -179,6 +179,7 @@ module _ (program : Resolved) (tid : Tid) where
     same = λ t. tt;
     then_on = λ t u v g h. tt;
     of_number = λ t w v e. e;
+    operated = λ t k l a b v i p q. joined_suits k l a b v i p q;
     of_null = λ t. refl;
     still = λ t u k v g h. h;
     fitted = λ t taker k v m h. taken taker k v m h;
@@ -237,14 +238,5 @@ module _ (program : Resolved) (fitting : is_fitting program ≡ true) where
     pub shape_kept : KeepsShape program request (meaning program known request tid fuel)
     shape_kept = record { objects = objects_by (requested program tid request start) out; result = result_by (requested program tid request start) out }
 
-  behind_ending : (e : Ending) (m n : FlatMap) → AreShaped program.classes m → AreShaped program.classes n → AreShaped program.classes (if_ended e m n)
-  behind_ending (Ended r) m n h k = h
-  behind_ending Failed m n h k = k
-  behind_ending (Stopped stop) m n h k = k
-  behind_ending (Missing site o) m n h k = k
-
   pub course_shaped : (known : FlatMap) (requests : List Request) → AreShaped program.classes known → AllByRecursion (IsFitting program) requests → AreShaped program.classes (in_turn program known requests).map
-  course_shaped known [] h a = h
-  course_shaped known (request ∷ requests) h a =
-      let k = shape_kept (tid_of request) known request 1000000 h a.0 in
-      course_shaped (map_behind program known request) requests (behind_ending (meant program known request).ending (meant program known request).map known k.objects h) a.1
+  course_shaped known requests h a = (course_keeps program (AreShaped program.classes) (IsFitting program) (λ e. Unit {0}) (λ m request k fits. (tt, (shape_kept (tid_of request) m request 1000000 k fits).objects)) known requests h a).1

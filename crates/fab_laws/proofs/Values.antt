@@ -1,7 +1,8 @@
 -- What holds of each value of a list.
-use Rattle.std.proofs.Common.{◌≡◌, ℕ, zero, suc, true, List, [], ◌∷◌, ◌++◌, map, drop, length, sym, true≢false}
+use Rattle.std.proofs.Common.{◌≡◌, ℕ, zero, suc, true, List, [], ◌∷◌, map, drop, length, sym, true≢false}
 use Rattle.std.specs.Prelude.{slice_get, slice_set, unwrap_or, IfSome}
 use Rattle.std.specs.List.{AllByRecursion}
+use Rattle.fab_base.proofs.Lists.{all_append}
 use Rattle.fab_base.specs.declared.object.Oid.{Oid}
 use Rattle.fab_base.specs.declared.object.Value.{Value}
 use Rattle.fab_base.specs.declared.object.Value.TheVariants.{Int, Null, Ref}
@@ -12,6 +13,8 @@ use Rattle.fab_tree.specs.declared.resolved.Sort.{Sort}
 use Rattle.fab_tree.specs.declared.resolved.Local.{Local}
 use Rattle.fab_tree.specs.declared.resolved.Method.{Method}
 use Rattle.fab_language.specs.Meaning.{default, locals_at_start}
+-- what holds of two lists, by the name that it had here
+pub use Rattle.fab_base.proofs.Lists.{all_append as all_joined}
 
 -- a number leads nowhere
 pub number_leads_nowhere : (P : Oid → Type 0) (w : Width) (v : Value) → is_number_of w v ≡ true → IfSome (referred v) P
@@ -29,17 +32,9 @@ all_set P [] i x p h = tt
 all_set P (y ∷ xs) zero x p h = (p, h.1)
 all_set P (y ∷ xs) (suc i) x p h = (h.0, all_set P xs i x p h.1)
 
-pub all_joined : {A : Type 0} (P : A → Type 0) (xs ys : List A) → AllByRecursion P xs → AllByRecursion P ys → AllByRecursion P (xs ++ ys)
-all_joined P [] ys h k = k
-all_joined P (x ∷ xs) ys h k = (h.0, all_joined P xs ys h.1 k)
-
 pub all_map : {A B : Type 0} (P : B → Type 0) (g : A → B) (xs : List A) → ((x : A) → P (g x)) → AllByRecursion P (map g xs)
 all_map P g [] h = tt
 all_map P g (x ∷ xs) h = (h x, all_map P g xs h)
-
-pub all_more : {A : Type 0} (P Q : A → Type 0) (xs : List A) → ((x : A) → P x → Q x) → AllByRecursion P xs → AllByRecursion Q xs
-all_more P Q [] f h = tt
-all_more P Q (x ∷ xs) f h = (f x h.0, all_more P Q xs f h.1)
 
 -- what nothing is asked of
 pub all_any : {A : Type 0} (xs : List A) → AllByRecursion (λ x. Unit {0}) xs
@@ -50,4 +45,4 @@ all_any (x ∷ xs) = (tt, all_any xs)
 pub all_at_start : (P : Value → Type 0) → ((s : Sort) → P (default s)) → (m : Method) (args : List Value) → AllByRecursion P args → AllByRecursion P (locals_at_start m args)
 all_at_start P d m args h =
     let rest = drop (length args) m.locals in
-    all_joined P args (map (λ (x : Local). default x.sort) rest) h (all_map P (λ (x : Local). default x.sort) rest (λ x. d x.sort))
+    all_append P args (map (λ (x : Local). default x.sort) rest) h (all_map P (λ (x : Local). default x.sort) rest (λ x. d x.sort))

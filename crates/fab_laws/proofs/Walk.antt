@@ -5,6 +5,7 @@
 use Rattle.std.proofs.Common.{◌≡◌, ℕ, zero, suc, ◌-◌, List, [], ◌∷◌, ◌++◌, length, Option, Some, None, ℤ, Bool, true, false, ◌==◌, cond, if◌then◌else◌, map, refl, sym, ap, subst, arith}
 use Rattle.std.specs.Prelude.{slice_get, slice_set, unwrap_or}
 use Rattle.std.specs.List.{AllByRecursion, flat_map}
+use Rattle.fab_base.proofs.Lists.{all_split}
 use Rattle.fab_base.specs.declared.object.Oid.{Oid}
 use Rattle.fab_base.specs.declared.object.Object.{Object}
 use Rattle.fab_base.specs.declared.object.Tid.{Tid}
@@ -34,37 +35,48 @@ use Rattle.fab_tree.specs.declared.expression.UnaryOperator.TheVariants as unary
 use Rattle.fab_language.specs.Heaps.{Heap, full, found, reach_in, reach_before, is_among, is_full, touched, noted, with_row, is_changed, is_spent}
 use Rattle.fab_language.specs.Meaning.{State, End, failed, stopped, missing, Run, goes, ends, M, and_then, gives, ◌>>=◌, ◌>>◌, charge, local, assign, reached, access, field_of, with_field, read, settled, replace, write, applied}
 use Rattle.fab_language.specs.Meaning.{next_name, create, noted_down, holds, quotient, operate, chained, form_step, value, values, in_order, turns, or_else, atomically, right, statement_step, statement, block, returned, body_of, locals_at_start, back_with, entered, called}
-use Rattle.fab_laws.specs.Kinds.{Kind, number, object, nothing, unknown, kind_at, class_kinds, field_kind, local_kinds, parameter_kinds, returns_kind, result_kind, Claim, given, counted, made, each_given, all_given, chain_kind, form_kind, kind_of, right_kind, right_claims, call_claims, all_of, statement_claims_step, statement_claims, block_claims, returned_kind, method_claims}
+use Rattle.fab_laws.specs.Kinds.{Kind, number, object, nothing, unknown, kind_at, class_kinds, field_kind, local_kinds, parameter_kinds, returns_kind, result_kind}
+use Rattle.fab_laws.specs.Kinds.{Claim, given, counted, made, each_given, all_given, joined, chain_kind, applied_kind, form_kind, kind_of, right_kind, right_claims, call_claims, all_of, statement_claims_step, statement_claims, block_claims, returned_kind, method_claims}
 use Rattle.fab_laws.proofs.Names.{with_written, with_new}
 use Rattle.fab_laws.proofs.Values.{all_any}
 use Rattle.fab_base.specs.Values.{is_number_of}
 use Rattle.fab_tree.specs.Numbers.{width_of, number_value}
 
--- each claim of both lists
-all_parts : {A : Type 0} (P : A → Type 0) (xs ys : List A) → AllByRecursion P (xs ++ ys) → AllByRecursion P xs × AllByRecursion P ys
-all_parts P [] ys h = (tt, h)
-all_parts P (x ∷ xs) ys h = let t = all_parts P xs ys h.1 in ((h.0, t.0), t.1)
-
 -- each claim of a method of a program
 pub claims_at : (P : Claim → Type 0) (g : Method → List Claim) (ms : List Method) (i : ℕ) (m : Method) → AllByRecursion P (flat_map g ms) → slice_get ms i ≡ Some m → AllByRecursion P (g m)
 claims_at P g [] i m h e = cc
 claims_at P g (x ∷ ms) zero m h e =
-    let p = all_parts P (g x) (flat_map g ms) h in
+    let p = all_split P (g x) (flat_map g ms) h in
     let q : x ≡ m = cc in
     subst (λ y. AllByRecursion P (g y)) q p.0
-claims_at P g (x ∷ ms) (suc i) m h e = claims_at P g ms i m (all_parts P (g x) (flat_map g ms) h).1 e
+claims_at P g (x ∷ ms) (suc i) m h e = claims_at P g ms i m (all_split P (g x) (flat_map g ms) h).1 e
 
 -- where nothing is asked of claims
 pub unasked : (program : Resolved) (m : Method) → AllByRecursion (λ (c : Claim). Unit {0}) (method_claims program.classes program.methods m)
 unasked program m = all_any (method_claims program.classes program.methods m)
 
--- a number is of its width, and what an operator in front of its operand gives is one
+-- a number is of its width
 of_its_width : (n : Number) → is_number_of (width_of n) (number_value n) ≡ true
 of_its_width (numbers.Int n) = refl
 
-is_applied : (o : UnaryOperator) (v : Value) → is_number_of widths.Int (applied o v) ≡ true
-is_applied unary.Negative v = refl
-is_applied unary.Not v = refl
+-- what an operator makes of two values: a number, and where both are of one width, of that
+pub record IsJoined (a b v : Value) : Type 0 where
+  pub width : Width
+  pub is_one : is_number_of width v ≡ true
+  pub as_both : (w : Width) → is_number_of w a ≡ true → is_number_of w b ≡ true → is_number_of w v ≡ true
+
+int_joined : (a b : Value) (n : ℤ) → IsJoined a b (Int n)
+int_joined a b n = record { width = widths.Int; is_one = refl; as_both = λ w p q. as_wide w }
+  where
+    as_wide : (w : Width) → is_number_of w (Int n) ≡ true
+    as_wide widths.Int = refl
+
+-- a negative is of the kind of what is joined to one of its own kind
+joined_itself : (k : Kind) → joined k k ≡ applied_kind unary.Negative k
+joined_itself (number widths.Int) = refl
+joined_itself (object class) = refl
+joined_itself nothing = refl
+joined_itself unknown = refl
 
 module _ (program : Resolved) (tid : Tid) (Holds : List Kind → State → Type 0) (Has : State → Kind → Value → Type 0) (Then : State → State → Type 0) (Lacks : ℕ → Oid → Type 0) (Meets : Claim → Type 0) where
   -- ---- what a law shows
@@ -114,6 +126,7 @@ module _ (program : Resolved) (tid : Tid) (Holds : List Kind → State → Type 
     pub same : (t : State) → Then t t
     pub then_on : (t u w : State) → Then t u → Then u w → Then t w
     pub of_number : (t : State) (w : Width) (v : Value) → is_number_of w v ≡ true → Has t (number w) v
+    pub operated : (t : State) (k l : Kind) (a b v : Value) → IsJoined a b v → Has t k a → Has t l b → Has t (joined k l) v
     pub of_null : (t : State) → Has t nothing Null
     pub still : (t u : State) (k : Kind) (v : Value) → Then t u → Has t k v → Has u k v
     pub fitted : (t : State) (taker k : Kind) (v : Value) → Meets (given taker k) → Has t k v → Has t taker v
@@ -264,47 +277,37 @@ module _ (program : Resolved) (tid : Tid) (Holds : List Kind → State → Type 
       pub record Gives (k : Kind) (m : M Value) : Type 0 where
         pub by : (t : State) → Holds ls t → Result ls t (λ u. Has u k) (m t)
 
-      pub record Sound (m : M Value) : Type 0 where
-        pub kind : Kind
-        pub gives : Gives kind m
-
       gives_value : (k : Kind) (v : Value) → ((t : State) → Has t k v) → Gives k (gives v)
       gives_value k v p = record { by = λ t h. done ls t (λ u. Has u k) v h (p t) }
 
       gives_local : (x : ℕ) → Gives (kind_at ls x) (local x)
       gives_local x = record { by = λ t h. done ls t (λ u. Has u (kind_at ls x)) _ h (kept.at_local ls t x h) }
 
-      quotients : (n : Option ℤ) → Gives (number widths.Int) (quotient n)
-      quotients None = record { by = λ t h. over ls t _ failed h tt }
-      quotients (Some n) = gives_value (number widths.Int) (Int n) (λ t. kept.of_number t widths.Int _ refl)
+      operates : (o : Operator) (k l : Kind) (a b : Value) (t : State) → Holds ls t → Has t k a → Has t l b → Result ls t (λ u. Has u (joined k l)) (operate o a b t)
+      operates o k l a b t h p q = by o
+        where
+          made : (n : ℤ) → Result ls t (λ u. Has u (joined k l)) (goes (Int n) t)
+          made n = done ls t (λ u. Has u (joined k l)) (Int n) h (kept.operated t k l a b (Int n) (int_joined a b n) p q)
 
-      operates : (o : Operator) (a b : Value) → Gives (number widths.Int) (operate o a b)
-      operates Or a b = gives_value (number widths.Int) _ (λ t. kept.of_number t widths.Int _ refl)
-      operates And a b = gives_value (number widths.Int) _ (λ t. kept.of_number t widths.Int _ refl)
-      operates Add a b = gives_value (number widths.Int) _ (λ t. kept.of_number t widths.Int _ refl)
-      operates Subtract a b = gives_value (number widths.Int) _ (λ t. kept.of_number t widths.Int _ refl)
-      operates Multiply a b = gives_value (number widths.Int) _ (λ t. kept.of_number t widths.Int _ refl)
-      operates Divide a b = quotients _
+          divided : (n : Option ℤ) → Result ls t (λ u. Has u (joined k l)) (quotient n t)
+          divided None = over ls t _ failed h tt
+          divided (Some n) = made n
 
-      -- a number from a value, whatever it is
-      then_number : (k : Kind) (m : M Value) (g : Value → M Value) → Gives k m → ((v : Value) → Gives (number widths.Int) (g v)) → Gives (number widths.Int) (m >>= g)
-      then_number k m g p q = record { by = λ t h. run_then ls t (λ u. Has u k) (λ u. Has u (number widths.Int)) (m t) g (p.by t h) (λ v u n i. (q v).by u n.holds) }
+          by : (o : Operator) → Result ls t (λ u. Has u (joined k l)) (operate o a b t)
+          by Or = made _
+          by And = made _
+          by Add = made _
+          by Subtract = made _
+          by Multiply = made _
+          by Divide = divided _
 
-      abbrev EachOperand : List (Operator × M Value) → Type 0
-      EachOperand [] = Unit {0}
-      EachOperand (o ∷ os) = Sound o.1 × EachOperand os
+      applies : (o : UnaryOperator) (k : Kind) (v : Value) (t : State) → Has t k v → Has t (applied_kind o k) (applied o v)
+      applies unary.Negative k v t p = subst (λ l. Has t l (applied unary.Negative v)) (joined_itself k) (kept.operated t k k v v (applied unary.Negative v) (int_joined v v _) p p)
+      applies unary.Not k v t p = kept.of_number t widths.Int (applied unary.Not v) refl
 
-      -- one operand more, and what comes behind it from a number
-      step_then : (o : Operator × M Value) (v : Value) (g : Value → M Value) → Sound o.1 → ((n : Value) (t : State) → Holds ls t → Has t (number widths.Int) n → Result ls t (λ u. Has u (number widths.Int)) (g n t)) → Gives (number widths.Int) (o.1 >>= λ w. operate o.0 v w >>= g)
-      step_then o v g q k = record {
-        by = λ t h.
-            run_then ls t (λ u. Has u q.kind) (λ u. Has u (number widths.Int)) (o.1 t) (λ w. operate o.0 v w >>= g) (q.gives.by t h) (λ w u n i.
-            run_then ls u (λ u. Has u (number widths.Int)) (λ u. Has u (number widths.Int)) (operate o.0 v w u) g ((operates o.0 v w).by u n.holds) (λ x w l j. k x w l.holds j));
-      }
-
-      chains : (os : List (Operator × M Value)) → EachOperand os → (v : Value) (t : State) → Holds ls t → Has t (number widths.Int) v → Result ls t (λ u. Has u (number widths.Int)) (chained operate os v t)
-      chains [] q v t h p = done ls t (λ u. Has u (number widths.Int)) v h p
-      chains (o ∷ os) q v t h p = (step_then o v (chained operate os) q.0 (chains os q.1)).by t h
+      -- a truth from a value, whatever it is
+      then_truth : (k : Kind) (m : M Value) (g : Value → M Value) → Gives k m → ((v : Value) → Gives (number widths.Int) (g v)) → Gives (number widths.Int) (m >>= g)
+      then_truth k m g p q = record { by = λ t h. run_then ls t (λ u. Has u k) (λ u. Has u (number widths.Int)) (m t) g (p.by t h) (λ v u n i. (q v).by u n.holds) }
 
       abbrev form_value : Form → M Value
       form_value = fold-Form (M Value) (M Value) (Operator × M Value) form_step (λ e. e.form) (λ u. (u.operator, u.operand))
@@ -315,14 +318,14 @@ module _ (program : Resolved) (tid : Tid) (Holds : List Kind → State → Type 
       abbrev kind : Expression → Kind
       kind = kind_of program.classes program.methods ls
 
-      abbrev kind_step : f.Form-F Kind Kind (Unit {0}) → Kind
+      abbrev kind_step : f.Form-F Kind Kind Kind → Kind
       kind_step = form_kind program.classes program.methods ls
 
       abbrev kind_in : Form → Kind
-      kind_in = fold-Form Kind Kind (Unit {0}) kind_step (λ e. e.form) (λ u. tt)
+      kind_in = fold-Form Kind Kind Kind kind_step (λ e. e.form) (λ u. u.operand)
 
-      abbrev operand_kind : Operand → Unit {0}
-      operand_kind = fold-Operand Kind Kind (Unit {0}) kind_step (λ e. e.form) (λ u. tt)
+      abbrev operand_kind : Operand → Kind
+      operand_kind = fold-Operand Kind Kind Kind kind_step (λ e. e.form) (λ u. u.operand)
 
       abbrev KnownForm : Type 0
       KnownForm = (x : Form) × Gives (kind_in x) (form_value x)
@@ -331,22 +334,29 @@ module _ (program : Resolved) (tid : Tid) (Holds : List Kind → State → Type 
       KnownValue = (x : Expression) × Gives (kind x) (value x)
 
       abbrev KnownOperand : Type 0
-      KnownOperand = (x : Operand) × Sound (operand_value x).1
+      KnownOperand = (x : Operand) × Gives (operand_kind x) (operand_value x).1
 
-      operands : (xs : List KnownOperand) → EachOperand (map operand_value (map (λ (x : KnownOperand). x.0) xs))
-      operands [] = tt
-      operands (x ∷ xs) = (x.1, operands xs)
+      abbrev kinds_in : List KnownOperand → List Kind
+      kinds_in xs = map operand_kind (map (λ (x : KnownOperand). x.0) xs)
 
-      chain_from : (k : Kind) (m : M Value) (xs : List KnownOperand) → Gives k m → Gives (chain_kind program.classes program.methods ls k (map operand_kind (map (λ (x : KnownOperand). x.0) xs))) (m >>= chained operate (map operand_value (map (λ (x : KnownOperand). x.0) xs)))
-      chain_from k m [] p = record { by = λ t h. run_then ls t (λ u. Has u k) (λ u. Has u k) (m t) (chained operate []) (p.by t h) (λ v u n i. done ls u (λ w. Has w k) v n.holds i) }
-      chain_from k m (x ∷ xs) p =
-          let os = map operand_value (map (λ (z : KnownOperand). z.0) xs) in
-          then_number k m (chained operate (operand_value x.0 ∷ os)) p (λ v. step_then (operand_value x.0) v (chained operate os) x.1 (chains os (operands xs)))
+      abbrev steps_in : List KnownOperand → List (Operator × M Value)
+      steps_in xs = map operand_value (map (λ (x : KnownOperand). x.0) xs)
+
+      chains : (xs : List KnownOperand) (k : Kind) (v : Value) (t : State) → Holds ls t → Has t k v → Result ls t (λ u. Has u (chain_kind k (kinds_in xs))) (chained operate (steps_in xs) v t)
+      chains [] k v t h p = done ls t (λ u. Has u k) v h p
+      chains (x ∷ xs) k v t h p =
+          let o = operand_value x.0 in
+          let l = operand_kind x.0 in
+          let Out : State → Value → Type 0 = λ u. Has u (chain_kind (joined k l) (kinds_in xs)) in
+          let rest = chained operate (steps_in xs) in
+          run_then ls t (λ u. Has u l) Out (o.1 t) (λ w. operate o.0 v w >>= rest) (x.1.by t h) (λ w u n i.
+          run_then ls u (λ z. Has z (joined k l)) Out (operate o.0 v w u) rest (operates o.0 k l v w u n.holds (kept.still t u k v n.later p) i) (λ y z m j.
+          chains xs (joined k l) y z m.holds j))
 
       abbrev in_form : f.Form-F KnownForm KnownValue KnownOperand → f.Form-F Form Expression Operand
       in_form y = map-Form KnownForm KnownValue KnownOperand Form Expression Operand (λ k. k.0) (λ k. k.0) (λ k. k.0) y
 
-      by_form : (y : f.Form-F KnownForm KnownValue KnownOperand) → Gives (kind_step (map-Form Form Expression Operand Kind Kind (Unit {0}) kind_in kind operand_kind (in_form y))) (form_step (map-Form Form Expression Operand (M Value) (M Value) (Operator × M Value) form_value value operand_value (in_form y)))
+      by_form : (y : f.Form-F KnownForm KnownValue KnownOperand) → Gives (kind_step (map-Form Form Expression Operand Kind Kind Kind kind_in kind operand_kind (in_form y))) (form_step (map-Form Form Expression Operand (M Value) (M Value) (Operator × M Value) form_value value operand_value (in_form y)))
       by_form (f.Number n) = gives_value (number (width_of n)) (number_value n) (λ t. kept.of_number t (width_of n) (number_value n) (of_its_width n))
       by_form f.Null = gives_value nothing Null (λ t. kept.of_null t)
       by_form (f.Local x) = gives_local x.number
@@ -354,16 +364,25 @@ module _ (program : Resolved) (tid : Tid) (Holds : List Kind → State → Type 
         by = λ t h.
             run_then ls t (λ u. Has u (kind_at ls x.number)) (λ u. Has u (field_kind program.classes (kind_at ls x.number) field)) (local x.number t) (read site field) ((gives_local x.number).by t h) (λ v u n i. reads ls u (kind_at ls x.number) site field v n.holds i);
       }
-      by_form (f.Unary o x) = then_number (kind x.0) (value x.0) _ x.1 (λ v. gives_value (number widths.Int) (applied o v) (λ t. kept.of_number t widths.Int (applied o v) (is_applied o v)))
-      by_form (f.Chain x others) = chain_from (kind x.0) (value x.0) others x.1
-      by_form (f.Compared x comparison y) = then_number (kind x.0) (value x.0) _ x.1 (λ a. then_number (kind y.0) (value y.0) _ y.1 (λ b. gives_value (number widths.Int) _ (λ t. kept.of_number t widths.Int _ refl)))
+      by_form (f.Unary o x) = record {
+        by = λ t h.
+            run_then ls t (λ u. Has u (kind x.0)) (λ u. Has u (applied_kind o (kind x.0))) (value x.0 t) (λ v. gives (applied o v)) (x.1.by t h) (λ v u n i.
+            done ls u (λ w. Has w (applied_kind o (kind x.0))) (applied o v) n.holds (applies o (kind x.0) v u i));
+      }
+      by_form (f.Chain x others) = record {
+        by = λ t h.
+            run_then ls t (λ u. Has u (kind x.0)) (λ u. Has u (chain_kind (kind x.0) (kinds_in others))) (value x.0 t) (chained operate (steps_in others)) (x.1.by t h) (λ v u n i.
+            chains others (kind x.0) v u n.holds i);
+      }
+      by_form (f.Compared x comparison y) = then_truth (kind x.0) (value x.0) _ x.1 (λ a. then_truth (kind y.0) (value y.0) _ y.1 (λ b. gives_value (number widths.Int) _ (λ t. kept.of_number t widths.Int _ refl)))
 
       pub expressions : (e : Expression) → Gives (kind e) (value e)
-      expressions = ind-Expression (λ x. Gives (kind_in x) (form_value x)) (λ x. Gives (kind x) (value x)) (λ x. Sound (operand_value x).1)
-          (λ x y is. subst (λ z. Gives (kind_in (roll-Form z)) (form_value (roll-Form z))) is (rw (fold-roll-Form (M Value) (M Value) (Operator × M Value) form_step (λ e. e.form) (λ u. (u.operator, u.operand)) (in_form y), fold-roll-Form Kind Kind (Unit {0}) kind_step (λ e. e.form) (λ u. tt) (in_form y)) (by_form y)))
+      expressions = ind-Expression (λ x. Gives (kind_in x) (form_value x)) (λ x. Gives (kind x) (value x)) (λ x. Gives (operand_kind x) (operand_value x).1)
+          (λ x y is. subst (λ z. Gives (kind_in (roll-Form z)) (form_value (roll-Form z))) is (rw (fold-roll-Form (M Value) (M Value) (Operator × M Value) form_step (λ e. e.form) (λ u. (u.operator, u.operand)) (in_form y), fold-roll-Form Kind Kind Kind kind_step (λ e. e.form) (λ u. u.operand) (in_form y)) (by_form y)))
           (λ x y is. let z = map-Expression KnownForm KnownValue KnownOperand Form Expression Operand (λ k. k.0) (λ k. k.0) (λ k. k.0) y in
-          subst (λ z. Gives (kind (roll-Expression z)) (value (roll-Expression z))) is (rw (fold-roll-Expression (M Value) (M Value) (Operator × M Value) form_step (λ e. e.form) (λ u. (u.operator, u.operand)) z, fold-roll-Expression Kind Kind (Unit {0}) kind_step (λ e. e.form) (λ u. tt) z) y.form.1))
-          (λ x y is. subst (λ z. Sound (operand_value (roll-Operand z)).1) is (rw (fold-roll-Operand (M Value) (M Value) (Operator × M Value) form_step (λ e. e.form) (λ u. (u.operator, u.operand)) (map-Operand KnownForm KnownValue KnownOperand Form Expression Operand (λ k. k.0) (λ k. k.0) (λ k. k.0) y)) (record { kind = kind y.operand.0; gives = y.operand.1 })))
+          subst (λ z. Gives (kind (roll-Expression z)) (value (roll-Expression z))) is (rw (fold-roll-Expression (M Value) (M Value) (Operator × M Value) form_step (λ e. e.form) (λ u. (u.operator, u.operand)) z, fold-roll-Expression Kind Kind Kind kind_step (λ e. e.form) (λ u. u.operand) z) y.form.1))
+          (λ x y is. let z = map-Operand KnownForm KnownValue KnownOperand Form Expression Operand (λ k. k.0) (λ k. k.0) (λ k. k.0) y in
+          subst (λ z. Gives (operand_kind (roll-Operand z)) (operand_value (roll-Operand z)).1) is (rw (fold-roll-Operand (M Value) (M Value) (Operator × M Value) form_step (λ e. e.form) (λ u. (u.operator, u.operand)) z, fold-roll-Operand Kind Kind Kind kind_step (λ e. e.form) (λ u. u.operand) z) y.operand.1))
 
       -- values that came out in turn
       pub record Valued (t : State) (ks : List Kind) (vs : List Value) : Type 0 where
@@ -477,7 +496,7 @@ module _ (program : Resolved) (tid : Tid) (Holds : List Kind → State → Type 
 
       each : (ks : List Known) → AllMet (all_of program.classes program.methods ls (map claims (map (λ (k : Known). k.0) ks))) → Each (map (statement tid call) (map (λ (k : Known). k.0) ks))
       each [] c = tt
-      each (k ∷ ks) c = let p = all_parts Meets (claims k.0) (all_of program.classes program.methods ls (map claims (map (λ (j : Known). j.0) ks))) c in (k.1.goes p.0, each ks p.1)
+      each (k ∷ ks) c = let p = all_split Meets (claims k.0) (all_of program.classes program.methods ls (map claims (map (λ (j : Known). j.0) ks))) c in (k.1.goes p.0, each ks p.1)
 
       abbrev parts : s.Statement-F Known → s.Statement-F Statement
       parts y = map-Statement Known Statement (λ k. k.0) y
@@ -495,11 +514,11 @@ module _ (program : Resolved) (tid : Tid) (Holds : List Kind → State → Type 
       })
       layer (s.Call m args) c = paid _ (record { by = λ t h. run_call Any m.number args t (λ r. gives tt) c h (λ r u o i. done ls u Any tt o tt) })
       layer (s.If e a b) c =
-          let p = all_parts Meets (all_of program.classes program.methods ls (map claims (map (λ (k : Known). k.0) a))) (all_of program.classes program.methods ls (map claims (map (λ (k : Known). k.0) b))) c in
+          let p = all_split Meets (all_of program.classes program.methods ls (map claims (map (λ (k : Known). k.0) a))) (all_of program.classes program.methods ls (map claims (map (λ (k : Known). k.0) b))) c in
           paid _ (record { by = λ t h. run_value Any e t _ h (λ v u o i. (choice (holds v) _ _ (orders _ (each a p.0)) (orders _ (each b p.1))).by u o) })
       layer (s.While e a) c = record { by = λ t h. (all_turns t.fuel e _ (orders _ (each a c))).by t h }
       layer (s.Atomic label a b at) c =
-          let p = all_parts Meets (all_of program.classes program.methods ls (map claims (map (λ (k : Known). k.0) a))) (all_of program.classes program.methods ls (map claims (map (λ (k : Known). k.0) b))) c in
+          let p = all_split Meets (all_of program.classes program.methods ls (map claims (map (λ (k : Known). k.0) a))) (all_of program.classes program.methods ls (map claims (map (λ (k : Known). k.0) b))) c in
           paid _ (atomics _ _ (orders _ (each a p.0)) (orders _ (each b p.1)))
       layer (s.Fail at) c = paid _ (record { by = λ t h. over ls t Any failed h tt })
 
@@ -512,7 +531,7 @@ module _ (program : Resolved) (tid : Tid) (Holds : List Kind → State → Type 
       pub blocks : (xs : List Statement) → AllMet (block_claims program.classes program.methods ls xs) → Goes (block tid call xs)
       blocks [] c = orders [] tt
       blocks (x ∷ xs) c =
-          let p = all_parts Meets (claims x) (block_claims program.classes program.methods ls xs) c in
+          let p = all_split Meets (claims x) (block_claims program.classes program.methods ls xs) c in
           record { by = λ t h. run_then ls t Any Any (statement tid call x t) (λ _. block tid call xs) (((statements x).goes p.0).by t h) (λ a u n q. (blocks xs p.1).by u n.holds) }
 
       pub all_returned : (r : Option Return) (t : State) → Holds ls t → Result ls t (λ u v. Has u (returned_kind program.classes program.methods ls r) (unwrap_or v Null)) (returned r t)

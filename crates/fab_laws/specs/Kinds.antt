@@ -1,10 +1,13 @@
 -- Which type a value has, over the trees that have numbers for names, and what a program claims of the values that it puts somewhere.
 --
--- A program is of fitting types where each claim holds. Nothing is claimed of operands: whatever they are, an operator gives a number.
+-- A program is of fitting types where each claim holds. Nothing is claimed of operands: an operator gives a number where they are numbers
+-- of one width, and otherwise what isn't known, which fits nowhere.
 use Rattle.fab_base.specs.declared.object.Width.{Width}
 use Rattle.fab_base.specs.declared.object.Width.TheVariants as widths
-use Rattle.std.specs.Prelude.{ℕ, Bool, true, false, ◌==◌, List, [], ◌∷◌, ◌++◌, map, length, take, Option, Some, None, slice_get, unwrap_or}
+use Rattle.std.specs.Prelude.{ℕ, Bool, true, false, ◌==◌, List, [], ◌∷◌, ◌++◌, map, length, take, Option, Some, None, slice_get, unwrap_or, if◌then◌else◌}
 use Rattle.std.specs.List.{flat_map}
+use Rattle.fab_tree.specs.declared.expression.UnaryOperator.{UnaryOperator}
+use Rattle.fab_tree.specs.declared.expression.UnaryOperator.TheVariants as unary
 use Rattle.fab_tree.specs.declared.resolved.Sort.{Sort}
 use Rattle.fab_tree.specs.declared.resolved.Sort.TheVariants as sorts
 use Rattle.fab_tree.specs.declared.resolved.Class.{Class}
@@ -42,6 +45,24 @@ kind_of_sort (sorts.Class class) = object class.number
 
 abbrev pub kind_at : List Kind → ℕ → Kind
 kind_at kinds i = unwrap_or (slice_get kinds i) unknown
+
+-- ---- what operators give
+
+-- two numbers of one width give a number of that width; of what else is joined nothing is known
+abbrev pub joined : Kind → Kind → Kind
+joined (number v) (number w) = if is_same_width v w then number v else unknown
+joined _ _ = unknown
+
+-- a chain joins each operand behind the first to what stands before it
+abbrev pub chain_kind : Kind → List Kind → Kind
+chain_kind first [] = first
+chain_kind first (k ∷ ks) = chain_kind (joined first k) ks
+
+-- the negative of a number is as wide, and `!` gives a truth whatever its operand is
+abbrev pub applied_kind : UnaryOperator → Kind → Kind
+applied_kind unary.Negative (number w) = number w
+applied_kind unary.Negative _ = unknown
+applied_kind unary.Not _ = number widths.Int
 
 -- ---- what numbers stand for
 
@@ -95,22 +116,17 @@ all_given takers kinds = counted (length takers) (length kinds) ∷ each_given t
 module _ (classes : List Class) (methods : List Method) (locals : List Kind) where
   -- ---- the kinds of expressions
 
-  -- a chain with an operand behind the first gives a number
-  abbrev pub chain_kind : Kind → List (Unit {0}) → Kind
-  chain_kind first [] = first
-  chain_kind first (o ∷ os) = number widths.Int
-
-  abbrev pub form_kind : f.Form-F Kind Kind (Unit {0}) → Kind
+  abbrev pub form_kind : f.Form-F Kind Kind Kind → Kind
   form_kind (f.Number n) = number (width_of n)
   form_kind f.Null = nothing
   form_kind (f.Local x) = kind_at locals x.number
   form_kind (f.Read x field site) = field_kind classes (kind_at locals x.number) field
-  form_kind (f.Unary o k) = number widths.Int
+  form_kind (f.Unary o k) = applied_kind o k
   form_kind (f.Chain k others) = chain_kind k others
   form_kind (f.Compared k comparison l) = number widths.Int
 
   abbrev pub kind_of : Expression → Kind
-  kind_of = fold-Expression Kind Kind (Unit {0}) form_kind (λ e. e.form) (λ u. tt)
+  kind_of = fold-Expression Kind Kind Kind form_kind (λ e. e.form) (λ u. u.operand)
 
   -- ---- what statements claim
 

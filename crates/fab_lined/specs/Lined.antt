@@ -1,9 +1,9 @@
 -- How few attempts and recoveries there are in runs, of each node and in all.
-use Rattle.std.specs.Prelude.{ℕ, ◌+◌, ◌*◌, ◌≤◌, Bool, true, false, ◌==◌, IsTrue, List, length, count_by}
+use Rattle.std.specs.Prelude.{ℕ, ◌+◌, ◌*◌, ◌≤◌, Bool, false, ◌==◌, IsTrue, List, length, count_by}
 use Rattle.std.specs.List.{range_with_len, sum_by}
 use Rattle.fab_net.specs.declared.event.Inner.{Inner}
 use Rattle.fab_net.specs.declared.event.Inner.TheVariants as i
-use Rattle.fab_world.specs.Machine.{Setting, Move, Form, Does, Cuts, Fails, Posts, Crashes, Never, form_of, at_start, are_enabled}
+use Rattle.fab_world.specs.Machine.{Setting, Move, Form, Does, Cuts, Fails, form_of, at_start, are_enabled}
 use Rattle.fab_world.specs.Serial.{attempts}
 use Rattle.fab_world.specs.Crashing.{CrashLine, KeepsLines, crashes_of}
 

@@ -11,10 +11,11 @@ use Rattle.fab_tree.specs.declared.resolved.Form.TheOpen as f
 use Rattle.fab_tree.specs.declared.resolved.Operand.{Operand, fold-roll-Operand, fold-Operand, roll-out-Operand, out-Operand}
 use Rattle.fab_language.specs.Meaning.{State, goes, M, ◌>>=◌, chained, operate}
 use Rattle.fab_erasure.specs.Erased.{Part, part_of, shown_if, form_step}
-use Rattle.fab_meaning.specs.declared.halt.Halt.{Halt}
-use Rattle.fab_meaning.specs.declared.halt.Halt.TheVariants.{Memory, Ended}
+use Rattle.fab_stack.specs.declared.halt.Halt.{Halt}
+use Rattle.fab_stack.specs.declared.halt.Halt.TheVariants.{Memory, Ended}
+use Rattle.fab_stack.specs.Gives.{Gives}
+use Rattle.fab_stack.specs.Points.{Point}
 use Rattle.fab_meaning.specs.declared.setting.Setting.{Setting}
-use Rattle.fab_meaning.specs.Gives.{Gives}
 use Rattle.fab_meaning.specs.Sights.{sees, shows}
 use Rattle.fab_meaning.specs.Settings.{part, value, is_seen, others_of}
 
@@ -60,12 +61,12 @@ module _ (c : Setting) (m : Method) where
       let b = (part c m first).seen && list_all (λ (u : Operator × Part). u.1.seen) (others_of c m us) in
       ap (λ (r : Part). r.run p) e ∙ ran b (value c m first) (rest us) p q new v w e1 e2 ∙ sym (ap (λ (r : Part). goes (shown_if r.seen w) new) e)
 
-  stopped_at : (b : Bool) (run : M Value) (k : Value → M Value) (p q new : State) (v : Value) (h : Halt) → run p ≡ goes v q → Gives {A = Value} (Err h) new (k v q) → Gives {A = Value} (Err h) new ((part_of b (run >>= k)).run p)
+  stopped_at : (b : Bool) (run : M Value) (k : Value → M Value) (p q : State) (new : Point) (v : Value) (h : Halt) → run p ≡ goes v q → Gives {A = Value} (Err h) new (k v q) → Gives {A = Value} (Err h) new ((part_of b (run >>= k)).run p)
   stopped_at b run k p q new v Memory e1 g = tt
   stopped_at b run k p q new v (Ended end) e1 g = rw (e1, g) refl
 
   -- one of the others ended
-  pub chain_ends : (x first : Expression) (us : List Operand) (p q new : State) (v : Value) (h : Halt) → (out-Expression x).form ≡ kinds.Chain first us
+  pub chain_ends : (x first : Expression) (us : List Operand) (p q : State) (new : Point) (v : Value) (h : Halt) → (out-Expression x).form ≡ kinds.Chain first us
       → value c m first p ≡ goes v q → Gives {A = Value} (Err h) new (rest us v q) → Gives {A = Value} (Err h) new (value c m x p)
   chain_ends x first us p q new v h is e1 g =
       let b = (part c m first).seen && list_all (λ (u : Operator × Part). u.1.seen) (others_of c m us) in

@@ -1,14 +1,14 @@
 //! Expressions. A value that isn't seen is blank.
 ghost use Rattle.std.specs.Prelude.{◌≡◌, map};
-ghost use Rattle.fab_language.specs.Meaning.{State as Point, chained, operate};
-ghost use Rattle.fab_meaning.specs.Gives.{Gives};
+ghost use Rattle.fab_language.specs.Meaning.{chained, operate};
+ghost use Rattle.fab_stack.specs.Gives.{Gives};
+ghost use Rattle.fab_stack.specs.Points.{Point};
 ghost use Rattle.fab_meaning.specs.Settings.{others_of, value, values};
 
-use crate::halt::{End, Halt};
 use crate::setting::Setting;
 use crate::shown::{is_seen, read_shown, shown_if};
-use crate::state::State;
 use fab_base::{Seq, Value};
+use fab_stack::{End, Halt, State};
 use fab_tree::Operator;
 use fab_tree::resolved::{Expression, Form, Method, Operand};
 use fab_values::{applied, compares, operate, truth};
@@ -21,8 +21,9 @@ pub(crate) fn value(
     state: &mut State<'_>,
     expression: &Expression,
 ) -> Result<Value, Halt>
-    ensures gives { Gives result state.new (value setting.now method.now expression.now state.old) }
-    ensures fuel { state.new.fuel ≡ state.old.fuel }
+    ensures gives { Gives result state.new (value setting.now method.now expression.now state.old.state) }
+    ensures base { state.new.base ≡ state.old.base }
+    ensures fuel { state.new.state.fuel ≡ state.old.state.fuel }
 {
     let seen = is_seen(setting, method, expression);
     match &expression.form {
@@ -68,8 +69,9 @@ fn chained(
     others: &[Operand],
     first: Value,
 ) -> Result<Value, Halt>
-    ensures gives { Gives result state.new (chained operate (map (λ u. (u.0, u.1.run)) (others_of setting.now method.now others.now)) first state.old) }
-    ensures fuel { state.new.fuel ≡ state.old.fuel }
+    ensures gives { Gives result state.new (chained operate (map (λ u. (u.0, u.1.run)) (others_of setting.now method.now others.now)) first state.old.state) }
+    ensures base { state.new.base ≡ state.old.base }
+    ensures fuel { state.new.state.fuel ≡ state.old.state.fuel }
 {
     let mut v = first;
     for other in others {
@@ -81,7 +83,7 @@ fn chained(
 
 /// What an operator makes of two values, or a failure.
 fn operated(operator: Operator, left: Value, right: Value) -> Result<Value, Halt>
-    ensures { (p : Point) → Gives result p (operate operator left right p) }
+    ensures { (p : Point) → Gives result p (operate operator left right p.state) }
 {
     match operate(operator, left, right) {
         Some(value) => Ok(value),
@@ -96,8 +98,9 @@ pub(crate) fn values(
     state: &mut State<'_>,
     arguments: &[Expression],
 ) -> Result<Seq<Value>, Halt>
-    ensures gives { Gives result state.new (values setting.now method.now arguments.now state.old) }
-    ensures fuel { state.new.fuel ≡ state.old.fuel }
+    ensures gives { Gives result state.new (values setting.now method.now arguments.now state.old.state) }
+    ensures base { state.new.base ≡ state.old.base }
+    ensures fuel { state.new.state.fuel ≡ state.old.state.fuel }
 {
     let mut all = Seq::new(state.alloc());
     for argument in arguments {

@@ -1,8 +1,7 @@
-//! Who sees what, and in what a method of a program is run.
-ghost use Rattle.std.specs.Prelude.{◌≡◌, ◌-◌};
+//! Who sees what, and of which program a statement is.
+ghost use Rattle.std.specs.Prelude.{◌≡◌};
 ghost use Rattle.fab_meaning.specs.Sights.{sees, shows};
 
-use fab_base::Tid;
 use fab_places::Seen;
 use fab_rights::is_in;
 use fab_tree::resolved::Resolved;
@@ -36,12 +35,9 @@ impl Sight {
     }
 }
 
-/// In what a method is run: its program, who sees what, the attempt, and how many calls more may be
-/// open at once.
+/// In what a statement is done: its program, and who sees what.
 #[derive(Clone, Copy)]
 pub(crate) struct Setting<'a> {
     pub(crate) program: &'a Resolved,
     pub(crate) sight: Sight,
-    pub(crate) tid: Tid,
-    pub(crate) depth: u32,
 }

@@ -4,14 +4,13 @@ ghost use Rattle.std.specs.Prelude.{◌≡◌, IfOk, map, option_copied, slice_g
 ghost use Rattle.std.specs.List.{list_all};
 ghost use Rattle.fab_base.specs.declared.object.Value.TheVariants.{Null};
 ghost use Rattle.fab_erasure.specs.Erased.{fields_shown, read_shown, shown_if, write_shown};
-ghost use Rattle.fab_meaning.specs.Gives.{Gives};
+ghost use Rattle.fab_stack.specs.Gives.{Gives};
 ghost use Rattle.fab_meaning.specs.Settings.{class_behind, is_seen, others_of, sees_local, sees_read};
 ghost use Rattle.fab_meaning.specs.Sights.{sees, shows};
 
-use crate::halt::{End, Halt};
 use crate::setting::{Setting, Sight};
-use crate::state::State;
 use fab_base::{NoMemory, Seq, Value};
+use fab_stack::{End, Halt, State};
 use fab_tree::resolved::{Class, Expression, Form, Method, Operand, Sort, Use};
 use std::alloc::Global;
 
@@ -23,11 +22,11 @@ pub(crate) fn shown_if(seen: bool, value: Value) -> Value
 }
 
 /// Whether the label of a local is seen, if there is such a local.
-pub(crate) fn sees_local(setting: &Setting<'_>, method: &Method, local: u16) -> bool
-    ensures { result ≡ sees_local setting.now method.now local }
+pub(crate) fn sees_local(sight: Sight, method: &Method, local: u16) -> bool
+    ensures { result ≡ sees_local sight method.now local }
 {
     match method.locals.as_slice().get(usize::from(local)) {
-        Some(found) => setting.sight.sees(found.label.number),
+        Some(found) => sight.sees(found.label.number),
         None => true,
     }
 }
@@ -57,7 +56,7 @@ pub(crate) fn sees_read(setting: &Setting<'_>, method: &Method, local: Use) -> b
         Some(class) => setting.sight.sees(class.label.number),
         None => true,
     };
-    sees_local(setting, method, local.number) && sees_class
+    sees_local(setting.sight, method, local.number) && sees_class
 }
 
 /// Whether the value of an expression is seen.
@@ -67,7 +66,7 @@ pub(crate) fn is_seen(setting: &Setting<'_>, method: &Method, expression: &Expre
 {
     match &expression.form {
         Form::Number(_) | Form::Null => true,
-        Form::Local(x) => sees_local(setting, method, x.number),
+        Form::Local(x) => sees_local(setting.sight, method, x.number),
         Form::Read { object, .. } => sees_read(setting, method, *object),
         Form::Unary { operand, .. } => is_seen(setting, method, operand.get()),
         Form::Chain { first, others } => {
@@ -100,8 +99,9 @@ pub(crate) fn read_shown(
     field: u16,
     at: Value,
 ) -> Result<Value, Halt>
-    ensures gives { Gives result state.new (read_shown (sees sight) (shows sight) site field at state.old) }
-    ensures fuel { state.new.fuel ≡ state.old.fuel }
+    ensures gives { Gives result state.new (read_shown (sees sight) (shows sight) site field at state.old.state) }
+    ensures base { state.new.base ≡ state.old.base }
+    ensures fuel { state.new.state.fuel ≡ state.old.state.fuel }
 {
     match at {
         Value::Ref(oid) => {
@@ -124,8 +124,9 @@ pub(crate) fn write_shown(
     value: Value,
     at: Value,
 ) -> Result<(), Halt>
-    ensures gives { Gives result state.new (write_shown (sees sight) (shows sight) site field value at state.old) }
-    ensures fuel { state.new.fuel ≡ state.old.fuel }
+    ensures gives { Gives result state.new (write_shown (sees sight) (shows sight) site field value at state.old.state) }
+    ensures base { state.new.base ≡ state.old.base }
+    ensures fuel { state.new.state.fuel ≡ state.old.state.fuel }
 {
     match at {
         Value::Ref(oid) => {

@@ -1,25 +1,22 @@
 //! A whole request.
 ghost use Rattle.std.specs.Prelude.{◌≡◌, IfOk};
-ghost use Rattle.fab_language.specs.Meaning.{ending_at, meaning as what_is_meant};
+ghost use Rattle.fab_language.specs.Meaning.{meaning as what_is_meant, meant_at};
 ghost use Rattle.fab_rights.specs.Computed.{has_bit};
 ghost use Rattle.fab_erasure.specs.Erased.{erased};
-ghost use Rattle.fab_meaning.specs.Ends.{EndsIn, AreChanges, IsMeant};
-ghost use Rattle.fab_meaning.specs.Gives.{end_of};
+ghost use Rattle.fab_meaning.specs.Ends.{AreChanges, IsMeant, ended_by, ending_of};
 ghost use Rattle.fab_meaning.specs.Sights.{sees, shows};
 
-use crate::halt::{End, Halt};
-use crate::setting::{Setting, Sight};
-use crate::state::State;
-use crate::statements::called;
+use crate::erased::Erased;
+use crate::methods::{blank_result, locals_at_start};
+use crate::setting::Sight;
 use fab_base::{NoMemory, Object, Oid, Seq, Tid, Value};
 use fab_erasure::everything_seen;
 use fab_language::Ending;
 use fab_map::ObjectMap;
 use fab_places::Seen;
+use fab_stack::{End, State, Way, begun, run};
 use fab_tree::resolved::{Request, Resolved};
-use std::alloc::{AllocError, Global};
-
-const DEPTH: u32 = 64;
+use std::alloc::Global;
 
 /// What a request does: how it ends, the map as it then stands with the names that were written and
 /// made in it, the touches, and the values that were downgraded, each with its site.
@@ -39,6 +36,13 @@ pub struct Meant {
 pub struct Changes {
     pub ending: Ending,
     pub changed: Seq<(Oid, Object)>,
+}
+
+/// How a request ended, and what stands at its end.
+#[derive(Drop)]
+struct Finished<'a> {
+    ended: Result<Option<Value>, End>,
+    state: State<'a>,
 }
 
 /// What a request means in a program, as far as it can be computed by who sees the labels and is shown
@@ -97,17 +101,13 @@ pub fn effect(
 ) -> Result<Changes, NoMemory>
     ensures { IfOk result (λ e. AreChanges e (erased (has_bit seen.now.labels) (has_bit seen.now.classes) program.now known.now request.now tid fuel given.now)) }
 {
-    let mut state = State::begin(alloc, known, fuel, given)?;
-    let args = Seq::from_slice(alloc, request.args.as_slice())?;
-    let setting = Setting {
-        program,
-        sight: Sight::Part(*seen),
-        tid,
-        depth: DEPTH,
-    };
-    let ended = called(&setting, &mut state, request.method, args);
-    let ending = ending_of(ended)?;
-    state.effect(ending)
+    let sight = Sight::Part(*seen);
+    let Finished { ended, state } = ran(alloc, program, sight, known, given, request, tid, fuel)?;
+    let changed = state.changes()?;
+    Ok(Changes {
+        ending: ending_of(ended),
+        changed,
+    })
 }
 
 fn found(
@@ -122,36 +122,74 @@ fn found(
 ) -> Result<Meant, NoMemory>
     ensures { IfOk result (λ m. IsMeant m (erased (sees sight) (shows sight) program.now known.now request.now tid fuel given.now)) }
 {
-    let mut state = State::begin(alloc, known, fuel, given)?;
-    let args = Seq::from_slice(alloc, request.args.as_slice())?;
-    let setting = Setting {
-        program,
-        sight,
-        tid,
-        depth: DEPTH,
-    };
-    let ended = called(&setting, &mut state, request.method, args);
-    let ending = ending_of(ended)?;
-    state.meant(ending)
+    let Finished { ended, state } = ran(alloc, program, sight, known, given, request, tid, fuel)?;
+    let (map, written, made) = state.parts()?;
+    let (touches, downs) = state.into_notes()?;
+    Ok(Meant {
+        ending: ending_of(ended),
+        map,
+        written,
+        made,
+        touches,
+        downs,
+    })
 }
 
-/// The ending of a request that a call ended so.
-fn ending_of(ended: Result<Option<Value>, Halt>) -> Result<Ending, NoMemory>
-    ensures { IfOk result (EndsIn ended) }
+/// Runs a request's method, if there is one and it is seen, to the end or until an object lacks.
+fn ran<'a>(
+    alloc: Global,
+    program: &Resolved,
+    sight: Sight,
+    known: &'a ObjectMap,
+    given: &[Value],
+    request: &Request,
+    tid: Tid,
+    fuel: u32,
+) -> Result<Finished<'a>, NoMemory>
+    ensures { IfOk result (λ r. erased (sees sight) (shows sight) program.now known.now request.now tid fuel given.now ≡ meant_at (ending_of r.ended) r.state.state) }
 {
-    match ended {
-        Ok(value) => Ok(Ending::Ended(value)),
-        Err(Halt::Ended(end)) => Ok(ending_at(end)),
-        Err(Halt::Memory) => Err(AllocError),
+    // (a map's rows are in the order of names)
+    let _ = known.rows();
+    let mut state = State::over(alloc, tid, fuel, known, given)?;
+    let Some(first) = program.methods.as_slice().get(usize::from(request.method)) else {
+        return Ok(Finished {
+            ended: Ok(None),
+            state,
+        });
+    };
+    if !sight.sees(first.begin.number) {
+        return Ok(Finished {
+            ended: Ok(blank_result(first)),
+            state,
+        });
+    }
+    let locals = locals_at_start(alloc, sight, first, request.args.as_slice())?;
+    let mut stack = begun(&mut state, first, locals)?;
+    let way = run(&Erased { sight }, program, first, &mut stack, &mut state)?;
+    Ok(Finished {
+        ended: ended_by(way),
+        state,
+    })
+}
+
+/// How a run ended; one that lacks an object ended there.
+fn ended_by(way: Way) -> Result<Option<Value>, End>
+    ensures { result ≡ ended_by way }
+{
+    match way {
+        Way::Over(ended) => ended,
+        Way::Lacks { site, oid, .. } => Err(End::Missing { site, oid }),
     }
 }
 
-fn ending_at(end: End) -> Ending
-    ensures { result ≡ ending_at (end_of end) }
+/// The ending of a request that a run ended so.
+fn ending_of(ended: Result<Option<Value>, End>) -> Ending
+    ensures { result ≡ ending_of ended }
 {
-    match end {
-        End::Failed => Ending::Failed,
-        End::Stopped(stop) => Ending::Stopped(stop),
-        End::Missing { site, oid } => Ending::Missing { site, oid },
+    match ended {
+        Ok(value) => Ending::Ended(value),
+        Err(End::Failed) => Ending::Failed,
+        Err(End::Stopped(stop)) => Ending::Stopped(stop),
+        Err(End::Missing { site, oid }) => Ending::Missing { site, oid },
     }
 }

@@ -1,5 +1,3 @@
--- lists that are empty together
-pub mod Lists
 -- the tokens of a text are well formed
 pub mod Words
 -- what holds of each token holds of those that are left

@@ -2,7 +2,7 @@
 use Rattle.std.proofs.Common.{◌≡◌, ℕ, Bool, true, not, [], ◌++◌, length, Option, Some, None, refl, ap, subst, arith}
 use Rattle.std.specs.List.{AllByRecursion, flat_map}
 use Rattle.std.proofs.lemmas.Bool.{and_parts}
-use Rattle.fab_base.proofs.Lists.{left_nil, right_nil, each_nil, all_map, true_if_empty}
+use Rattle.fab_base.proofs.Lists.{left_nil, right_nil, each_nil, all_map, true_if_empty, all_two}
 use Rattle.fab_tree.specs.declared.name.Name.{Name}
 use Rattle.fab_tree.specs.declared.declaration.Role.{Role}
 use Rattle.fab_tree.specs.declared.event.PostLine.{PostLine}
@@ -27,7 +27,6 @@ use Rattle.fab_language.specs.Uses.{node_number}
 use Rattle.fab_language.proofs.Named.{honest_worker_node, hostile_node}
 use Rattle.fab_reports.specs.Showable.{IsNode}
 use Rattle.fab_named.specs.Events.{IsStepOf, IsEventOf}
-use Rattle.fab_named.proofs.Lists.{from_two}
 use Rattle.fab_named.proofs.Numbered.{name_among}
 
 -- a name that isn't unknown stands for something
@@ -140,17 +139,17 @@ module _ (s : Start) where
   pub posts_have_numbers : faults s ≡ [] → AllByRecursion (λ p. HasNumber p.receiver × HasNumber p.sender) (resolved s).posts
   posts_have_numbers e =
       all_map (λ (p : Post). HasNumber p.receiver × HasNumber p.sender) (post_of s) s.posts
-      (from_two (λ x. unknown.in_post s x ≡ []) (λ x. roles.in_post s x ≡ []) (λ x. HasNumber (node_number s x.receiver) × HasNumber (node_number s x.sender)) s.posts
-      post_has_numbers (each_nil (unknown.in_post s) s.posts (both e).0.posts) (each_nil (roles.in_post s) s.posts (both e).1.posts))
+      (all_two (λ x. unknown.in_post s x ≡ []) (λ x. roles.in_post s x ≡ []) (λ x. HasNumber (node_number s x.receiver) × HasNumber (node_number s x.sender)) post_has_numbers
+      s.posts (each_nil (unknown.in_post s) s.posts (both e).0.posts) (each_nil (roles.in_post s) s.posts (both e).1.posts))
 
   pub crashes_have_numbers : faults s ≡ [] → AllByRecursion (λ c. HasNumber c.node) (resolved s).crashes
   crashes_have_numbers e =
       all_map (λ (c : Crash). HasNumber c.node) (crash_of s) s.crashes
-      (from_two (λ x. unknown.in_crash s x ≡ []) (λ x. roles.in_crash s x ≡ []) (λ x. HasNumber (node_number s x.node)) s.crashes
-      crash_has_number (each_nil (unknown.in_crash s) s.crashes (both e).0.crashes) (each_nil (roles.in_crash s) s.crashes (both e).1.crashes))
+      (all_two (λ x. unknown.in_crash s x ≡ []) (λ x. roles.in_crash s x ≡ []) (λ x. HasNumber (node_number s x.node)) crash_has_number
+      s.crashes (each_nil (unknown.in_crash s) s.crashes (both e).0.crashes) (each_nil (roles.in_crash s) s.crashes (both e).1.crashes))
 
   pub events_have_numbers : faults s ≡ [] → AllByRecursion (IsEventOf (resolved s)) (resolved s).schedule
   events_have_numbers e =
       all_map (IsEventOf (resolved s)) (event_of s) s.schedule
-      (from_two (λ x. unknown.in_event s x ≡ []) (λ x. roles.in_event s x ≡ []) (λ x. IsEventOf (resolved s) (event_of s x)) s.schedule
-      event_has_numbers (each_nil (unknown.in_event s) s.schedule (both e).0.events) (each_nil (roles.in_event s) s.schedule (both e).1.events))
+      (all_two (λ x. unknown.in_event s x ≡ []) (λ x. roles.in_event s x ≡ []) (λ x. IsEventOf (resolved s) (event_of s x)) event_has_numbers
+      s.schedule (each_nil (unknown.in_event s) s.schedule (both e).0.events) (each_nil (roles.in_event s) s.schedule (both e).1.events))

@@ -1,6 +1,11 @@
+pub mod Answering
 pub mod Calling
 pub mod Naming
 pub mod Noting
+pub mod Over
+pub mod Rows
+pub mod Starting
 pub mod Stepping
+pub mod Telling
 pub mod Touching
 pub mod Undoing

@@ -1,5 +1,5 @@
 -- Names in sets, and versions by name.
-use Rattle.std.proofs.Common.{◌≡◌, ℕ, zero, suc, ◌+◌, ◌-◌, ◌<◌, Bool, true, false, ◌||◌, if◌then◌else◌, List, [], ◌∷◌, ◌++◌, length, get_or, map, take, Option, Some, None, unwrap_or, Result, Ok, Err, IfOk, is_err, refl, sym, ap, ◌∙◌, arith}
+use Rattle.std.proofs.Common.{◌≡◌, ℕ, zero, suc, ◌+◌, ◌-◌, ◌<◌, Bool, true, false, ◌||◌, if◌then◌else◌, List, [], ◌∷◌, ◌++◌, length, get_or, map, take, Some, unwrap_or, Result, Ok, Err, IfOk, is_err, refl, sym, ap, ◌∙◌, arith}
 use Rattle.std.specs.List.{list_any, IsDistinct, AllByRecursion}
 use Rattle.std.specs.Map.{lookup, keys_of}
 use Rattle.std.proofs.lemmas.List.{length_push, length-map, get_or-map, map_more, take-map, take_at}
@@ -14,7 +14,6 @@ use Rattle.fab_base.specs.contracts.object.OidPartialEq as oids
 use Rattle.fab_language.specs.Heaps.{is_among}
 use Rattle.fab_nested.specs.Nested.{Answers, names_of, versions_of, version_of}
 use Rattle.fab_nested.specs.Logs.{but_last}
-use Rattle.fab_base.proofs.Names.{same_flips}
 
 -- the derived comparison of names is that of their parts
 pub eq_is : (o p : Oid) → oids.TheImpl.ghosts.eq o p ≡ is_same p o
@@ -41,6 +40,10 @@ pub joins : {E : Type 0} (o : Oid) (old new : List Oid) (r : Result Bool E) → 
 joins o old new (Ok b) h e absent = h ∙ rw (among_by o old ∙ absent) refl
 joins o old new (Err x) h e absent = absurd (true≢false e)
 
+pub first_of_two : (a b : Bool) → (a || b) ≡ false → a ≡ false
+first_of_two true b h = absurd (true≢false h)
+first_of_two false b h = refl
+
 pub neither : (a b : Bool) → (a || b) ≡ false → b ≡ false
 neither true b h = absurd (true≢false h)
 neither false b h = h
@@ -56,7 +59,7 @@ version_found (v ∷ vs) o = rw (eq_is o v.0, version_found vs o) (by_test (is_s
     by_test false = refl
 
 -- a name that stands in no entry goes last
-insert_last : (o : Oid) (n : ℕ) (vs : List (Oid × ℕ)) → is_among o (map (λ (v : Oid × ℕ). v.0) vs) ≡ false → insert_entry oids.TheImpl.ghosts.eq vs o n ≡ vs ++ (o, n) ∷ []
+pub insert_last : (o : Oid) (n : ℕ) (vs : List (Oid × ℕ)) → is_among o (map (λ (v : Oid × ℕ). v.0) vs) ≡ false → insert_entry oids.TheImpl.ghosts.eq vs o n ≡ vs ++ (o, n) ∷ []
 insert_last o n [] h = refl
 insert_last o n (v ∷ vs) h = rw (eq_is o v.0) (by_test (is_same v.0 o) h (λ k. insert_last o n vs k))
   where
@@ -101,3 +104,8 @@ version_more answers i a vs new apart lt read e f =
         ap (is_among a.0) (keys_kept (λ (x : Oid × ℕ × Object). x.1) (take i answers) ∙ sym (take-map (λ (x : Oid × ℕ × Object). x.0) i answers))
         ∙ ap (λ o. is_among o (take i (names_of answers))) (sym name)
         ∙ new_at (names_of answers) i a.0 apart (let same = length-map answers (λ (x : Oid × ℕ × Object). x.0) in omega arith)
+
+-- what an insertion that succeeded leaves
+pub inserted : {A E : Type 0} (r : Result A E) (left all : List (Oid × ℕ)) → is_err r ≡ false → IfOk r (λ _. left ≡ all) → left ≡ all
+inserted (Ok x) left all e h = h
+inserted (Err x) left all e h = absurd (true≢false e)

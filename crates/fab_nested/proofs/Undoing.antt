@@ -1,11 +1,13 @@
 -- The log of changes, with marks: the heaps at the marks are as they were when the marks were set.
-use Rattle.std.proofs.Common.{◌≡◌, ℕ, zero, suc, ◌+◌, ◌≤◌, List, [], ◌∷◌, ◌++◌, length, length-take, map, reverse, take, drop, Option, Some, None, option_to_list, append-nil, refl, sym, ap, ◌∙◌, subst, arith}
+use Rattle.std.proofs.Common.{◌≡◌, ℕ, zero, suc, ◌≤◌, List, [], ◌∷◌, ◌++◌, length, map, reverse, take, drop, Option, Some, None, option_to_list, append-nil, refl, sym, ap, ◌∙◌, subst, arith}
 use Rattle.std.proofs.lemmas.List.{length_push, take-append-le, drop-append-le, drop_all, map_push, reverse-append, length-take-le}
 use Rattle.fab_base.specs.declared.object.Oid.{Oid}
 use Rattle.fab_language.specs.Heaps.{Heap}
 use Rattle.fab_nested.specs.declared.log.Change.{Change}
-use Rattle.fab_nested.specs.Nested.{Nested, aborted, back_to}
+use Rattle.fab_base.specs.FlatMap.{FlatMap}
+use Rattle.fab_nested.specs.Nested.{Nested, entered, aborted, back_to}
 use Rattle.fab_nested.specs.Logs.{before, before_all, heap_at, saved_in, noted_change, IsBelow, AreMarks, IsSound, AreSound, IsLogged}
+use Rattle.fab_nested.specs.Overlay.{over, framed}
 
 -- ---- marks
 
@@ -137,9 +139,6 @@ module _ (log was : List Change) (c : Change) (mark : ℕ) (e : was ≡ log ++ c
   pub front_stays : (to : List Change) → take mark was ≡ to → take mark log ≡ to
   front_stays to g = sym (ap (take mark) e ∙ take-append-le mark log (c ∷ []) le) ∙ g
 
-abbrev pub nested : List (Oid × ℕ) → Heap → List Heap → List (ℕ × Oid) → Nested
-nested versions now saved touches = record { versions = versions; now = now; saved = saved; touches = touches }
-
 -- a change is noted
 module _ (log later reserved : List Change) (c : Change) (h new : Heap) (marks told : List ℕ) (l : IsLogged log h marks) (back : before c new ≡ h) (e : later ≡ noted_change told c reserved) (f : told ≡ marks) (g : reserved ≡ log) where
   whole : later ≡ noted_change marks c log
@@ -167,13 +166,19 @@ module _ (log : List Change) (h : Heap) (marks others : List ℕ) (k : ℕ) (l :
     saved_stay : saved_in later new others ≡ saved_in log h others
     saved_stay = (λ i. saved_in (g i) (f i) others) ∙ saved_aborted log h others k with_last
 
-    pub aborted_is : (versions : List (Oid × ℕ)) (touches : List (ℕ × Oid)) (n : Nested) → nested versions h (saved_in log h marks) touches ≡ n → nested versions new (saved_in later new others) touches ≡ aborted n
-    aborted_is versions touches n seen =
-        (λ i. nested versions (f i) (saved_stay i) touches)
-        ∙ ap (λ hs. back_to hs (nested versions h (saved_in log h marks) touches)) (sym (ap (saved_in log h) e ∙ saved_last log h others k))
+    pub aborted_is : (versions : List (Oid × ℕ)) (known : FlatMap) (touches : List (ℕ × Oid)) (n : Nested) → framed versions known log h marks touches ≡ n → framed versions known later new others touches ≡ aborted n
+    aborted_is versions known touches n seen =
+        (λ i. record { versions = versions; now = over known (f i); saved = map (over known) (saved_stay i); touches = touches })
+        ∙ ap (λ hs. back_to (map (over known) hs) (framed versions known log h marks touches)) (sym (ap (saved_in log h) e ∙ saved_last log h others k))
         ∙ ap aborted seen
 
 -- whether there is a mark or not
 pub popped_logged : (log : List Change) (h : Heap) (marks others : List ℕ) (r : Option ℕ) → IsLogged log h marks → marks ≡ others ++ option_to_list r → IsLogged log h others
 popped_logged log h marks others None l e = subst (IsLogged log h) (e ∙ append-nil others) l
 popped_logged log h marks others (Some k) l e = merged_logged log h marks others k l e
+
+-- the heap is saved
+pub entered_is : (versions : List (Oid × ℕ)) (known : FlatMap) (log : List Change) (h : Heap) (marks later : List ℕ) (touches : List (ℕ × Oid)) (n : Nested) → later ≡ marks ++ length log ∷ [] → framed versions known log h marks touches ≡ n → framed versions known log h later touches ≡ entered n
+entered_is versions known log h marks later touches n e seen =
+    (λ i. record { versions = versions; now = over known h; saved = map (over known) ((ap (saved_in log h) e ∙ saved_entered log h marks) i); touches = touches })
+    ∙ ap entered seen

@@ -1,3 +1,5 @@
 pub mod Calls
+pub mod Effects
 pub mod Logs
 pub mod Nested
+pub mod Overlay

@@ -1,32 +1,38 @@
--- A log of changes of a heap, by which earlier heaps are had again.
-use Rattle.std.specs.Prelude.{◌≡◌, ℕ, ◌-◌, ◌≤◌, Bool, true, false, if◌then◌else◌, List, [], ◌∷◌, ◌++◌, length, map, reverse, take, drop, Option, Some, None, is_some}
+-- A log of the changes of a heap, by which earlier heaps are had again. The heaps here have the changed objects alone.
+use Rattle.std.specs.Prelude.{◌≡◌, ℕ, ◌-◌, ◌≤◌, true, List, [], ◌∷◌, ◌++◌, length, map, reverse, take, drop, Option, Some, None, is_some, if◌then◌else◌}
 use Rattle.fab_base.specs.declared.object.Oid.{Oid}
-use Rattle.fab_base.specs.FlatMap.{get, ascends}
-use Rattle.fab_language.specs.Heaps.{Heap, is_among, is_changed, is_spent, changed}
+use Rattle.fab_base.specs.declared.object.Object.{Object}
+use Rattle.fab_base.specs.FlatMap.{FlatMap, get, put, ascends}
+use Rattle.fab_language.specs.Heaps.{Heap, is_changed, changed}
 use Rattle.fab_map.specs.Changes.{put_field, removed}
 use Rattle.fab_nested.specs.declared.log.Change.{Change}
-use Rattle.fab_nested.specs.declared.log.Change.TheVariants.{Wrote, Made}
+use Rattle.fab_nested.specs.declared.log.Change.TheVariants.{Wrote, Joined, Made, Remade}
 use Rattle.fab_nested.specs.declared.objects.Objects.{Objects}
 
--- the heap that these objects are
+-- the objects that were changed, as a heap
 abbrev pub heap_of : Objects → Heap
-heap_of objects = record { rows = objects.map; written = objects.written.keys; made = objects.made.keys }
+heap_of objects = record { rows = objects.changed; written = objects.written.keys; made = objects.made.keys }
 
 -- all names but the last
 abbrev pub but_last : List Oid → List Oid
 but_last os = take (length os - 1) os
 
--- the heap before a change
-abbrev pub before : Change → Heap → Heap
-before (Wrote o field old joined) h = record h { rows = put_field o field old h.rows; written = if joined then but_last h.written else h.written }
-before (Made o) h = record h { rows = removed o h.rows; made = but_last h.made }
+-- where there is an object of this name, this one takes its place
+abbrev pub put_again : Oid → Object → FlatMap → FlatMap
+put_again o x rows = if is_some (get rows o) then put o x rows else rows
 
--- What counting an object as changed made of a heap: nothing, since it would be one too many; or the object joined
--- those that were written, or it was changed before.
-abbrev pub Counts : Oid → Heap → Heap → Option Bool → Type 0
-Counts o old new None = (is_changed o old ≡ false) × (is_spent old ≡ true) × (new ≡ old)
-Counts o old new (Some true) = (is_changed o old ≡ false) × (is_spent old ≡ false) × (new ≡ record old { written = old.written ++ o ∷ [] })
-Counts o old new (Some false) = (is_changed o old ≡ true) × (new ≡ old)
+-- The heap before a change: a field held another value; an object wasn't written yet, and so not changed; it wasn't made; or it
+-- was another one, and not made.
+abbrev pub before : Change → Heap → Heap
+before (Wrote o field old) h = record h { rows = put_field o field old h.rows }
+before (Joined o) h = record h { rows = removed o h.rows; written = but_last h.written }
+before (Made o) h = record h { rows = removed o h.rows; made = but_last h.made }
+before (Remade o x) h = record h { rows = put_again o x h.rows; made = but_last h.made }
+
+-- the change in which an object of a name is made, where this one of it was changed before, or none
+abbrev pub making : Oid → Option Object → Change
+making o None = Made o
+making o (Some x) = Remade o x
 
 -- What a step from an old heap to a new one gave, where it was to come to this heap or to none: a change that leads
 -- back, or nothing, with the heap as it was.
@@ -63,10 +69,10 @@ abbrev pub AreMarks : List ℕ → ℕ → Type 0
 AreMarks [] n = Unit {0}
 AreMarks (k ∷ marks) n = (k ≤ n) × IsBelow k marks × AreMarks marks n
 
--- names ascend, what was made is there, and no more was changed than may be
+-- names ascend, the objects are those that were written or made and no others, and no more were changed than may be
 pub record IsSound (h : Heap) : Type 0 where
   pub ascending : ascends h.rows ≡ true
-  pub made_there : (o : Oid) → is_among o h.made ≡ true → is_some (get h.rows o) ≡ true
+  pub there : (o : Oid) → is_some (get h.rows o) ≡ is_changed o h
   pub few : changed h ≤ 256
 
 abbrev pub AreSound : List Heap → Type 0

@@ -1,12 +1,12 @@
 -- The objects of a run, with the heaps to which a failure may have to go back, and what each call does.
-use Rattle.std.specs.Prelude.{ℕ, if◌then◌else◌, List, [], ◌∷◌, map, filter, Option, Some, None}
+use Rattle.std.specs.Prelude.{ℕ, if◌then◌else◌, List, [], ◌∷◌, ◌++◌, map, filter, Option, Some, None}
 use Rattle.fab_base.specs.declared.object.Oid.{Oid}
 use Rattle.fab_base.specs.declared.object.Object.{Object}
 use Rattle.fab_base.specs.declared.object.Value.{Value}
 use Rattle.fab_base.specs.declared.object.Stop.{Stop}
 use Rattle.fab_base.specs.declared.object.Stop.TheVariants.{Reads, Writes}
 use Rattle.fab_base.specs.FlatMap.{FlatMap, is_same, map_of}
-use Rattle.fab_language.specs.Heaps.{Heap, Reach, gone, full, found, reach, replaced, created, is_among}
+use Rattle.fab_language.specs.Heaps.{Heap, Reach, gone, full, found, reach, replaced, created, with_row, is_among}
 use Rattle.fab_language.specs.Meaning.{field_of, with_field, unchanged}
 
 -- objects as they were answered, each with its version
@@ -33,6 +33,19 @@ pub record Nested : Type 0 where
 -- nothing is written, made or touched yet, and no heap is saved
 abbrev pub nested_of : Answers → Nested
 nested_of answers = record { versions = versions_of answers; now = unchanged (map_of (objects_of answers)); saved = []; touches = [] }
+
+-- the same over a map of objects without versions
+abbrev pub nested_over : FlatMap → Nested
+nested_over known = record { versions = []; now = unchanged known; saved = []; touches = [] }
+
+-- one answer more: its object is in the heap, and in each heap that is saved
+abbrev pub answered : Oid → ℕ → Object → Nested → Nested
+answered o version x n = record {
+  versions = n.versions ++ (o, version) ∷ [];
+  now = with_row o x n.now;
+  saved = map (with_row o x) n.saved;
+  touches = n.touches;
+}
 
 -- ---- objects are read, written and made
 

@@ -2,10 +2,10 @@
 ghost use Rattle.std.specs.Prelude.{◌≡◌, IfOk};
 ghost use Rattle.std.specs.List.{IsDistinct};
 ghost use Rattle.fab_base.specs.FlatMap.{is_same};
-ghost use Rattle.fab_language.specs.Meaning.{field_of};
+ghost use Rattle.fab_language.specs.Meaning.{field_of, with_field};
 ghost use Rattle.fab_nested.specs.Nested.{names_of, objects_of, version_of, versions_of};
 
-use fab_base::{NoMemory, Object, Oid, Value};
+use fab_base::{NoMemory, Object, Oid, Seq, Value};
 use indexmap::IndexMap;
 use std::alloc::Global;
 
@@ -51,4 +51,19 @@ pub fn field_of(object: &Object, field: u16) -> Value
 {
     let fields = object.fields.as_slice();
     fields.get(field as usize).copied().unwrap_or(Value::Null)
+}
+
+/// An object with another value in a field; it stays as it is where it has no such field.
+pub(crate) fn with_field(object: Object, field: u16, value: Value) -> Object
+    ensures { result ≡ with_field field value object }
+{
+    let class = object.class;
+    let mut items = object.into_fields().into_vec();
+    if (field as usize) < items.len() {
+        items[field as usize] = value;
+    }
+    Object {
+        class,
+        fields: Seq::from_vec(items),
+    }
 }

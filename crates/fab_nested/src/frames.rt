@@ -1,15 +1,18 @@
 //! Frames: one heap, with the heaps to which a failure may have to go back.
-ghost use Rattle.std.specs.Prelude.{◌≡◌, None, Some, IfOk, OnOk, OnErr, if◌then◌else◌};
+ghost use Rattle.std.specs.Prelude.{◌≡◌, ◌++◌, [], length, take, true, false, None, Some, IfOk, OnOk, OnErr, if◌then◌else◌};
 ghost use Rattle.std.specs.Bool.{OnFalse};
 ghost use Rattle.std.specs.List.{IsDistinct};
 ghost use Rattle.fab_base.specs.declared.object.Object.{Object as AnyObject};
-ghost use Rattle.fab_base.specs.FlatMap.{get, is_same};
-ghost use Rattle.fab_language.specs.Heaps.{found, full, index_at, reach_in};
+ghost use Rattle.fab_base.specs.FlatMap.{ascends, get, is_same};
+ghost use Rattle.fab_language.specs.Heaps.{found, full, index_at, is_among, is_changed, reach_in, touched};
 ghost use Rattle.fab_nested.specs.Calls.{Gives};
-ghost use Rattle.fab_nested.specs.Nested.{aborted, create, creates_in, entered, merged, names_of, nested_of, read, write, writes_in};
+ghost use Rattle.fab_nested.specs.Effects.{objects_at};
+ghost use Rattle.fab_nested.specs.Nested.{aborted, answered, create, creates_in, entered, merged, names_of, nested_of, nested_over, read, write, writes_in};
 
-use crate::answers::{copies, field_of, version_of, versions_of};
+use crate::answers::{copies, version_of, versions_of, with_field};
+use crate::copies::{map_copy, put_all_found, put_rows};
 use crate::frame_error::FrameError;
+use crate::known::{Known, field_at};
 use crate::log::{Change, note, undo_to};
 use crate::objects::{Objects, is_in};
 use crate::touches::Touches;
@@ -19,47 +22,78 @@ use indexmap::{IndexMap, IndexSet};
 use std::alloc::Global;
 use std::marker::Model;
 
-/// The objects of a run. A call that wants memory changes nothing.
+/// The objects of a run: those that are known, and over them those that it wrote or made. A call that
+/// wants memory changes nothing.
 #[derive(Drop)]
-pub struct Frames {
+pub struct Frames<'a> {
     versions: IndexMap<Oid, u32>,
+    known: Known<'a>,
     objects: Objects,
     log: Vec<Change>,
     marks: Vec<usize>,
     touches: Touches,
 }
 
-impl Model for Frames {
+impl<'a> Model for Frames<'a> {
+    ghost use Rattle.fab_nested.specs.Logs.{heap_of};
     ghost use Rattle.fab_nested.specs.Nested.{Nested};
-    ghost use Rattle.fab_nested.specs.Logs.{heap_of, saved_in, IsLogged};
+    ghost use Rattle.fab_nested.specs.Overlay.{framed, rows_of, IsFramed};
 
     ghost Value = { Nested };
 
-    ghost view = { λ f. record { versions = f.versions.entries; now = heap_of f.objects; saved = saved_in f.log.items (heap_of f.objects) f.marks.items; touches = f.touches } };
+    ghost view = { λ f. framed f.versions.entries (rows_of f.known) f.log.items (heap_of f.objects) f.marks.items f.touches };
 
-    ghost invariant = { λ f. IsLogged f.log.items (heap_of f.objects) f.marks.items };
+    ghost invariant = { λ f. IsFramed f.versions.entries (rows_of f.known) f.log.items (heap_of f.objects) f.marks.items };
 }
 
-impl Frames {
+impl<'a> Frames<'a> {
     /// Copies of the objects that were answered, of which none is touched yet.
-    pub fn make(alloc: Global, answers: &[(Oid, u32, Object)]) -> Result<Frames, NoMemory>
+    pub fn make(alloc: Global, answers: &[(Oid, u32, Object)]) -> Result<Frames<'a>, NoMemory>
         requires { IsDistinct is_same (names_of answers.now) }
         ensures { IfOk result (λ f. f ≡ nested_of answers.now) }
     {
         let versions = versions_of(alloc, answers)?;
         let rows = copies(alloc, answers)?;
-        let objects = Objects {
-            map: ObjectMap::from_rows(rows),
-            written: IndexSet::new(alloc),
-            made: IndexSet::new(alloc),
-        };
         Ok(Frames {
             versions,
-            objects,
+            known: Known::Own(ObjectMap::from_rows(rows)),
+            objects: Objects::none(alloc),
             log: Vec::new(alloc),
             marks: Vec::new(alloc),
             touches: Touches::new(alloc),
         })
+    }
+
+    /// The objects of a map, of which none is touched yet. It takes no memory.
+    pub fn over(alloc: Global, known: &'a ObjectMap) -> Frames<'a>
+        ensures { result ≡ nested_over known.now }
+    {
+        // (a map's rows are in the order of names)
+        let _ = known.rows();
+        Frames {
+            versions: IndexMap::new(alloc),
+            known: Known::Lent(known),
+            objects: Objects::none(alloc),
+            log: Vec::new(alloc),
+            marks: Vec::new(alloc),
+            touches: Touches::new(alloc),
+        }
+    }
+
+    /// One answer more, of an object that wasn't there: in the heap, and in each heap that is saved,
+    /// without going over these.
+    pub fn answer(&mut self, oid: Oid, version: u32, object: Object) -> Result<(), NoMemory>
+        requires absent { get self.old.now.rows oid ≡ None }
+        ensures ok { OnOk result (self.new ≡ answered oid version object self.old) }
+        ensures err { OnErr result (self.new ≡ self.old) }
+    {
+        let alloc = *self.log.allocator();
+        self.versions.reserve(1)?;
+        self.known.put(alloc, oid, object)?;
+        if self.versions.insert(oid, version).is_err() {
+            unreachable!();
+        }
+        Ok(())
     }
 
     /// The heap is saved, for `abort` to go back to.
@@ -75,10 +109,9 @@ impl Frames {
     pub fn read(&mut self, site: u16, oid: Oid, field: u16) -> Result<Value, FrameError>
         ensures { Gives result self.old self.new (read site oid field self.old) }
     {
-        let Some(object) = self.objects.map.get(oid) else {
+        let Some(value) = field_at(self.known.map(), &self.objects.changed, oid, field) else {
             return Err(FrameError::Need(oid));
         };
-        let value = field_of(object, field);
         if !touch(&self.objects.made, &mut self.touches, site, oid)? {
             return Err(FrameError::Full(Stop::Reads));
         }
@@ -89,28 +122,77 @@ impl Frames {
     pub fn write(&mut self, site: u16, oid: Oid, field: u16, value: Value) -> Result<(), FrameError>
         ensures { Gives result self.old self.new (write site oid field value self.old) }
     {
-        if self.objects.map.get(oid).is_none() {
-            return Err(FrameError::Need(oid));
+        if self.objects.changed.get(oid).is_some() {
+            self.write_again(site, oid, field, value)
+        } else {
+            self.write_first(site, oid, field, value)
         }
+    }
+
+    /// The same of an object that was written or made before.
+    fn write_again(
+        &mut self,
+        site: u16,
+        oid: Oid,
+        field: u16,
+        value: Value,
+    ) -> Result<(), FrameError>
+        requires { is_changed oid self.old.now ≡ true }
+        ensures { Gives result self.old self.new (write site oid field value self.old) }
+    {
         self.log.reserve(1)?;
-        self.objects.written.reserve(1)?;
         if !touch(&self.objects.made, &mut self.touches, site, oid)? {
             return Err(FrameError::Full(Stop::Reads));
         }
-        let Some(change) = self.objects.write_field(oid, field, value) else {
-            return Err(FrameError::Full(Stop::Writes));
-        };
+        let change = self.objects.write_field(oid, field, value);
         note(&mut self.log, &self.marks, change);
         Ok(())
     }
 
-    /// Makes an object of a new name.
+    /// The same of another object, of which a copy is written. Its touch is taken back where the copy
+    /// wants memory.
+    fn write_first(
+        &mut self,
+        site: u16,
+        oid: Oid,
+        field: u16,
+        value: Value,
+    ) -> Result<(), FrameError>
+        requires { is_changed oid self.old.now ≡ false }
+        ensures { Gives result self.old self.new (write site oid field value self.old) }
+    {
+        let alloc = *self.log.allocator();
+        let Some(object) = self.known.map().get(oid) else {
+            return Err(FrameError::Need(oid));
+        };
+        let object = with_field(object.copy(alloc)?, field, value);
+        self.log.reserve(1)?;
+        let (pairs, objects) = self.touches.counts();
+        if !self.touches.reach(site, oid)? {
+            return Err(FrameError::Full(Stop::Reads));
+        }
+        match self.objects.join(oid, object) {
+            Ok(Some(change)) => {
+                note(&mut self.log, &self.marks, change);
+                Ok(())
+            }
+            Ok(None) => Err(FrameError::Full(Stop::Writes)),
+            Err(_) => {
+                self.touches.cut(pairs, objects);
+                Err(FrameError::Memory)
+            }
+        }
+    }
+
+    /// Makes an object of a name of which none was made. One of this name that is known or was written
+    /// makes room for it.
     pub fn create(&mut self, oid: Oid, object: Object) -> Result<(), FrameError>
-        requires { get self.old.now.rows oid ≡ None }
+        requires { is_among oid self.old.now.made ≡ false }
         ensures { Gives result self.old self.new (create oid object self.old) }
     {
+        let alloc = *self.log.allocator();
         self.log.reserve(1)?;
-        let Some(change) = self.objects.make(oid, object)? else {
+        let Some(change) = self.objects.make(alloc, oid, object)? else {
             return Err(FrameError::Full(Stop::Writes));
         };
         note(&mut self.log, &self.marks, change);
@@ -146,6 +228,22 @@ impl Frames {
         self.touches.pairs()
     }
 
+    /// How many touches there are, and of how many objects.
+    pub fn touch_counts(&self) -> (usize, usize)
+        ensures pairs { result.0 ≡ length self.now.touches }
+        ensures objects { result.1 ≡ length (touched self.now.touches) }
+    {
+        self.touches.counts()
+    }
+
+    /// Takes back all touches but so many, the first ones, of so many objects.
+    pub fn cut_touches(&mut self, pairs: usize, objects: usize)
+        requires { objects ≡ length (touched (take pairs self.old.touches)) }
+        ensures { self.new ≡ record self.old { touches = take pairs self.old.touches } }
+    {
+        self.touches.cut(pairs, objects);
+    }
+
     /// How many objects that were made this site has in the heap.
     pub fn made_at(&self, site: u16) -> u16
         ensures { result ≡ index_at site self.now.now }
@@ -163,7 +261,7 @@ impl Frames {
         let alloc = *self.log.allocator();
         let mut writes = Seq::new(alloc);
         let mut creates = Seq::new(alloc);
-        for row in self.objects.map.rows() {
+        for row in self.objects.changed.rows() {
             if is_in(&self.objects.written, row.0) {
                 let version = version_of(&self.versions, row.0);
                 writes.push((row.0, version, row.1.copy(alloc)?))?;
@@ -173,6 +271,39 @@ impl Frames {
             }
         }
         Ok((writes, creates))
+    }
+
+    /// Copies of the objects that were written, and then of those that were made, in the order in which
+    /// they came.
+    pub fn changes(&self) -> Result<Seq<(Oid, Object)>, NoMemory>
+        ensures rows { IfOk result (λ rows. rows ≡ objects_at self.now.now.rows (self.now.now.written ++ self.now.now.made)) }
+        ensures ascends { ascends self.now.now.rows ≡ true }
+    {
+        let alloc = *self.log.allocator();
+        let objects = &self.objects;
+        let mut rows = Seq::new(alloc);
+        put_all_found(
+            alloc,
+            &mut rows,
+            &objects.changed,
+            objects.written.as_slice(),
+        )?;
+        put_all_found(alloc, &mut rows, &objects.changed, objects.made.as_slice())?;
+        Ok(rows)
+    }
+
+    /// All objects as they are now, and the names that were written and made.
+    pub fn parts(&self) -> Result<(ObjectMap, Seq<Oid>, Seq<Oid>), NoMemory>
+        ensures rows { IfOk result (λ r. r.0 ≡ self.now.now.rows) }
+        ensures written { IfOk result (λ r. r.1 ≡ self.now.now.written) }
+        ensures made { IfOk result (λ r. r.2 ≡ self.now.now.made) }
+    {
+        let alloc = *self.log.allocator();
+        let mut rows = map_copy(alloc, self.known.map())?;
+        put_rows(alloc, &mut rows, self.objects.changed.rows())?;
+        let written = Seq::from_slice(alloc, self.objects.written.as_slice())?;
+        let made = Seq::from_slice(alloc, self.objects.made.as_slice())?;
+        Ok((rows, written, made))
     }
 }
 

@@ -2,8 +2,10 @@
 #![tactic(auto)]
 
 mod answers;
+mod copies;
 mod frame_error;
 mod frames;
+mod known;
 mod log;
 mod objects;
 mod touches;

@@ -1,5 +1,5 @@
 //! The touches of a run.
-ghost use Rattle.std.specs.Prelude.{◌≡◌, [], not, IfOk, OnErr, if◌then◌else◌};
+ghost use Rattle.std.specs.Prelude.{◌≡◌, [], length, not, take, IfOk, OnErr, if◌then◌else◌};
 ghost use Rattle.fab_language.specs.Heaps.{is_full, noted, touched};
 
 use fab_base::{NoMemory, Oid};
@@ -67,5 +67,22 @@ impl Touches {
         ensures { result.now ≡ self.now }
     {
         self.noted.as_slice()
+    }
+
+    /// How many pairs there are, and how many objects.
+    pub fn counts(&self) -> (usize, usize)
+        ensures pairs { result.0 ≡ length self.now }
+        ensures objects { result.1 ≡ length (touched self.now) }
+    {
+        (self.noted.len(), self.objects.len())
+    }
+
+    /// Keeps so many pairs, the first ones, with so many objects. It goes over those alone that it drops.
+    pub fn cut(&mut self, pairs: usize, objects: usize)
+        requires { objects ≡ length (touched (take pairs self.old)) }
+        ensures { self.new ≡ take pairs self.old }
+    {
+        self.noted.truncate(pairs);
+        self.objects.truncate(objects);
     }
 }

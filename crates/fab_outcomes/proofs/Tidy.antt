@@ -2,7 +2,7 @@
 use Rattle.std.proofs.Common.{◌≡◌, ◌⊎◌, inl, inr, ℕ, List, [], ◌∷◌, ◌++◌, true, false, not, ◌==◌, IsTrue, if◌then◌else◌}
 use Rattle.std.proofs.Common.{Option, Some, None, refl, sym, ap, ◌∙◌, subst, arith, append-nil, append_assoc, true≢false}
 use Rattle.std.specs.List.{AllByRecursion, filter, flat_map}
-use Rattle.std.proofs.lemmas.Bool.{and_parts, both_ways, false_from_ne_true}
+use Rattle.std.proofs.lemmas.Bool.{and_parts, both_ways}
 use Rattle.std.proofs.lemmas.List.Elements.{filter-append}
 use Rattle.fab_base.specs.declared.entry.Entry.{Entry}
 use Rattle.fab_base.specs.declared.message.Message.{Message}
@@ -15,14 +15,13 @@ use Rattle.fab_net.specs.declared.event.Inner.{Inner}
 use Rattle.fab_net.specs.declared.event.Inner.TheVariants as i
 use Rattle.fab_net.specs.declared.note.Commit.{Commit}
 use Rattle.fab_net.specs.declared.note.Logged.{Logged}
-use Rattle.fab_rights.specs.Computed.{is_store, is_worker}
+use Rattle.fab_rights.specs.Computed.{is_worker}
 use Rattle.fab_protocol.specs.declared.said.Said.{Said}
 use Rattle.fab_protocol.specs.Shelves.{IsShelf}
-use Rattle.fab_protocol.specs.Stores.{Shelf, asks, hears, keeps_said, says, shelf_at_start, shelf_of}
+use Rattle.fab_protocol.specs.Stores.{Shelf, asks, hears, keeps_said, shelf_at_start, shelf_of}
 use Rattle.fab_protocol.specs.Versions.{begun, is_made_in, maker_of}
-use Rattle.fab_world.specs.Machine.{Setting, World, Node, Move, Form, Does, act, are_enabled, at_start, enabled, form_of, front_of, is_empty, is_evaluating, kept, lacks}
-use Rattle.fab_world.specs.Machine.{logged, logs, may, meant, node_of, notes_at, of_store, option_list, parts, runs, shelf, step, steps}
-use Rattle.fab_world.specs.Machine as machine
+use Rattle.fab_world.specs.Machine.{Setting, World, Move, Form, act, at_start, enabled, form_of, front_of, is_evaluating, kept, lacks}
+use Rattle.fab_world.specs.Machine.{logged, logs, may, node_of, of_store, option_list, runs, shelf, step, steps}
 use Rattle.fab_world.specs.Serial.{IsSetting, IsEvaluation, IsFit, IsRun, commit_in, commits_in, commits_of, world_of}
 use Rattle.fab_world.specs.Workers as workers
 use Rattle.fab_world.specs.Workers.{Act, Phase, takes, wakes}
@@ -31,6 +30,7 @@ use Rattle.fab_integrity.proofs.Invariant.{In, IsStore, IsWorker, deals}
 use Rattle.fab_integrity.proofs.Lasting.{shelf_more, shelf_start}
 use Rattle.fab_integrity.proofs.Lists.{all_of, each_of, in_filter, in_left, in_map}
 use Rattle.fab_integrity.proofs.Readings.{spelled_so}
+use Rattle.fab_integrity.proofs.Roles.{heard_by_store, no_worker}
 use Rattle.fab_integrity.proofs.Runs.{excludes_none, front_run, holds_run, no_classes}
 use Rattle.fab_integrity.proofs.Steps.{Holds}
 use Rattle.fab_integrity.proofs.Tids.{tid_is}
@@ -77,9 +77,6 @@ module _ (S : Setting) where
   }
 
   module _ (given : IsSetting S) where
-    no_worker : (s : ℕ) → Store s → is_worker S.rights s ≡ false
-    no_worker s me = false_from_ne_true (is_worker S.rights s) (λ is. both_ways (is_store S.rights s) (given.apart s is) me.kind)
-
     -- ---- an event of an honest store
 
     module _ (w : World) (cs : List Commit) (good : Good w cs) (tidy : Tidy w cs) (s : ℕ) (me : Store s) where
@@ -95,12 +92,6 @@ module _ (S : Setting) where
 
       abbrev IsFairAct : Act → Type 0
       IsFairAct act = (said : Said) × (act ≡ of_store S (w.node s).attempt said) × Fair said
-
-      store_hears : (a : ℕ) (heard : Option Message) → machine.hears S w a s heard ≡ of_store S (w.node s).attempt (hears S.rights s a heard now)
-      store_hears a None = refl
-      store_hears a (Some message) =
-          ap (λ b. if b then takes S.rights S.cache s (kept S w s) a message (w.node s).attempt (parts S w s)
-          else of_store S (w.node s).attempt (says S.rights s a message now)) (no_worker s me)
 
       -- what an honest worker commits it has decided
       committed : (a : ℕ) → IsTrue (may S w (i.Deliver a s)) → (t : Tid) → S.read (front_of (w.queue a s)) ≡ Some (m.Commit t) → is_worker S.rights a ≡ true
@@ -121,7 +112,7 @@ module _ (S : Setting) where
 
       pub fair_act : (e : Inner) → node_of e ≡ s → IsTrue (may S w e) → IsFairAct (act S w e)
       fair_act (i.Begin x) at can =
-          absurd (both_ways (is_worker S.rights x) (subst (λ z. is_worker S.rights z ≡ false) (sym at) (no_worker s me))
+          absurd (both_ways (is_worker S.rights x) (subst (λ z. is_worker S.rights z ≡ false) (sym at) (no_worker S given s me.kind))
           (and_parts _ _ (and_parts _ _ (and_parts _ _ can).0).0).1)
       fair_act (i.Resume x) at can =
           absurd (idle_evaluates (w.node x).attempt.phase (subst (λ z. (w.node z).attempt.phase ≡ workers.Idle) (sym at) (good.idle s me)) (and_parts _ _ can).1)
@@ -132,7 +123,7 @@ module _ (S : Setting) where
           subst (λ z. IsTrue (may S w (i.Deliver a z)) → IsFairAct (act S w (i.Deliver a z))) (sym at)
           (λ may_hear. (
             hears S.rights s a (S.read (front_of (w.queue a s))) now,
-            store_hears a (S.read (front_of (w.queue a s))),
+            heard_by_store S given w s a me.kind (S.read (front_of (w.queue a s))),
             fair_hears S given (Made cs) s now ok (tidy.rows s me) a (S.read (front_of (w.queue a s)))
                 (λ message read. (spelled_so S given (front_of (w.queue a s)) message read).body)
                 (committed a may_hear),
@@ -140,7 +131,7 @@ module _ (S : Setting) where
       fair_act (i.Recover x) at can =
           subst (λ z. IsFairAct (act S w (i.Recover z))) (sym at) (
             asks now,
-            ap (λ b. if b then wakes S.rights S.cache s (kept S w s) else of_store S (w.node s).attempt (asks now)) (no_worker s me),
+            ap (λ b. if b then wakes S.rights S.cache s (kept S w s) else of_store S (w.node s).attempt (asks now)) (no_worker S given s me.kind),
             fair_asks S given (Made cs) s now ok (tidy.rows s me),
           )
 

@@ -22,8 +22,8 @@ use Rattle.fab_protocol.proofs.VersionLaws.{version_of_row, no_row, left_names, 
 
 -- ---- an attempt is prepared once
 
-same_tid : (t : Tid) → is_tid t t ≡ true
-same_tid t = grind (arith, nat_tests)
+pub tid_itself : (t : Tid) → is_tid t t ≡ true
+tid_itself t = grind (arith, nat_tests)
 
 tid_flips : (t u : Tid) → is_tid t u ≡ false → is_tid u t ≡ false
 tid_flips t u h = grind (arith, nat_tests)
@@ -38,7 +38,7 @@ others_differ p (q ∷ ps) h = (tid_flips p.0 q.0 h.0.0, others_differ p ps h.1)
 
 head_as : (p : Prepared) (ps : List Prepared) → AllByRecursion (IsApart p) ps → prepared_as p.0 (p ∷ ps) ≡ p ∷ []
 head_as p ps h =
-    ap (λ b. cond b (p ∷ prepared_as p.0 ps) (prepared_as p.0 ps)) (same_tid p.0)
+    ap (λ b. cond b (p ∷ prepared_as p.0 ps) (prepared_as p.0 ps)) (tid_itself p.0)
     ∙ ap (λ qs. p ∷ qs) (none_as p.0 ps (others_differ p ps h))
 
 pub one_prepared : (q : Prepared) (ps : List Prepared) → AreApart ps → Contains ps q → prepared_as q.0 ps ≡ q ∷ []

@@ -1,4 +1,5 @@
 pub mod Applied
+pub mod Caches
 pub mod Commits
 pub mod Kept
 pub mod Locks

@@ -6,7 +6,7 @@ use Rattle.fab_base.specs.declared.message.Items.{Items}
 use Rattle.fab_base.specs.FlatMap.{is_among}
 use Rattle.fab_protocol.specs.declared.parts.Parts.{Parts}
 use Rattle.fab_protocol.specs.Tables.{row_of, placed_all}
-use Rattle.fab_protocol.specs.Versions.{Row, Rows, name_of, names_of, raised}
+use Rattle.fab_protocol.specs.Versions.{Rows, name_of, names_of, raised}
 
 -- a number among ascending ones
 abbrev pub with_number : List ℕ → ℕ → List ℕ

@@ -1,17 +1,15 @@
 -- The commits of a run are of nodes that aren't hostile.
-use Rattle.std.proofs.Common.{◌≡◌, ℕ, Bool, true, false, List, [], ◌∷◌, ◌++◌, length, refl, sym, ap, subst, inl, inr, ◌∙◌}
-use Rattle.std.specs.Prelude.{not, ◌&&◌, nat_lt, nat_le, if◌then◌else◌, filter, flat_map, IsTrue, is_some}
-use Rattle.std.specs.List.{list_all}
-use Rattle.std.proofs.lemmas.Bool.{and_parts, not-true}
+use Rattle.std.proofs.Common.{◌≡◌, Bool, true, false, List, [], ◌∷◌, ◌++◌, length, refl, sym, ap, subst, inl, inr, ◌∙◌}
+use Rattle.std.specs.Prelude.{not, ◌&&◌, nat_le, if◌then◌else◌, filter, flat_map, IsTrue, is_some}
+use Rattle.std.proofs.lemmas.Bool.{and_parts}
 use Rattle.std.proofs.lemmas.List.Elements.{filter-append}
 use Rattle.fab_net.specs.declared.event.Inner.{Inner}
-use Rattle.fab_net.specs.declared.event.Inner.TheVariants as i
 use Rattle.fab_net.specs.declared.note.Commit.{Commit}
-use Rattle.fab_rights.specs.Computed.{is_node, is_worker, nodes_in}
 use Rattle.fab_integrity.proofs.Costs.{commit_at, goes_act}
+use Rattle.fab_integrity.proofs.Steps.{may_honest}
 use Rattle.fab_world.specs.Machine.{Setting, World, Move, Form, Does, Cuts, Fails, Posts, Crashes, Never}
-use Rattle.fab_world.specs.Machine.{act, are_enabled, at_start, enabled, form_of, is_empty, is_evaluating, is_idle, is_running, is_settled, is_whole}
-use Rattle.fab_world.specs.Machine.{kept, lacks, logged, logs, may, node_of, notes_at, notes_if, record_at, step}
+use Rattle.fab_world.specs.Machine.{act, are_enabled, at_start, enabled, form_of, is_whole}
+use Rattle.fab_world.specs.Machine.{kept, logged, logs, may, node_of, notes_at, notes_if, record_at, step}
 use Rattle.fab_world.specs.Serial.{commit_in, commits_in}
 use Rattle.fab_serial.specs.Replays.{commits_at}
 use Rattle.fab_serial.proofs.Steps.{all_pass}
@@ -19,36 +17,6 @@ use Rattle.fab_serial.proofs.Steps.{all_pass}
 module _ (S : Setting) where
   abbrev is_honest : Commit → Bool
   is_honest c = not (S.hostile c.worker)
-
-  running_honest : (w : World) (n : ℕ) → is_running S w n ≡ true → S.hostile n ≡ false
-  running_honest w n h =
-      not-true (S.hostile n)
-      (and_parts (is_node S.rights n) (not (S.hostile n)) (and_parts (is_node S.rights n && not (S.hostile n)) (w.node n).up h).0).1
-
-  first_of_two : (a b : Bool) → (a && b) ≡ true → a ≡ true
-  first_of_two a b h = (and_parts a b h).0
-
-  -- an event may come at a node that isn't hostile alone
-  may_honest : (w : World) (e : Inner) → may S w e ≡ true → S.hostile (node_of e) ≡ false
-  may_honest w (i.Begin n) h =
-      let a = is_running S w n in
-      let b = is_worker S.rights n in
-      let d = is_idle (w.node n).attempt.phase in
-      running_honest w n (first_of_two a b (first_of_two (a && b) d (first_of_two (a && b && d) (nat_lt (length (kept S w n).outcomes) (S.requests n)) h)))
-  may_honest w (i.Resume n) h = running_honest w n (first_of_two (is_running S w n) (is_evaluating (w.node n).attempt.phase) h)
-  may_honest w (i.Deliver a b) h =
-      running_honest w b (first_of_two (is_running S w b) (is_node S.rights a)
-      (first_of_two (is_running S w b && is_node S.rights a) (not (is_empty (w.queue a b))) h))
-  may_honest w (i.Idle n s) h =
-      let a = is_running S w n in
-      let b = is_node S.rights s in
-      let d = lacks s (w.node n).attempt.phase in
-      running_honest w n (first_of_two a b (first_of_two (a && b) d (first_of_two (a && b && d) (list_all (is_settled S w) (nodes_in S.rights)) h)))
-  may_honest w (i.Recover n) h =
-      let a = is_node S.rights n in
-      let b = not (S.hostile n) in
-      let d = not (w.node n).up in
-      not-true (S.hostile n) (and_parts a b (first_of_two (a && b) d (first_of_two (a && b && d) (not (w.node n).failed) h))).1
 
   -- what an act notes of a commit is of its node
   act_honest : (w : World) (e : Inner) → S.hostile (node_of e) ≡ false
@@ -62,12 +30,11 @@ module _ (S : Setting) where
 
   notes_honest : (w : World) (form : Form) → enabled S w form ≡ true
       → filter is_honest (flat_map commit_in (notes_at S w form)) ≡ flat_map commit_in (notes_at S w form)
-  notes_honest w (Does e) h = act_honest w e (may_honest w e h)
+  notes_honest w (Does e) h = act_honest w e (may_honest S w e h)
   notes_honest w (Cuts keep e) h =
-      let can = first_of_two (may S w e) (is_some (act S w e).entry)
-      (first_of_two (may S w e && is_some (act S w e).entry) (nat_le keep (length (record_at S w e))) h) in
+      let can = (and_parts (may S w e) (is_some (act S w e).entry) (and_parts (may S w e && is_some (act S w e).entry) (nat_le keep (length (record_at S w e))) h).0).0 in
       elim (is_whole S w (Cuts keep e)) as (λ b. filter is_honest (flat_map commit_in (notes_if S b (act S w e).notes)) ≡ flat_map commit_in (notes_if S b (act S w e).notes)) [
-        | true ↦ act_honest w e (may_honest w e can)
+        | true ↦ act_honest w e (may_honest S w e can)
         | false ↦ refl
       ]
   notes_honest w (Fails keep e) h = refl

@@ -1,6 +1,6 @@
 -- Steps of walks over rows that are put into a map where a test holds, and what a replayed commit changes.
 use Rattle.std.proofs.Common.{arith, length, ◌≡◌, ℕ, Bool, true, false, Option, List, [], ◌∷◌, ◌++◌, refl, ap, ◌∙◌}
-use Rattle.std.specs.Prelude.{◌&&◌, if◌then◌else◌, map, filter}
+use Rattle.std.specs.Prelude.{◌&&◌, if◌then◌else◌, filter}
 use Rattle.std.specs.List.{fold}
 use Rattle.std.proofs.lemmas.List.Elements.{filter-append}
 use Rattle.fab_base.specs.declared.object.Oid.{Oid}

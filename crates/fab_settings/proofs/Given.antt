@@ -6,9 +6,8 @@ use Rattle.std.proofs.lemmas.Bool.{and_from, lt-ltb}
 use Rattle.fab_base.specs.declared.object.Oid.{Oid}
 use Rattle.fab_base.specs.declared.object.Object.{Object}
 use Rattle.fab_base.specs.declared.object.Value.{Value}
-use Rattle.fab_base.specs.declared.object.Value.TheVariants.{Int, Null, Ref}
 use Rattle.fab_base.specs.FlatMap.{FlatMap, get, ascends}
-use Rattle.fab_base.proofs.Lists.{all_split, at_index}
+use Rattle.fab_base.proofs.Lists.{all_split, at_index, all_two}
 use Rattle.fab_map.proofs.Rows.{ascends-put_all}
 use Rattle.fab_tree.specs.declared.start.Literal.{Literal}
 use Rattle.fab_tree.specs.declared.start.Literal.TheVariants as literals
@@ -28,7 +27,6 @@ use Rattle.fab_language.specs.Names.{named, number_of, root_name}
 use Rattle.fab_language.specs.Numbers.{oid_of, reference_to, value_of, values_of, root_of, roots_from, asked_from, session_of, resolved}
 use Rattle.fab_laws.specs.Origins.{Passes, AllPass}
 use Rattle.fab_laws.specs.Shapes.{IsFitting}
-use Rattle.fab_shapes.proofs.Lists.{from_two}
 use Rattle.fab_shapes.proofs.Maps.{each_of_map}
 use Rattle.fab_shapes.proofs.Named.{at_number}
 use Rattle.fab_shapes.proofs.Objects.{objects_have_shapes}
@@ -41,22 +39,11 @@ use Rattle.fab_world.specs.Serial.{IsFit, AreFit}
 use Rattle.fab_attempts.specs.Sessions.{IsProgramOf, requests_in, requests_of}
 use Rattle.fab_attempts.proofs.Programs.{program_of}
 use Rattle.fab_attempts.proofs.Rows.{all_rows}
-use Rattle.fab_settings.specs.Numbers.{in_value, in_values, in_session, in_method}
+use Rattle.fab_settings.specs.Numbers.{in_session, in_method}
 use Rattle.fab_settings.specs.Settings.{IsAcceptedWith, setting_of, request_at}
 use Rattle.fab_settings.proofs.Ranges.{AllFit, IsSmall}
 use Rattle.fab_settings.proofs.Fitting.{is_spelled, fits_name, HasFew, IsSound, fit_of}
 use Rattle.fab_settings.proofs.Nodes.{few_roots, has_few, number_holds}
-
--- ---- numbers
-
-small_from : (vs : List Value) → AllFit (in_values vs) → AllFit vs
-small_from [] h = tt
-small_from (v ∷ vs) h = let p = all_split IsSmall (in_value v) (in_values vs) h in (one v p.0, small_from vs p.1)
-  where
-    one : (v : Value) → AllFit (in_value v) → IsSmall v
-    one (Int n) h = h.0
-    one Null h = tt
-    one (Ref o) h = tt
 
 -- ---- requests of one session
 
@@ -76,11 +63,11 @@ small_requests (x ∷ xs) h =
     let p = all_split IsSmall (in_session x) (flat_map in_session xs) h in
     (each x.requests p.0, small_requests xs p.1)
   where
-    each : (ys : List Asked) → AllFit (flat_map (λ (y : Asked). in_values y.request.args) ys) → AllByRecursion (λ q. AllFit q.args) (map (λ (y : Asked). y.request) ys)
+    each : (ys : List Asked) → AllFit (flat_map (λ (y : Asked). y.request.args) ys) → AllByRecursion (λ q. AllFit q.args) (map (λ (y : Asked). y.request) ys)
     each [] h = tt
     each (y ∷ ys) h =
-        let p = all_split IsSmall (in_values y.request.args) (flat_map (λ (z : Asked). in_values z.request.args) ys) h in
-        (small_from y.request.args p.0, each ys p.1)
+        let p = all_split IsSmall (y.request.args) (flat_map (λ (z : Asked). z.request.args) ys) h in
+        (p.0, each ys p.1)
 
 -- ---- the roots
 
@@ -110,11 +97,11 @@ of_rows : (P : Oid → List Value → Type 0) (xs : List NumberedRoot) → AllBy
 of_rows P [] h = tt
 of_rows P (x ∷ xs) h = (h.0, of_rows P xs h.1)
 
-small_roots : (xs : List NumberedRoot) → AllFit (flat_map (λ x. in_values x.values) xs) → AllByRecursion (λ x. AllFit x.values) xs
+small_roots : (xs : List NumberedRoot) → AllFit (flat_map (λ x. x.values) xs) → AllByRecursion (λ x. AllFit x.values) xs
 small_roots [] h = tt
 small_roots (x ∷ xs) h =
-    let p = all_split IsSmall (in_values x.values) (flat_map (λ (y : NumberedRoot). in_values y.values) xs) h in
-    (small_from x.values p.0, small_roots xs p.1)
+    let p = all_split IsSmall (x.values) (flat_map (λ (y : NumberedRoot). y.values) xs) h in
+    (p.0, small_roots xs p.1)
 
 -- ---- an accepted bundle
 
@@ -136,11 +123,11 @@ module _ (s : Start) (rights : Rights) (a : IsAcceptedWith s rights) where
 
   -- ---- numbers
 
-  three : AllFit (flat_map in_method bundle.methods ++ flat_map (λ x. in_values x.values) bundle.roots) × AllFit (flat_map in_session bundle.sessions)
-  three = all_split IsSmall (flat_map in_method bundle.methods ++ flat_map (λ x. in_values x.values) bundle.roots) (flat_map in_session bundle.sessions) a.numbers
+  three : AllFit (flat_map in_method bundle.methods ++ flat_map (λ x. x.values) bundle.roots) × AllFit (flat_map in_session bundle.sessions)
+  three = all_split IsSmall (flat_map in_method bundle.methods ++ flat_map (λ x. x.values) bundle.roots) (flat_map in_session bundle.sessions) a.numbers
 
-  two : AllFit (flat_map in_method bundle.methods) × AllFit (flat_map (λ x. in_values x.values) bundle.roots)
-  two = all_split IsSmall (flat_map in_method bundle.methods) (flat_map (λ x. in_values x.values) bundle.roots) three.0
+  two : AllFit (flat_map in_method bundle.methods) × AllFit (flat_map (λ x. x.values) bundle.roots)
+  two = all_split IsSmall (flat_map in_method bundle.methods) (flat_map (λ x. x.values) bundle.roots) three.0
 
   pub program_small : AllFit (flat_map in_method bundle.methods)
   program_small = two.0
@@ -149,9 +136,9 @@ module _ (s : Start) (rights : Rights) (a : IsAcceptedWith s rights) where
 
   roots_pass : AllByRecursion (λ x. p x.oid ≡ true) bundle.roots
   roots_pass =
-      from_two (λ x. IsHeld bundle x.oid) (λ x. is_spelled x.oid ≡ true) (λ x. p x.oid ≡ true) bundle.roots
-      (λ x held spelled. and_from (may_hold rights x.oid.store x.oid.class) (is_spelled x.oid)
+      all_two (λ x. IsHeld bundle x.oid) (λ x. is_spelled x.oid ≡ true) (λ x. p x.oid ≡ true) (λ x held spelled. and_from (may_hold rights x.oid.store x.oid.class) (is_spelled x.oid)
       (number_holds bundle rights a.rights_are x.oid.store x.oid.class held) spelled)
+      bundle.roots
       (roots_held bundle a.labelled)
       (spelled_from s s.roots 0 (let n = few_roots s a.within in omega (arith, n)))
 

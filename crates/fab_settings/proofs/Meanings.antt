@@ -13,6 +13,7 @@ use Rattle.fab_base.specs.FlatMap.{FlatMap, get, is_same, is_among}
 use Rattle.fab_base.specs.FlatMap as flat
 use Rattle.fab_base.proofs.Names.{same_self}
 use Rattle.fab_base.proofs.NameOrder.{one_name}
+use Rattle.fab_base.proofs.Lists.{all_two}
 use Rattle.fab_tree.specs.declared.resolved.Request.{Request}
 use Rattle.fab_tree.specs.declared.resolved.Resolved.{Resolved}
 use Rattle.fab_tree.specs.declared.start.Start.{Start}
@@ -30,7 +31,6 @@ use Rattle.fab_laws.proofs.Locality.{over_more}
 use Rattle.fab_laws.proofs.Names.{or_true}
 use Rattle.fab_laws.proofs.Placed.{meant_passes}
 use Rattle.fab_laws.proofs.Shapes.{shape_kept}
-use Rattle.fab_shapes.proofs.Lists.{from_two}
 use Rattle.fab_held.specs.Held.{MakesHeld}
 use Rattle.fab_held.proofs.Made.{all_made}
 use Rattle.fab_rights.specs.declared.rights.Rights.{Rights}
@@ -193,7 +193,7 @@ module _ (s : Start) (rights : Rights) (a : IsAcceptedWith s rights) where
 
   makes : (t : Tid) → IsTid t → AllByRecursion (MakesPassing p t) (claims_of bundle)
   makes t is =
-      from_two (MakesHeld bundle) (MakesBelow 65000) (MakesPassing p t) (claims_of bundle) (making t is)
+      all_two (MakesHeld bundle) (MakesBelow 65000) (MakesPassing p t) (making t is) (claims_of bundle)
       (all_made bundle a.labelled) (made_below 65000 s (few_sites s a.within))
 
   module _ (t : Tid) (is : IsTid t) (N : FlatMap) (h : AreFit S N) (q : Request) (sound : IsSoundRequest s rights a q) where

@@ -3,7 +3,7 @@ use Rattle.std.proofs.Common.{◌≡◌, ℕ, zero, suc, ◌+◌, ◌==◌, Bool
 use Rattle.std.specs.Prelude.{slice_get}
 use Rattle.std.specs.List.{AllByRecursion, filter, flat_map}
 use Rattle.std.proofs.lemmas.Bool.{true≢false, false≢true, eq-eqb, ne_eqb, eqb-true}
-use Rattle.fab_base.proofs.Lists.{left_nil, right_nil, each_nil, true_if_empty}
+use Rattle.fab_base.proofs.Lists.{left_nil, right_nil, each_nil, true_if_empty, all_two}
 use Rattle.fab_tree.specs.declared.name.Name.{Name}
 use Rattle.fab_tree.specs.declared.declaration.Node.{Node}
 use Rattle.fab_tree.specs.declared.declaration.Role.{Role}
@@ -24,7 +24,6 @@ use Rattle.fab_language.specs.Uses.{nodes_before, node_number}
 use Rattle.fab_language.proofs.Named.{before_cons, hostile_node}
 use Rattle.fab_labelling.specs.Readers.{is_numbered, place_from}
 use Rattle.fab_rights.specs.declared.rights.Rights.{Rights}
-use Rattle.fab_shapes.proofs.Lists.{from_two}
 use Rattle.fab_shapes.proofs.Named.{found}
 use Rattle.fab_world.specs.Serial.{ArePosts}
 use Rattle.fab_settings.specs.Settings.{IsAcceptedWith, is_hostile_node, setting_of}
@@ -133,7 +132,7 @@ module _ (s : Start) where
       let two = unknown.unknown s ++ doubled s in
       let three = two ++ roles.misplaced s in
       let front = left_nil three (miscounted s) (left_nil (three ++ miscounted s) (mistyped s) e) in
-      from_two (λ x. unknown.in_post s x ≡ []) (λ x. roles.in_post s x ≡ []) IsHostilePost s.posts is_hostile_post
+      all_two (λ x. unknown.in_post s x ≡ []) (λ x. roles.in_post s x ≡ []) IsHostilePost is_hostile_post s.posts
       (each_nil (unknown.in_post s) s.posts (posts_declared (left_nil (unknown.unknown s) (doubled s) (left_nil two (roles.misplaced s) front))))
       (each_nil (roles.in_post s) s.posts (posts_placed (right_nil two (roles.misplaced s) front)))
 

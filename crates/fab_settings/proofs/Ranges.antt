@@ -1,6 +1,6 @@
 -- Numbers stay within 32 bits: where those that stand in a program are, those that a request gives and those of known objects,
 -- so are those of the objects behind it and what it returned.
-use Rattle.std.proofs.Common.{◌≡◌, ℕ, zero, suc, ◌-◌, ◌/◌, ◌^◌, ◌<◌, ℤ, pos, negsuc, neg_ℤ, ◌+ℤ◌, ◌-ℤ◌, ◌*ℤ◌, Bool, true, false, ◌==◌, cond, if◌then◌else◌, List, [], ◌∷◌, ◌++◌, map, Option, Some, None, refl, sym, ap, ◌∙◌, subst, arith}
+use Rattle.std.proofs.Common.{◌≡◌, ℕ, zero, suc, ◌-◌, ◌/◌, ◌^◌, ◌<◌, ℤ, pos, negsuc, neg_ℤ, ◌+ℤ◌, ◌-ℤ◌, ◌*ℤ◌, Bool, true, false, ◌==◌, cond, if◌then◌else◌, List, [], ◌∷◌, ◌++◌, map, Option, Some, None, refl, sym, subst, arith}
 use Rattle.std.specs.Prelude.{slice_get, slice_set, unwrap_or, bit_and, int_div, FitsSigned, not}
 use Rattle.std.specs.Int.{w32, int_bit_and, int_bit_or, int_wrapping_div, cast_signed, cast_unsigned}
 use Rattle.std.specs.List.{flat_map}
@@ -16,10 +16,8 @@ use Rattle.fab_base.specs.declared.object.Value.{Value}
 use Rattle.fab_base.specs.declared.object.Value.TheVariants.{Int, Null, Ref}
 use Rattle.fab_base.specs.declared.object.Stop.TheVariants.{Fuel, Depth, Reads, Writes}
 use Rattle.fab_base.specs.declared.object.Width.TheVariants as widths
-use Rattle.fab_base.specs.FlatMap.{FlatMap, get, put, is_same}
-use Rattle.fab_base.proofs.NameOrder.{one_name}
+use Rattle.fab_base.specs.FlatMap.{FlatMap, get, put}
 use Rattle.fab_base.proofs.Lists.{all_split, at_index}
-use Rattle.fab_map.proofs.Rows.{get-put_same, get-put_other}
 use Rattle.fab_tree.specs.declared.expression.Operator.{Operator}
 use Rattle.fab_tree.specs.declared.expression.Operator.TheVariants.{Or, And, Add, Subtract, Multiply, Divide}
 use Rattle.fab_tree.specs.declared.resolved.Expression.{Expression, ind-Expression, roll-Expression, fold-roll-Expression, map-Expression}
@@ -41,6 +39,7 @@ use Rattle.fab_language.specs.Heaps.{Heap, full, found, reach_in, reach_before, 
 use Rattle.fab_language.specs.Meaning.{State, End, failed, stopped, missing, Run, goes, ends, M, and_then, gives, ◌>>=◌, ◌>>◌, charge, local, assign, reached, access, field_of, with_field, read, settled, replace, write, led, applied}
 use Rattle.fab_language.specs.Meaning.{next_name, make, create, noted_down, int_of, holds, truth, wrapped, quotient, operate, chained, form_step, value, form_value, operand_value, values, in_order, turns, or_else, atomically}
 use Rattle.fab_language.specs.Meaning.{right, statement_step, statement, block, returned, body_of, default, locals_at_start, back_with, entered, called, requested, meant_by, meaning, state_at_start}
+use Rattle.fab_laws.proofs.Maps.{put_keeps}
 use Rattle.fab_laws.proofs.Values.{at_place, all_set, all_at_start}
 use Rattle.fab_shapes.proofs.Lists.{in_each}
 use Rattle.fab_settings.specs.Numbers.{all_of, in_form, in_expression, in_expressions, in_right, in_statement_step, in_statement, in_block, in_result, in_method}
@@ -99,14 +98,7 @@ divided_fits a b f = signed_fits (cast_unsigned w32 (int_div a b)) (quotient_bel
 -- ---- runs
 
 put_small : (o : Oid) (y : Object) (m : FlatMap) → HasSmall m → AllFit y.fields → HasSmall (put o y m)
-put_small o y m a i p z e = by (is_same o p) refl
-  where
-    by : (b : Bool) → is_same o p ≡ b → AllFit z.fields
-    by true j =
-        let here : Some y ≡ Some z = sym (ap (get (put o y m)) (sym (one_name o p j)) ∙ get-put_same o y m) ∙ e in
-        let same : y ≡ z = cc in
-        subst (λ (x : Object). AllFit x.fields) same i
-    by false j = a p z (sym (get-put_other o p y m j) ∙ e)
+put_small o y m a i = put_keeps (λ p x. AllFit x.fields) o y m a i
 
 pub record Holds (t : State) : Type 0 where
   pub locals : AllFit t.locals

@@ -2,7 +2,7 @@
 use Rattle.std.proofs.Common.{ℕ, ◌+◌, ◌<◌, ◌≤◌, List, [], ◌∷◌, ◌++◌, map, length, subst, sym, arith}
 use Rattle.std.specs.Prelude.{slice_get}
 use Rattle.std.specs.List.{AllByRecursion, flat_map, enumerate_from}
-use Rattle.fab_base.proofs.Lists.{all_split, all_flat}
+use Rattle.fab_base.proofs.Lists.{all_append, all_split, all_flat, all_along}
 use Rattle.fab_tree.specs.declared.resolved.Right.{Right}
 use Rattle.fab_tree.specs.declared.resolved.Right.TheVariants as rights
 use Rattle.fab_tree.specs.declared.resolved.Statement.{Statement, ind-Statement, roll-Statement, fold-roll-Statement, map-Statement}
@@ -16,7 +16,6 @@ use Rattle.fab_numbers.specs.SiteOrder.{Sites, of_expression, of_right, of_state
 use Rattle.fab_numbers.specs.SiteOrder as order
 use Rattle.fab_numbers.proofs.SitesInOrder.{methods_orders}
 use Rattle.fab_laws.specs.Kinds.{Kind, parameter_kinds, class_kinds, local_kinds, Claim, given, counted, made, each_given, kind_of, right_claims, all_of, statement_claims_step, statement_claims, block_claims, method_claims, claims_of}
-use Rattle.fab_laws.proofs.Values.{all_joined, all_more}
 use Rattle.fab_shapes.proofs.Lists.{in_each}
 
 module _ (limit : ℕ) where
@@ -74,7 +73,7 @@ module _ (limit : ℕ) where
     each [] h = tt
     each (k ∷ ks) h =
         let p = all_split IsBelow (of_statement k.0) (all_sites (plain ks)) h in
-        all_joined MakesBelow (claims k.0) (all_claims (plain ks)) (k.1.makes p.0) (each ks p.1)
+        all_append MakesBelow (claims k.0) (all_claims (plain ks)) (k.1.makes p.0) (each ks p.1)
 
     abbrev pieces : s.Statement-F Known → s.Statement-F Statement
     pieces y = map-Statement Known Statement (λ k. k.0) y
@@ -87,11 +86,11 @@ module _ (limit : ℕ) where
     layer (s.If e a b) h =
         let p = all_split IsBelow (of_expression e ++ all_sites (plain a)) (all_sites (plain b)) h in
         let q = all_split IsBelow (of_expression e) (all_sites (plain a)) p.0 in
-        all_joined MakesBelow (all_claims (plain a)) (all_claims (plain b)) (each a q.1) (each b p.1)
+        all_append MakesBelow (all_claims (plain a)) (all_claims (plain b)) (each a q.1) (each b p.1)
     layer (s.While e a) h = each a (all_split IsBelow (of_expression e) (all_sites (plain a)) h).1
     layer (s.Atomic x a b at) h =
         let p = all_split IsBelow (all_sites (plain a)) (all_sites (plain b)) h in
-        all_joined MakesBelow (all_claims (plain a)) (all_claims (plain b)) (each a p.0) (each b p.1)
+        all_append MakesBelow (all_claims (plain a)) (all_claims (plain b)) (each a p.0) (each b p.1)
     layer (s.Fail at) h = tt
 
     statements : (x : Statement) → Stands x
@@ -108,7 +107,7 @@ module _ (limit : ℕ) where
     block_made [] h = tt
     block_made (x ∷ xs) h =
         let p = all_split IsBelow (of_statement x) (flat_map of_statement xs) h in
-        all_joined MakesBelow (claims x) (all_claims xs) ((statements x).makes p.0) (block_made xs p.1)
+        all_append MakesBelow (claims x) (all_claims xs) ((statements x).makes p.0) (block_made xs p.1)
 
   module _ (r : Resolved) where
     method_made : (m : Method) → AllBelow (of_method m) → AllMade (method_claims r.classes r.methods m)
@@ -117,7 +116,7 @@ module _ (limit : ℕ) where
     all_made : AllBelow (of_methods r.methods) → AllMade (claims_of r)
     all_made h =
         all_flat MakesBelow (method_claims r.classes r.methods) r.methods
-        (all_more (λ m. AllBelow (of_method m)) (λ m. AllMade (method_claims r.classes r.methods m)) r.methods method_made (in_each IsBelow of_method r.methods h))
+        (all_along (λ m. AllBelow (of_method m)) (λ m. AllMade (method_claims r.classes r.methods m)) method_made r.methods (in_each IsBelow of_method r.methods h))
 
   pub made_below : (s : Start) → length (site_places s.program) ≤ limit → AllByRecursion MakesBelow (claims_of (resolved s))
   made_below s h =

@@ -73,14 +73,8 @@ in_result (Some x) = in_expression x.value
 abbrev pub in_method : Method → List Value
 in_method m = in_block m.body ++ in_result m.result
 
-abbrev pub in_value : Value → List Value
-in_value v = v ∷ []
-
-abbrev pub in_values : List Value → List Value
-in_values vs = flat_map in_value vs
-
 abbrev pub in_session : Session → List Value
-in_session x = flat_map (λ a. in_values a.request.args) x.requests
+in_session x = flat_map (λ a. a.request.args) x.requests
 
 abbrev pub values_of : Resolved → List Value
-values_of r = flat_map in_method r.methods ++ flat_map (λ x. in_values x.values) r.roots ++ flat_map in_session r.sessions
+values_of r = flat_map in_method r.methods ++ flat_map (λ x. x.values) r.roots ++ flat_map in_session r.sessions

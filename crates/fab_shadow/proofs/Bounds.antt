@@ -4,7 +4,7 @@ use Rattle.std.proofs.Common.{◌≡◌, ◌⊎◌, inl, inr, ℕ, suc, ◌+◌,
 use Rattle.std.proofs.Common.{IsTrue, List, [], ◌∷◌, ◌++◌, map, length, Option, Some, None, refl, sym, ap, ◌∙◌, subst, true≢false, arith}
 use Rattle.std.specs.Prelude.{if◌then◌else◌, is_some}
 use Rattle.std.specs.List.{filter}
-use Rattle.std.proofs.lemmas.Bool.{and_parts, both_ways, cases_eq, eq-eqb, eqb-true, ne_eqb, false_from_ne_true}
+use Rattle.std.proofs.lemmas.Bool.{and_parts, both_ways, cases_eq, eq-eqb, eqb-true, ne_eqb}
 use Rattle.std.proofs.lemmas.List.{append-nil}
 use Rattle.fab_base.specs.declared.entry.Entry.{Entry}
 use Rattle.fab_base.specs.declared.object.Oid.{Oid}
@@ -16,7 +16,7 @@ use Rattle.fab_base.specs.MessageSpelling.{spelled}
 use Rattle.fab_net.specs.declared.event.Inner.{Inner}
 use Rattle.fab_net.specs.declared.event.Inner.TheVariants as i
 use Rattle.fab_net.specs.declared.note.Commit.{Commit}
-use Rattle.fab_rights.specs.Computed.{is_node, is_store, is_worker}
+use Rattle.fab_rights.specs.Computed.{is_node, is_worker}
 use Rattle.fab_protocol.specs.Stores as stores
 use Rattle.fab_protocol.specs.Stores.{Shelf, keeps_said, shelf_of}
 use Rattle.fab_protocol.specs.Versions.{begun, version_of}
@@ -35,6 +35,7 @@ use Rattle.fab_integrity.proofs.Changes.{Changes, cuts_changes, does_changes, do
 use Rattle.fab_integrity.proofs.Frames.{shelf_same}
 use Rattle.fab_integrity.proofs.Lasting.{shelf_more, shelf_start}
 use Rattle.fab_integrity.proofs.Readings.{same_kind, kind_at}
+use Rattle.fab_integrity.proofs.Roles.{heard_by_store, no_worker}
 use Rattle.fab_integrity.proofs.Steps.{Holds, lacks_none, queues_whole, ready_beside}
 use Rattle.fab_integrity.proofs.Transport.{bytes_for, front_and_rest, other_queue, taken_queue}
 use Rattle.fab_integrity.proofs.Worlds.{at_same, at_other}
@@ -343,14 +344,11 @@ module _ (S : Setting) (sight : Sight) where
 
       -- ---- the store itself
 
-      no_worker : is_worker S.rights s ≡ false
-      no_worker = false_from_ne_true (is_worker S.rights s) (λ is. both_ways (is_store S.rights s) (shared.setting.apart s is) me.kind)
+      not_worker : is_worker S.rights s ≡ false
+      not_worker = no_worker S shared.setting s me.kind
 
       heard_entry : (a : ℕ) (heard : Option Message) → (machine.hears S w a s heard).entry ≡ (stores.hears S.rights s a heard (shelf S w s)).entry
-      heard_entry a None = refl
-      heard_entry a (Some message) =
-          ap (λ b. (if b then takes S.rights S.cache s (kept S w s) a message (w.node s).attempt (parts S w s)
-          else of_store S (w.node s).attempt (stores.says S.rights s a message (shelf S w s))).entry) no_worker
+      heard_entry a heard = ap (λ (x : Act). x.entry) (heard_by_store S shared.setting w s a me.kind heard)
 
       module _ (a : ℕ) (can : IsTrue (may S w (i.Deliver a s))) where
         abbrev e : Inner
@@ -447,7 +445,7 @@ module _ (S : Setting) (sight : Sight) where
 
       -- it recovers, and asks
       wakes_entry : (act S w (i.Recover s)).entry ≡ None
-      wakes_entry = ap (λ b. (if b then wakes S.rights S.cache s (kept S w s) else of_store S (w.node s).attempt (stores.asks (shelf S w s))).entry) no_worker
+      wakes_entry = ap (λ b. (if b then wakes S.rights S.cache s (kept S w s) else of_store S (w.node s).attempt (stores.asks (shelf S w s))).entry) not_worker
 
       wakes_done : IsTrue (may S w (i.Recover s)) → Slack S (steps S w (Does (i.Recover s))) s (count + 1)
       wakes_done can =
@@ -476,7 +474,7 @@ module _ (S : Setting) (sight : Sight) where
 
       done_here : (e : Inner) → IsTrue (may S w e) → s ≡ node_of e → Slack S (steps S w (Does e)) s (count + attempts_in e)
       done_here (i.Begin x) can at =
-          absurd (both_ways (is_worker S.rights x) (subst (λ z. is_worker S.rights z ≡ false) at no_worker) (and_parts _ _ (and_parts _ _ (and_parts _ _ can).0).0).1)
+          absurd (both_ways (is_worker S.rights x) (subst (λ z. is_worker S.rights z ≡ false) at not_worker) (and_parts _ _ (and_parts _ _ (and_parts _ _ can).0).0).1)
       done_here (i.Resume x) can at = absurd (true≢false (sym (and_parts _ _ can).1 ∙ ap is_evaluating (subst (λ z. (w.node z).attempt.phase ≡ workers.Idle) at (holds.idle s me))))
       done_here (i.Idle x z) can at =
           absurd (lacks_none z (w.node x).attempt.phase (subst (λ y. (w.node y).attempt.phase ≡ workers.Idle) at (holds.idle s me)) (and_parts _ _ (and_parts _ _ can).0).1)
@@ -487,7 +485,7 @@ module _ (S : Setting) (sight : Sight) where
 
       cut_here : (keep : ℕ) (e : Inner) → IsTrue (may S w e) → is_some (act S w e).entry ≡ true → s ≡ node_of e → Slack S (steps S w (Cuts keep e)) s (count + attempts_in e)
       cut_here keep (i.Begin x) can some at =
-          absurd (both_ways (is_worker S.rights x) (subst (λ z. is_worker S.rights z ≡ false) at no_worker) (and_parts _ _ (and_parts _ _ (and_parts _ _ can).0).0).1)
+          absurd (both_ways (is_worker S.rights x) (subst (λ z. is_worker S.rights z ≡ false) at not_worker) (and_parts _ _ (and_parts _ _ (and_parts _ _ can).0).0).1)
       cut_here keep (i.Resume x) can some at = absurd (true≢false (sym (and_parts _ _ can).1 ∙ ap is_evaluating (subst (λ z. (w.node z).attempt.phase ≡ workers.Idle) at (holds.idle s me))))
       cut_here keep (i.Idle x z) can some at =
           absurd (lacks_none z (w.node x).attempt.phase (subst (λ y. (w.node y).attempt.phase ≡ workers.Idle) at (holds.idle s me)) (and_parts _ _ (and_parts _ _ can).0).1)

@@ -18,6 +18,7 @@ use Rattle.fab_protocol.specs.Stores.{Prepared, Shelf, all_in, item_name}
 use Rattle.fab_protocol.specs.Tables.{row_of}
 use Rattle.fab_protocol.specs.Versions.{Row, Rows, begun, left_by, name_of, raised, version_of}
 use Rattle.fab_protocol.proofs.VersionLaws.{version_of_row}
+use Rattle.fab_protocol.proofs.Caches.{cached_as_many}
 use Rattle.fab_rights.specs.Computed.{is_store}
 use Rattle.fab_world.specs.Machine.{Setting, World, kept, shelf}
 use Rattle.fab_world.specs.Workers.{Act, Attempt, Kept, decides}
@@ -36,7 +37,7 @@ use Rattle.fab_shadow.proofs.Shadow.{never, Stands, Dated, Keeps, IsShade, Table
 use Rattle.fab_shadow.proofs.Frames.{dated_moves, stands_after, stores_stay}
 use Rattle.fab_shadow.proofs.Here.{answer_dated, same_tid, worker_ok}
 use Rattle.fab_shadow.proofs.Rows.{row_at_here, row_at_past}
-use Rattle.fab_shadow.proofs.PutCaches.{cached_alike, cached_length}
+use Rattle.fab_shadow.proofs.PutCaches.{cached_alike}
 use Rattle.fab_shadow.proofs.Entered.{is_left, left_by_none, left_in_all, left_next, left_once, left_whole, prepared_items, prepared_there}
 
 module _ (S : Setting) (sight : Sight) (P : Public) (shared : IsShared S sight P) (w : World) (log : List Logged) (cs : List Commit) (k : Rebuilt)
@@ -229,8 +230,8 @@ module _ (S : Setting) (sight : Sight) (P : Public) (shared : IsShared S sight P
                 (all_of (λ s. IsTrue (is_store S.rights s)) (stores_of whole)
                 (all_stores S sight.has never shared.setting shared.evaluates w cs stands.holds.state n me (worker_ok S sight P shared w log cs k stands n me)))
           ];
-          wide = cached_length S.cache (puts_of b.answers whole) 0 b.caches ∙ ap length caches ∙ keeps.wide;
-          wide_too = cached_length P.cache (puts sight P y part) 0 y.caches ∙ keeps.wide_too;
+          wide = cached_as_many S.cache (puts_of b.answers whole) 0 b.caches ∙ ap length caches ∙ keeps.wide;
+          wide_too = cached_as_many P.cache (puts sight P y part) 0 y.caches ∙ keeps.wide_too;
           cached = same_cached;
         })
       where

@@ -19,6 +19,7 @@ use Rattle.fab_net.specs.declared.outcome.ReqOutcome.TheVariants.{Committed}
 use Rattle.fab_protocol.specs.declared.parts.Parts.{Parts}
 use Rattle.fab_protocol.specs.Parts.{stores_of, items_at}
 use Rattle.fab_protocol.specs.Versions.{is_tid}
+use Rattle.fab_protocol.proofs.Commits.{tid_itself}
 use Rattle.fab_world.specs.Attempts.{parts_of}
 use Rattle.fab_world.specs.Machine.{Setting, World, kept, meant, parts, shelf}
 use Rattle.fab_world.specs.Workers as workers
@@ -34,7 +35,7 @@ use Rattle.fab_integrity.proofs.Invariant.{Has, In, IsEnded, IsStore, IsWorker, 
 use Rattle.fab_integrity.proofs.Costs.{noted_outside}
 use Rattle.fab_integrity.proofs.Deals.{deals_more, deals_others}
 use Rattle.fab_integrity.proofs.Lists.{in_append, in_one}
-use Rattle.fab_integrity.proofs.Tids.{tid_is, tid_itself}
+use Rattle.fab_integrity.proofs.Tids.{tid_is}
 use Rattle.fab_integrity.proofs.WorkerSteps.{lands_noting}
 use Rattle.fab_shadow.proofs.Shadow.{never, Stands, Keeps, IsShade, Recorded, changed_names}
 use Rattle.fab_shadow.proofs.Fold.{AtWorker, after, after_append, tells, tells_append}

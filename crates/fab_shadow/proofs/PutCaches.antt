@@ -1,13 +1,8 @@
--- Caches behind puts: how many there are, and that the cache of a store depends on its own puts alone.
-use Rattle.std.proofs.Common.{◌≡◌, ℕ, zero, suc, ◌+◌, List, [], ◌∷◌, ◌++◌, length, refl, ap, arith}
+-- Caches behind puts: the cache of a store depends on its own puts alone.
+use Rattle.std.proofs.Common.{◌≡◌, ℕ, zero, suc, ◌+◌, List, [], ◌∷◌, ◌++◌, length, refl, arith}
 use Rattle.fab_protocol.specs.Caches.{at_store, cached, last_distinct}
 use Rattle.fab_protocol.specs.Versions.{Rows}
 use Rattle.fab_shadow.proofs.Shadow.{cache_of}
-
--- as many as before
-pub cached_length : (k : ℕ) (puts : Rows) (s : ℕ) (caches : List Rows) → length (cached k puts s caches) ≡ length caches
-cached_length k puts s [] = refl
-cached_length k puts s (cache ∷ caches) = ap suc (cached_length k puts (suc s) caches)
 
 -- the same at a store where the same was cached and the same is put
 pub cached_alike : (k : ℕ) (puts others : Rows) (from : ℕ) (xs ys : List Rows) (s : ℕ) → length xs ≡ length ys → cache_of xs s ≡ cache_of ys s

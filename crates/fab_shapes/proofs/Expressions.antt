@@ -1,21 +1,24 @@
 -- The kinds of expressions.
 use Rattle.std.proofs.Common.{◌≡◌, ℕ, List, [], ◌∷◌, map, refl, sym, ap, ◌∙◌, subst}
-use Rattle.std.specs.List.{AllByRecursion}
+use Rattle.std.specs.List.{AllByRecursion, flat_map}
 use Rattle.fab_base.proofs.Lists.{left_nil, right_nil}
 use Rattle.fab_base.specs.declared.object.Width.TheVariants as widths
 use Rattle.fab_tree.specs.declared.expression.Expression.{Expression, roll-Expression, ind-Expression, fold-roll-Expression}
 use Rattle.fab_tree.specs.declared.expression.Form.{Form, roll-Form, map-Form, fold-Form, fold-roll-Form}
 use Rattle.fab_tree.specs.declared.expression.Form.TheOpen as f
-use Rattle.fab_tree.specs.declared.expression.Operand.{Operand, fold-Operand}
+use Rattle.fab_tree.specs.declared.expression.Operand.{Operand, Operand-F, roll-Operand, fold-Operand, fold-roll-Operand}
+use Rattle.fab_tree.specs.declared.expression.Operator.{Operator}
+use Rattle.fab_tree.specs.declared.expression.UnaryOperator.{UnaryOperator}
+use Rattle.fab_tree.specs.declared.expression.UnaryOperator.TheVariants as unary
 use Rattle.fab_tree.specs.declared.program.Parameter.{Parameter}
 use Rattle.fab_tree.specs.declared.start.Start.{Start}
 use Rattle.fab_tree.specs.declared.resolved.Expression.{Expression as NumberedExpression, fold-roll-Expression as fold-roll-NumberedExpression}
 use Rattle.fab_tree.specs.declared.resolved.Form.{Form as NumberedForm, roll-Form as roll-NumberedForm, map-Form as map-NumberedForm, fold-Form as fold-NumberedForm, fold-roll-Form as fold-roll-NumberedForm}
 use Rattle.fab_tree.specs.declared.resolved.Form.TheVariants as nf
 use Rattle.fab_tree.specs.declared.resolved.Form.TheOpen as nfo
-use Rattle.fab_tree.specs.declared.resolved.Operand.{Operand as NumberedOperand, fold-Operand as fold-NumberedOperand}
+use Rattle.fab_tree.specs.declared.resolved.Operand.{Operand as NumberedOperand, fold-Operand as fold-NumberedOperand, fold-roll-Operand as fold-roll-NumberedOperand}
 use Rattle.fab_tree.specs.declared.resolved.Method.{Method as NumberedMethod}
-use Rattle.fab_tree.specs.Expressions.{expression_at}
+use Rattle.fab_tree.specs.Expressions.{expression_at, operand_at}
 use Rattle.fab_language.specs.declared.rule.Fault.{Fault}
 use Rattle.fab_language.specs.Heads.{Locals}
 use Rattle.fab_language.specs.Kinds.{number, takes, kind_of_field, field_of}
@@ -25,7 +28,7 @@ use Rattle.fab_language.specs.Unknown as u
 use Rattle.fab_language.specs.Uses.{local_use, local_number, field_number}
 use Rattle.fab_language.specs.MethodNumbers as m
 use Rattle.fab_language.specs.MethodNumbers.{Numbered, in_turn, form_step, form_of, expression_of, operand_of}
-use Rattle.fab_language.proofs.NumberedForms.{expression_numbers, form_numbers}
+use Rattle.fab_language.proofs.NumberedForms.{expression_numbers, form_numbers, operand_numbers}
 use Rattle.fab_laws.specs.Kinds as n
 use Rattle.fab_shapes.proofs.Agreement.{Agrees, held, is_number}
 use Rattle.fab_shapes.proofs.Locals.{classes_in, allowed, IsDeclared, IsKnown, local_kinds, local_holds, field_holds}
@@ -45,20 +48,20 @@ module _ (s : Start) (classes : AllByRecursion (IsDeclared s) s.program.classes)
   abbrev checked_operand : Operand → Checked
   checked_operand = fold-Operand (ℕ → Checked) Checked Checked (t.in_form s known) (λ e. e.form e.at) (λ o. o.operand)
 
-  abbrev kind_step : nfo.Form-F n.Kind n.Kind (Unit {0}) → n.Kind
+  abbrev kind_step : nfo.Form-F n.Kind n.Kind n.Kind → n.Kind
   kind_step = n.form_kind (classes_in s) methods (local_kinds s locals)
 
   abbrev pub kind_of : NumberedExpression → n.Kind
   kind_of = n.kind_of (classes_in s) methods (local_kinds s locals)
 
   abbrev kind_of_form : NumberedForm → n.Kind
-  kind_of_form = fold-NumberedForm n.Kind n.Kind (Unit {0}) kind_step (λ e. e.form) (λ o. tt)
+  kind_of_form = fold-NumberedForm n.Kind n.Kind n.Kind kind_step (λ e. e.form) (λ o. o.operand)
 
-  abbrev kind_of_operand : NumberedOperand → Unit {0}
-  kind_of_operand = fold-NumberedOperand n.Kind n.Kind (Unit {0}) kind_step (λ e. e.form) (λ o. tt)
+  abbrev kind_of_operand : NumberedOperand → n.Kind
+  kind_of_operand = fold-NumberedOperand n.Kind n.Kind n.Kind kind_step (λ e. e.form) (λ o. o.operand)
 
-  kind_is : (x : NumberedForm) (y : nfo.Form-F NumberedForm NumberedExpression NumberedOperand) → x ≡ roll-NumberedForm y → kind_of_form x ≡ kind_step (map-NumberedForm NumberedForm NumberedExpression NumberedOperand n.Kind n.Kind (Unit {0}) kind_of_form kind_of kind_of_operand y)
-  kind_is x y is = ap kind_of_form is ∙ fold-roll-NumberedForm n.Kind n.Kind (Unit {0}) kind_step (λ e. e.form) (λ o. tt) y
+  kind_is : (x : NumberedForm) (y : nfo.Form-F NumberedForm NumberedExpression NumberedOperand) → x ≡ roll-NumberedForm y → kind_of_form x ≡ kind_step (map-NumberedForm NumberedForm NumberedExpression NumberedOperand n.Kind n.Kind n.Kind kind_of_form kind_of kind_of_operand y)
+  kind_is x y is = ap kind_of_form is ∙ fold-roll-NumberedForm n.Kind n.Kind n.Kind kind_step (λ e. e.form) (λ o. o.operand) y
 
   -- ---- what is shown of each
 
@@ -74,10 +77,11 @@ module _ (s : Start) (classes : AllByRecursion (IsDeclared s) s.program.classes)
   abbrev pub ExpressionAgrees : Expression → Type 0
   ExpressionAgrees e = Fits (u.in_expression s known e) (t.checked s known e) (expression_of s locals e)
 
+  -- an operand that is to be a number is one
   abbrev OperandAgrees : Operand → Type 0
-  OperandAgrees x = Unit {0}
+  OperandAgrees x = (k : ℕ) → unknown_in_operand x ≡ [] → operand s known (checked_operand x) ≡ [] → kind_of_operand (operand_of s locals x k).0 ≡ n.number widths.Int
 
-  -- an operand is a number
+  -- so is an expression that is one
   operand_is : (e : Expression) (k : ℕ) → ExpressionAgrees e → u.in_expression s known e ≡ [] → operand s known (t.checked s known e) ≡ [] → kind_of (expression_of s locals e k).0 ≡ n.number widths.Int
   operand_is e k h a b =
       let c = t.checked s known e in
@@ -97,11 +101,27 @@ module _ (s : Start) (classes : AllByRecursion (IsDeclared s) s.program.classes)
       (expression_numbers s locals at form)
       (λ k a b.
       subst (λ j. Agrees s (checked_form form at).value.kind j)
-      (sym (fold-roll-NumberedExpression n.Kind n.Kind (Unit {0}) kind_step (λ e. e.form) (λ o. tt) (record { form = (form_of s locals form k).0; at = at })))
+      (sym (fold-roll-NumberedExpression n.Kind n.Kind n.Kind kind_step (λ e. e.form) (λ o. o.operand) (record { form = (form_of s locals form k).0; at = at })))
       (h k at a b))
 
+  operand_case : (at : ℕ) (operator : Operator) (e : Expression) → ExpressionAgrees e → OperandAgrees (operand_at at operator e)
+  operand_case at operator e h k a b =
+      let x : Operand-F Form Expression Operand = record { operator = operator; at = at; operand = e } in
+      let v = (expression_of s locals e k).0 in
+      let unknown : unknown_in_operand (operand_at at operator e) ≡ u.in_expression s known e =
+      fold-roll-Operand (List Fault) (List Fault) (List Fault) (u.in_form s known) (λ e. e.form) (λ o. o.operand) x in
+      let checked : checked_operand (operand_at at operator e) ≡ t.checked s known e =
+      fold-roll-Operand (ℕ → Checked) Checked Checked (t.in_form s known) (λ e. e.form e.at) (λ o. o.operand) x in
+      ap (λ (made : Numbered NumberedOperand). kind_of_operand (made k).0) (operand_numbers s locals at operator e)
+      ∙ fold-roll-NumberedOperand n.Kind n.Kind n.Kind kind_step (λ e. e.form) (λ o. o.operand) (record { operator = operator; at = at; operand = v })
+      ∙ operand_is e k h (sym unknown ∙ a) (sym (ap (operand s known) checked) ∙ b)
+
+  applied_number : (o : UnaryOperator) → n.applied_kind o (n.number widths.Int) ≡ n.number widths.Int
+  applied_number unary.Negative = refl
+  applied_number unary.Not = refl
+
   -- a form, whose parts are some for which this is known
-  module _ (F E O : Type 0) (form : F → Form) (expression : E → Expression) (part : O → Operand) (of_expression : (k : E) → ExpressionAgrees (expression k)) where
+  module _ (F E O : Type 0) (form : F → Form) (expression : E → Expression) (part : O → Operand) (of_expression : (k : E) → ExpressionAgrees (expression k)) (of_operand : (k : O) → OperandAgrees (part k)) where
     abbrev parts : f.Form-F F E O → f.Form-F Form Expression Operand
     parts = map-Form F E O Form Expression Operand form expression part
 
@@ -114,15 +134,29 @@ module _ (s : Start) (classes : AllByRecursion (IsDeclared s) s.program.classes)
     abbrev made_step : f.Form-F F E O → Numbered NumberedForm
     made_step y = form_step s locals (map-Form Form Expression Operand (Numbered NumberedForm) (Numbered NumberedExpression) (Numbered NumberedOperand) (form_of s locals) (expression_of s locals) (operand_of s locals) (parts y))
 
+    -- numbers that are joined in turn
+    operands_are : (xs : List O) (k : ℕ) → flat_map (λ faults. faults) (map unknown_in_operand (map part xs)) ≡ [] → flat_map (operand s known) (map checked_operand (map part xs)) ≡ []
+        → n.chain_kind (n.number widths.Int) (map kind_of_operand (in_turn (map (operand_of s locals) (map part xs)) k).0) ≡ n.number widths.Int
+    operands_are [] k a b = refl
+    operands_are (x ∷ xs) k a b =
+        let made = operand_of s locals (part x) k in
+        let unknown = flat_map (λ (faults : List Fault). faults) (map unknown_in_operand (map part xs)) in
+        let mistyped = flat_map (operand s known) (map checked_operand (map part xs)) in
+        let first = operand s known (checked_operand (part x)) in
+        ap (λ i. n.chain_kind (n.joined (n.number widths.Int) i) (map kind_of_operand (in_turn (map (operand_of s locals) (map part xs)) made.1).0))
+        (of_operand x k (left_nil (unknown_in_operand (part x)) unknown a) (left_nil first mistyped b))
+        ∙ operands_are xs made.1 (right_nil (unknown_in_operand (part x)) unknown a) (right_nil first mistyped b)
+
     chain_layer : (e : E) (others : List O) → FormFits (unknown_step (f.Chain e others)) (checked_step (f.Chain e others)) (made_step (f.Chain e others))
-    chain_layer e [] k at a b =
-        let v = (expression_of s locals (expression e) k).0 in
-        kind_is (nf.Chain v []) (nfo.Chain v []) (sym (nf.rolls-Chain v []))
-        ∙ operand_is (expression e) k (of_expression e) (left_nil (u.in_expression s known (expression e)) [] a) (left_nil (operand s known (t.checked s known (expression e))) [] b)
-    chain_layer e (o ∷ others) k at a b =
-        let v = (expression_of s locals (expression e) k).0 in
-        let vs = (in_turn (map (operand_of s locals) (map part (o ∷ others))) (expression_of s locals (expression e) k).1).0 in
-        kind_is (nf.Chain v vs) (nfo.Chain v vs) (sym (nf.rolls-Chain v vs))
+    chain_layer e others k at a b =
+        let v = expression_of s locals (expression e) k in
+        let vs = (in_turn (map (operand_of s locals) (map part others)) v.1).0 in
+        let unknown = flat_map (λ (faults : List Fault). faults) (map unknown_in_operand (map part others)) in
+        let mistyped = flat_map (operand s known) (map checked_operand (map part others)) in
+        let first = operand s known (t.checked s known (expression e)) in
+        kind_is (nf.Chain v.0 vs) (nfo.Chain v.0 vs) (sym (nf.rolls-Chain v.0 vs))
+        ∙ ap (λ i. n.chain_kind i (map kind_of_operand vs)) (operand_is (expression e) k (of_expression e) (left_nil (u.in_expression s known (expression e)) unknown a) (left_nil first mistyped b))
+        ∙ operands_are others v.1 (right_nil (u.in_expression s known (expression e)) unknown a) (right_nil first mistyped b)
 
     form_layer : (y : f.Form-F F E O) → FormFits (unknown_step y) (checked_step y) (made_step y)
     form_layer (f.Number i) k at a b = kind_is (nf.Number i) (nfo.Number i) (sym (nf.rolls-Number i))
@@ -134,7 +168,9 @@ module _ (s : Start) (classes : AllByRecursion (IsDeclared s) s.program.classes)
         let field = field_number s locals x y in
         subst (λ j. Agrees s (kind_of_field s (field_of s known x y)) j) (sym (kind_is (nf.Read (local_use locals x) field k) (nfo.Read (local_use locals x) field k) (sym (nf.rolls-Read (local_use locals x) field k))))
         (held s (kind_of_field s (field_of s known x y)) (n.field_kind (classes_in s) (n.kind_at (local_kinds s locals) (local_number locals x)) field) (field_holds s classes locals known knows x y at a b))
-    form_layer (f.Unary o e) k at a b = let v = (expression_of s locals (expression e) k).0 in kind_is (nf.Unary o v) (nfo.Unary o v) (sym (nf.rolls-Unary o v))
+    form_layer (f.Unary o e) k at a b =
+        let v = (expression_of s locals (expression e) k).0 in
+        kind_is (nf.Unary o v) (nfo.Unary o v) (sym (nf.rolls-Unary o v)) ∙ ap (n.applied_kind o) (operand_is (expression e) k (of_expression e) a b) ∙ applied_number o
     form_layer (f.Chain e others) k at a b = chain_layer e others k at a b
     form_layer (f.Compared e c g) k at a b =
         let v = expression_of s locals (expression e) k in
@@ -151,6 +187,6 @@ module _ (s : Start) (classes : AllByRecursion (IsDeclared s) s.program.classes)
   pub expression_agrees : (x : Expression) → ExpressionAgrees x
   expression_agrees =
       ind-Expression FormAgrees ExpressionAgrees OperandAgrees
-      (λ x y is. subst (λ z. FormAgrees (roll-Form z)) is (form_case _ _ _ (λ k. k.0) (λ k. k.0) (λ k. k.0) (λ k. k.1) y))
+      (λ x y is. subst (λ z. FormAgrees (roll-Form z)) is (form_case _ _ _ (λ k. k.0) (λ k. k.0) (λ k. k.0) (λ k. k.1) (λ k. k.1) y))
       (λ x y is. subst (λ z. ExpressionAgrees (roll-Expression z)) is (expression_case y.at y.form.0 y.form.1))
-      (λ x y is. tt)
+      (λ x y is. subst (λ z. OperandAgrees (roll-Operand z)) is (operand_case y.at y.operator y.operand.0 y.operand.1))

@@ -1,7 +1,7 @@
 -- What it says of each part that a bundle breaks no rule of names and types.
 use Rattle.std.proofs.Common.{◌≡◌, true, [], ◌++◌}
 use Rattle.std.specs.List.{AllByRecursion, flat_map}
-use Rattle.fab_base.proofs.Lists.{left_nil, right_nil, each_nil}
+use Rattle.fab_base.proofs.Lists.{left_nil, right_nil, each_nil, all_along, all_two}
 use Rattle.fab_tree.specs.declared.declaration.Class.{Class}
 use Rattle.fab_tree.specs.declared.declaration.Field.{Field}
 use Rattle.fab_tree.specs.declared.program.Parameter.{Parameter}
@@ -23,8 +23,7 @@ use Rattle.fab_language.specs.Types as t
 use Rattle.fab_language.specs.Types.{if_so, says_so, mistyped}
 use Rattle.fab_language.specs.Unknown as u
 use Rattle.fab_language.specs.Unknown.{in_sort, in_label, in_parameter, in_returns, in_principal, in_heading, unknown}
-use Rattle.fab_laws.proofs.Values.{all_more}
-use Rattle.fab_shapes.proofs.Lists.{from_two, from_three}
+use Rattle.fab_shapes.proofs.Lists.{from_three}
 use Rattle.fab_shapes.proofs.Locals.{allowed, IsDeclared}
 use Rattle.fab_shapes.proofs.Methods.{HasHeading}
 use Rattle.fab_shapes.proofs.Named.{stands_for_itself}
@@ -69,8 +68,8 @@ module _ (s : Start) where
       let rs = in_returns s m.returns in
       let front = left_nil (ps ++ rs) (in_label s m.begin) (left_nil (ps ++ rs ++ in_label s m.begin) (flat_map (in_principal s) m.authority) e) in
       record {
-        parameters = all_more (λ (p : Parameter). in_parameter s p ≡ []) (λ (p : Parameter). in_sort s p.sort ≡ []) m.parameters
-            (λ p h. left_nil (in_sort s p.sort) (in_label s p.label) h) (each_nil (in_parameter s) m.parameters (left_nil ps rs front));
+        parameters = all_along (λ (p : Parameter). in_parameter s p ≡ []) (λ (p : Parameter). in_sort s p.sort ≡ []) (λ p h. left_nil (in_sort s p.sort) (in_label s p.label) h)
+            m.parameters (each_nil (in_parameter s) m.parameters (left_nil ps rs front));
         returns = right_nil ps rs front;
       }
 
@@ -150,9 +149,9 @@ module _ (s : Start) where
       let typed_roots = flat_map (t.in_root s) s.roots in
       let typed_sessions = flat_map (t.in_session s) s.sessions in
       let typed_front = left_nil (typed_methods ++ typed_roots) typed_sessions typed in
-      let named = from_two (λ m. u.in_method s m ≡ []) (λ m. d.in_method m ≡ []) IsNamed s.program.methods (λ m p q. record { names = p; apart = q }) (each_nil (u.in_method s) s.program.methods names.methods) (each_nil d.in_method s.program.methods once) in
+      let named = all_two (λ m. u.in_method s m ≡ []) (λ m. d.in_method m ≡ []) IsNamed (λ m p q. record { names = p; apart = q }) s.program.methods (each_nil (u.in_method s) s.program.methods names.methods) (each_nil d.in_method s.program.methods once) in
       record {
-        classes = all_more (λ c. u.in_class s c ≡ []) (IsDeclared s) s.program.classes class_declared (each_nil (u.in_class s) s.program.classes names.classes);
+        classes = all_along (λ c. u.in_class s c ≡ []) (IsDeclared s) class_declared s.program.classes (each_nil (u.in_class s) s.program.classes names.classes);
         methods = from_three IsNamed (λ m. a.in_method s m ≡ []) (λ m. t.in_method s m ≡ []) (IsRightMethod s) s.program.methods method_right named
             (each_nil (a.in_method s) s.program.methods (left_nil counted_methods counted_roots counted_front))
             (each_nil (t.in_method s) s.program.methods (left_nil typed_methods typed_roots typed_front));

@@ -9,7 +9,7 @@ use Rattle.fab_base.specs.declared.object.Oid.{Oid}
 use Rattle.fab_base.specs.declared.object.Object.{Object}
 use Rattle.fab_base.specs.declared.object.Value.TheVariants.{Int, Null, Ref}
 use Rattle.fab_base.specs.FlatMap.{FlatMap}
-use Rattle.fab_base.proofs.Lists.{left_nil, right_nil, all_always, all_flat}
+use Rattle.fab_base.proofs.Lists.{left_nil, right_nil, all_always, all_flat, all_along}
 use Rattle.fab_base.specs.declared.object.Width.TheVariants as widths
 use Rattle.fab_tree.specs.declared.name.Name.{Name}
 use Rattle.fab_tree.specs.declared.declaration.Class.{Class}
@@ -40,7 +40,6 @@ use Rattle.fab_language.specs.Numbers.{oid_of, reference_to, value_of, values_of
 use Rattle.fab_laws.specs.Closed.{HasOne, IsThere, AreThere, IsClosed}
 use Rattle.fab_laws.specs.Kinds as n
 use Rattle.fab_laws.specs.Shapes.{suits, AllSuit, IsShaped, AreShaped, IsFitting}
-use Rattle.fab_laws.proofs.Values.{all_more}
 use Rattle.fab_shapes.proofs.Agreement.{Holds, AllHold, number_at, made_at, own_number, class_at, fields_hold}
 use Rattle.fab_shapes.proofs.Faultless.{IsRightRoot, IsRightRequest, IsFaultless, faultless}
 use Rattle.fab_shapes.proofs.Lists.{of_all}
@@ -211,8 +210,9 @@ module _ (s : Start) (right : IsFaultless s) where
   requests_fitting : AllByRecursion (IsFitting (resolved s)) (requests_of (resolved s))
   requests_fitting =
       all_requests s (IsFitting (resolved s))
-      (all_more (λ (x : Session). AllByRecursion (IsRightRequest s) x.requests) (λ (x : Session). AllByRecursion (λ y. (worker k : ℕ) → IsFitting (resolved s) (request_of s worker k y)) x.requests) s.sessions
-      (λ x h. all_more (IsRightRequest s) (λ y. (worker k : ℕ) → IsFitting (resolved s) (request_of s worker k y)) x.requests (λ y r worker k. request_fits y worker k r) h) right.sessions)
+      (all_along (λ (x : Session). AllByRecursion (IsRightRequest s) x.requests) (λ (x : Session). AllByRecursion (λ y. (worker k : ℕ) → IsFitting (resolved s) (request_of s worker k y)) x.requests)
+      (λ x h. all_along (IsRightRequest s) (λ y. (worker k : ℕ) → IsFitting (resolved s) (request_of s worker k y)) (λ y r worker k. request_fits y worker k r) x.requests h)
+      s.sessions right.sessions)
 
 pub objects_have_shapes : (s : Start) → faults s ≡ [] → AreShaped (resolved s).classes (map_at_start (resolved s))
 objects_have_shapes s e = shaped s (faultless s e)

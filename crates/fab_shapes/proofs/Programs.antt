@@ -2,7 +2,7 @@
 use Rattle.std.proofs.Common.{◌≡◌, ℕ, true, List, [], ◌∷◌, option_map, Option, Some, None, refl}
 use Rattle.std.specs.List.{AllByRecursion, flat_map}
 use Rattle.std.proofs.lemmas.Bool.{false≢true}
-use Rattle.fab_base.proofs.Lists.{left_nil, right_nil, all_split}
+use Rattle.fab_base.proofs.Lists.{all_append, left_nil, right_nil, all_split, all_along, all_two}
 use Rattle.fab_tree.specs.declared.program.Parameter.{Parameter}
 use Rattle.fab_tree.specs.declared.program.Returns.{Returns}
 use Rattle.fab_tree.specs.declared.program.Return.{Return}
@@ -20,10 +20,9 @@ use Rattle.fab_language.specs.MethodNumbers.{block_of, result_of, returns_of, me
 use Rattle.fab_language.specs.Numbers.{resolved}
 use Rattle.fab_laws.specs.Kinds as n
 use Rattle.fab_laws.specs.Shapes.{is_met, is_fitting}
-use Rattle.fab_laws.proofs.Values.{all_joined, all_more}
 use Rattle.fab_shapes.proofs.Agreement.{sort_holds}
 use Rattle.fab_shapes.proofs.Faultless.{IsRightMethod, IsFaultless, faultless}
-use Rattle.fab_shapes.proofs.Lists.{from_two, all_pass}
+use Rattle.fab_shapes.proofs.Lists.{all_pass}
 use Rattle.fab_shapes.proofs.Locals.{classes_in, IsDeclared, IsKnown, local_kinds}
 use Rattle.fab_shapes.proofs.Methods.{Met, HasHeading, methods_in, given_fits}
 use Rattle.fab_shapes.proofs.Statements.{IsRight, IsFirst, block_fits}
@@ -50,7 +49,7 @@ module _ (s : Start) (classes : AllByRecursion (IsDeclared s) s.program.classes)
   method_fits m k right =
       let locals = locals_of m in
       let ps = all_split (IsFirst locals) m.parameters (flat_map declared_in m.body) right.once in
-      let known : AllByRecursion (IsKnown s locals) m.parameters = from_two (IsFirst locals) (λ (p : Parameter). in_sort s p.sort ≡ []) (IsKnown s locals) m.parameters (λ p i d. record { itself = i; declared = d }) ps.0 right.heading.parameters in
+      let known : AllByRecursion (IsKnown s locals) m.parameters = all_two (IsFirst locals) (λ (p : Parameter). in_sort s p.sort ≡ []) (IsKnown s locals) (λ p i d. record { itself = i; declared = d }) m.parameters ps.0 right.heading.parameters in
       let body = heads_in m.body m.parameters in
       let hs = all_split (IsRight s m.returns) body.heads (result_heads m.result body.behind) right.heads in
       let b = block_fits s classes headings locals m.returns m.body m.parameters k known ps.1 hs.0 in
@@ -59,12 +58,12 @@ module _ (s : Start) (classes : AllByRecursion (IsDeclared s) s.program.classes)
   methods_fit : (ms : List Method) (k : ℕ) → AllByRecursion (IsRightMethod s) ms → AllByRecursion Met (flat_map (n.method_claims (classes_in s) (methods_in s)) (methods_of s ms k).0)
   methods_fit [] k h = tt
   methods_fit (m ∷ ms) k h =
-      all_joined Met (n.method_claims (classes_in s) (methods_in s) (method_of s m k).0) (flat_map (n.method_claims (classes_in s) (methods_in s)) (methods_of s ms (method_of s m k).1).0)
+      all_append Met (n.method_claims (classes_in s) (methods_in s) (method_of s m k).0) (flat_map (n.method_claims (classes_in s) (methods_in s)) (methods_of s ms (method_of s m k).1).0)
       (method_fits m k h.0) (methods_fit ms (method_of s m k).1 h.1)
 
 -- the methods of a bundle that breaks no rule have headings whose types are declared
 pub headings_of : (s : Start) → IsFaultless s → AllByRecursion (HasHeading s) s.program.methods
-headings_of s right = all_more (IsRightMethod s) (HasHeading s) s.program.methods (λ m h. h.heading) right.methods
+headings_of s right = all_along (IsRightMethod s) (HasHeading s) (λ m h. h.heading) s.program.methods right.methods
 
 pub program_fits : (s : Start) → faults s ≡ [] → is_fitting (resolved s) ≡ true
 program_fits s e =

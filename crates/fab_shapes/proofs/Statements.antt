@@ -1,7 +1,7 @@
 -- What statements claim is met.
 use Rattle.std.proofs.Common.{◌≡◌, ℕ, suc, List, [], ◌∷◌, ◌++◌, map, Option, Some, None, refl, sym, ap, ◌∙◌, subst}
 use Rattle.std.specs.List.{AllByRecursion, flat_map}
-use Rattle.fab_base.proofs.Lists.{left_nil, right_nil, all_split}
+use Rattle.fab_base.proofs.Lists.{all_append, left_nil, right_nil, all_split}
 use Rattle.fab_tree.specs.declared.name.Name.{Name}
 use Rattle.fab_tree.specs.declared.declaration.Sort.{Sort}
 use Rattle.fab_tree.specs.declared.expression.Expression.{Expression}
@@ -28,7 +28,6 @@ use Rattle.fab_language.specs.Uses.{label_use, local_use, local_number, field_nu
 use Rattle.fab_language.specs.MethodNumbers.{Numbered, in_turn, expression_of, expressions_of, right_of, statement_step, statement_of, block_of}
 use Rattle.fab_language.proofs.NumberedForms.{statement_numbers}
 use Rattle.fab_laws.specs.Kinds as n
-use Rattle.fab_laws.proofs.Values.{all_joined}
 use Rattle.fab_shapes.proofs.Agreement.{Holds, sort_holds}
 use Rattle.fab_shapes.proofs.Locals.{classes_in, IsDeclared, IsKnown, local_kinds, kind_of_first, local_holds, field_holds}
 use Rattle.fab_shapes.proofs.Methods.{Met, HasHeading, methods_in, given_fits, right_fits, call_fits}
@@ -100,7 +99,7 @@ module _ (s : Start) (classes : AllByRecursion (IsDeclared s) s.program.classes)
         let hs = all_split (IsRight s returns) (walk (statement x) known).heads (walked xs (walk (statement x) known).behind).heads r in
         let here = of_statement x known k h ps.0 hs.0 in
         let rest = block_layer xs (walk (statement x) known).behind (statement_of s locals (statement x) k).1 here.0 ps.1 hs.1 in
-        (rest.0, all_joined Met (claims_of (statement_of s locals (statement x) k).0) (block_claims (made xs (statement_of s locals (statement x) k).1).0) here.1 rest.1)
+        (rest.0, all_append Met (claims_of (statement_of s locals (statement x) k).0) (block_claims (made xs (statement_of s locals (statement x) k).1).0) here.1 rest.1)
 
     -- the locals, heads and claims of two blocks
     two_met : (known : Locals) (xs ys : List S) (k : ℕ) → AreKnown known → AllByRecursion (IsFirst locals) (declares xs ++ declares ys) → AreRight ((walked xs known).heads ++ (walked ys known).heads)
@@ -108,7 +107,7 @@ module _ (s : Start) (classes : AllByRecursion (IsDeclared s) s.program.classes)
     two_met known xs ys k h f r =
         let ps = all_split (IsFirst locals) (declares xs) (declares ys) f in
         let hs = all_split (IsRight s returns) (walked xs known).heads (walked ys known).heads r in
-        all_joined Met (block_claims (made xs k).0) (block_claims (made ys (made xs k).1).0)
+        all_append Met (block_claims (made xs k).0) (block_claims (made ys (made xs k).1).0)
         (block_layer xs known k h ps.0 hs.0).1 (block_layer ys known (made xs k).1 h ps.1 hs.1).1
 
     abbrev walk_layer : o.Statement-F S → Walk
@@ -127,7 +126,7 @@ module _ (s : Start) (classes : AllByRecursion (IsDeclared s) s.program.classes)
         let declared : in_sort s d ≡ [] = left_nil (in_sort s d) (in_label s l) (left_nil (in_sort s d ++ in_label s l) (u.in_expression s known e) head.declared) in
         let v = nr.Plain (expression_of s locals e k).0 in
         let holds : Holds s (kind_of_sort s d) (n.kind_at kinds (local_number locals x)) = subst (Holds s (kind_of_sort s d)) (sym (kind_of_first s classes locals x p f.0)) (sort_holds s d declared) in (
-          all_joined (IsKnown s locals) known (p ∷ []) h (record { itself = f.0; declared = declared }, tt),
+          all_append (IsKnown s locals) known (p ∷ []) h (record { itself = f.0; declared = declared }, tt),
           met_by (ns.Assign (local_number locals x) v at) (nso.Assign (local_number locals x) v at) (sym (ns.rolls-Assign (local_number locals x) v at)) (
             given_fits s classes headings locals known h (kind_of_sort s d) (n.kind_at kinds (local_number locals x)) e k holds
                 (right_nil (in_sort s d ++ in_label s l) (u.in_expression s known e) head.declared)
@@ -183,7 +182,7 @@ module _ (s : Start) (classes : AllByRecursion (IsDeclared s) s.program.classes)
         let hs = all_split (IsRight s returns) (walked xs known).heads [] r.1 in (
           h,
           met_by (ns.If c.0 b.0 []) (nso.If c.0 b.0 []) (sym (ns.rolls-If c.0 b.0 []))
-              (all_joined Met (block_claims b.0) [] (block_layer xs known c.1 h f hs.0).1 tt),
+              (all_append Met (block_claims b.0) [] (block_layer xs known c.1 h f hs.0).1 tt),
         )
 
     if_both_layer : (e : Expression) (xs ys : List S) → Fits (walk_layer (o.If e xs (Some ys))) (declared_layer (o.If e xs (Some ys))) (made_layer (o.If e xs (Some ys)))
@@ -237,4 +236,4 @@ module _ (s : Start) (classes : AllByRecursion (IsDeclared s) s.program.classes)
       let hs = all_split (IsRight s returns) (walk x known).heads (heads_in xs (walk x known).behind).heads r in
       let here = statement_fits x known k h ps.0 hs.0 in
       let rest = block_fits xs (walk x known).behind (statement_of s locals x k).1 here.0 ps.1 hs.1 in
-      (rest.0, all_joined Met (claims_of (statement_of s locals x k).0) (block_claims (block_of s locals xs (statement_of s locals x k).1).0) here.1 rest.1)
+      (rest.0, all_append Met (claims_of (statement_of s locals x k).0) (block_claims (block_of s locals xs (statement_of s locals x k).1).0) here.1 rest.1)

@@ -3,7 +3,7 @@ use Rattle.std.proofs.Common.{◌≡◌, ◌⊎◌, inl, inr, ℕ, suc, ◌+◌,
 use Rattle.std.proofs.Common.{Option, Some, None, refl, sym, ap, ◌∙◌, subst, true≢false, arith}
 use Rattle.std.specs.Prelude.{fold, nat_lt}
 use Rattle.std.specs.List.{AllByRecursion}
-use Rattle.std.proofs.lemmas.Bool.{and_parts, both_ways, false_from_ne_true, not-true, or_cases}
+use Rattle.std.proofs.lemmas.Bool.{and_parts, both_ways, or_cases}
 use Rattle.std.proofs.lemmas.List.{length-append, length-map}
 use Rattle.fab_base.specs.declared.entry.Entry.{Entry}
 use Rattle.fab_base.specs.declared.entry.Entry.TheVariants as e
@@ -32,7 +32,7 @@ use Rattle.fab_protocol.specs.Versions.{Row, objects_of}
 use Rattle.fab_protocol.proofs.Kept.{says_can_keep}
 use Rattle.fab_protocol.proofs.Records.{worker_below}
 use Rattle.fab_world.specs.Attempts.{value_of}
-use Rattle.fab_world.specs.Machine.{Setting, World, act, front_of, hears, is_evaluating, is_running, kept, lacks, may, meant, node_of, of_store, parts, shelf}
+use Rattle.fab_world.specs.Machine.{Setting, World, act, front_of, hears, is_evaluating, kept, lacks, may, meant, node_of, of_store, parts, shelf}
 use Rattle.fab_world.specs.Serial.{AreFit, IsEvaluation, IsFit, IsSetting}
 use Rattle.fab_world.specs.Workers as workers
 use Rattle.fab_world.specs.Workers.{Act, Attempt, Phase, request_of, stays, takes, tid_of, wakes}
@@ -40,8 +40,9 @@ use Rattle.fab_integrity.proofs.Invariant.{WorkerOk, standing}
 use Rattle.fab_integrity.proofs.Lists.{all_of}
 use Rattle.fab_integrity.proofs.Maps.{all_put}
 use Rattle.fab_integrity.proofs.Readings.{counts_of, spelled_so}
+use Rattle.fab_integrity.proofs.Roles.{heard_by_store, no_worker}
 use Rattle.fab_integrity.proofs.Runs.{no_classes}
-use Rattle.fab_integrity.proofs.Steps.{may_node}
+use Rattle.fab_integrity.proofs.Steps.{may_node, may_honest}
 use Rattle.fab_integrity.proofs.Tids.{tid_spelled}
 use Rattle.fab_integrity.proofs.WorkerSpelling.{ArePlain, parts_plain, prepare_spelled}
 use Rattle.fab_outcomes.proofs.Tidy.{Good, Store, Worker}
@@ -81,28 +82,14 @@ few_stores p plain =
 -- ---- kinds of nodes
 
 module _ (S : Setting) where
-  running_honest : (w : World) (n : ℕ) → is_running S w n ≡ true → S.hostile n ≡ false
-  running_honest w n h = not-true (S.hostile n) (and_parts _ _ (and_parts _ _ h).0).1
-
-  -- an event may come of a node alone that isn't hostile
-  pub may_honest : (w : World) (e : Inner) → may S w e ≡ true → S.hostile (node_of e) ≡ false
-  may_honest w (i.Begin n) h = running_honest w n (and_parts _ _ (and_parts _ _ (and_parts _ _ h).0).0).0
-  may_honest w (i.Resume n) h = running_honest w n (and_parts _ _ h).0
-  may_honest w (i.Deliver a b) h = running_honest w b (and_parts _ _ (and_parts _ _ h).0).0
-  may_honest w (i.Idle n s) h = running_honest w n (and_parts _ _ (and_parts _ _ (and_parts _ _ h).0).0).0
-  may_honest w (i.Recover n) h = not-true (S.hostile n) (and_parts _ _ (and_parts _ _ (and_parts _ _ h).0).0).1
-
-  -- it is of a worker or of a store
+  -- an event that may come is of a worker or of a store
   pub kind_of : (w : World) (e : Inner) → IsTrue (may S w e) → Worker S (node_of e) ⊎ Store S (node_of e)
   kind_of w e can = elim (or_cases (is_worker S.rights (node_of e)) (is_store S.rights (node_of e)) (may_node S w e can)) [
-    | inl worker ↦ inl (record { kind = worker; outside = may_honest w e can })
-    | inr store ↦ inr (record { kind = store; outside = may_honest w e can })
+    | inl worker ↦ inl (record { kind = worker; outside = may_honest S w e can })
+    | inr store ↦ inr (record { kind = store; outside = may_honest S w e can })
   ]
 
   module _ (given : IsSetting S) where
-    pub no_worker : (s : ℕ) → Store S s → is_worker S.rights s ≡ false
-    no_worker s me = false_from_ne_true (is_worker S.rights s) (λ is. both_ways (is_store S.rights s) (given.apart s is) me.kind)
-
     module _ (law : IsEvaluation S) (w : World) (cs : List Commit) (good : Good S w cs) where
       -- ---- a worker
 
@@ -195,14 +182,13 @@ module _ (S : Setting) where
         heard_filed a (Some message) read =
             let counts : KeepsCounts message = counts_of message (spelled_so S given (front_of (w.queue a s)) message read).body in
             let modest = modest_says S.rights s (shelf S w s) shelf_ok.fields a message in
-            subst (λ b. IsFiled s (if b then takes S.rights S.cache s (kept S w s) a message (w.node s).attempt (parts S w s)
-            else of_store S (w.node s).attempt (says S.rights s a message (shelf S w s)))) (sym (no_worker s me))
+            subst (IsFiled s) (sym (heard_by_store S given w s a me.kind (Some message)))
             (record { keeps = λ entry h. says_can_keep S.rights s (shelf S w s) entry a message counts h; sends = modest.sends })
 
         woken_filed : IsFiled s (if is_worker S.rights s then wakes S.rights S.cache s (kept S w s) else of_store S (w.node s).attempt (asks (shelf S w s)))
         woken_filed =
             let modest = modest_asks S.rights s (shelf S w s) shelf_ok.fields in
-            subst (λ b. IsFiled s (if b then wakes S.rights S.cache s (kept S w s) else of_store S (w.node s).attempt (asks (shelf S w s)))) (sym (no_worker s me))
+            subst (λ b. IsFiled s (if b then wakes S.rights S.cache s (kept S w s) else of_store S (w.node s).attempt (asks (shelf S w s)))) (sym (no_worker S given s me.kind))
             (record { keeps = λ entry h. none_kept entry h; sends = modest.sends })
 
       idle_evaluates : (phase : Phase) → phase ≡ workers.Idle → is_evaluating phase ≡ true → ⊥
@@ -212,7 +198,7 @@ module _ (S : Setting) where
       idle_lacks x phase idle h = true≢false (sym h ∙ ap (lacks x) idle)
 
       pub store_filed : (e : Inner) → Store S (node_of e) → IsTrue (may S w e) → IsFiled (node_of e) (act S w e)
-      store_filed (i.Begin n) me can = absurd (both_ways (is_worker S.rights n) (no_worker n me) (and_parts _ _ (and_parts _ _ (and_parts _ _ can).0).0).1)
+      store_filed (i.Begin n) me can = absurd (both_ways (is_worker S.rights n) (no_worker S given n me.kind) (and_parts _ _ (and_parts _ _ (and_parts _ _ can).0).0).1)
       store_filed (i.Resume n) me can = absurd (idle_evaluates (w.node n).attempt.phase (good.idle n me) (and_parts _ _ can).1)
       store_filed (i.Idle n x) me can = absurd (idle_lacks x (w.node n).attempt.phase (good.idle n me) (and_parts _ _ (and_parts _ _ can).0).1)
       store_filed (i.Deliver a n) me can = heard_filed n me a (S.read (front_of (w.queue a n))) refl

@@ -27,6 +27,7 @@ use Rattle.fab_world.specs.Serial.{IsEvaluation, IsRun, IsSetting, commits_in, w
 use Rattle.fab_world.specs.Workers.{Kept, kept_of}
 use Rattle.fab_integrity.proofs.Lasting.{kept_start}
 use Rattle.fab_integrity.proofs.Runs.{front_run}
+use Rattle.fab_integrity.proofs.Steps.{may_honest}
 use Rattle.fab_outcomes.specs.Causes.{IsCaused, IsGiven}
 use Rattle.fab_outcomes.proofs.Having.{have_causes}
 use Rattle.fab_outcomes.proofs.Nodes.{event_may, event_records, stands_or_not}
@@ -38,7 +39,7 @@ use Rattle.fab_settings.proofs.Gives.{gives_setting}
 use Rattle.fab_settings.proofs.Meanings.{evaluates}
 use Rattle.fab_reports.specs.Showable.{AreOutcomesIn, IsNode, IsOutcomeIn}
 use Rattle.fab_shown.specs.Shown.{all_outcomes, node_count, outcomes_at}
-use Rattle.fab_shown.proofs.Acts.{decided_in, kind_of, may_honest, store_filed}
+use Rattle.fab_shown.proofs.Acts.{decided_in, kind_of, store_filed}
 use Rattle.fab_named.proofs.Numbered.{has_node}
 use Rattle.fab_shown.proofs.Nodes.{rights_node}
 

@@ -13,7 +13,6 @@ use Rattle.fab_tree.specs.declared.resolved.Resolved.{Resolved}
 use Rattle.fab_net.specs.declared.event.Event.{Event}
 use Rattle.fab_net.specs.declared.event.Event.TheVariants as e
 use Rattle.fab_net.specs.declared.event.Inner.{Inner}
-use Rattle.fab_net.specs.declared.event.Inner.TheVariants as i
 use Rattle.fab_net.specs.declared.note.Logged.{Logged}
 use Rattle.fab_rights.specs.Computed.{is_node}
 use Rattle.fab_world.specs.Machine.{Setting, World, Move, Form, Does, Cuts, Fails, Posts, Crashes, Never, act, at_node, bytes_to, cut, down, enabled, form_by, form_of}
@@ -22,6 +21,7 @@ use Rattle.fab_integrity.proofs.Invariant.{In}
 use Rattle.fab_integrity.proofs.Lists.{each_of, in_append, in_filter, in_if, in_map, in_one}
 use Rattle.fab_integrity.proofs.Transport.{lands_whole, ready_queue}
 use Rattle.fab_integrity.proofs.Worlds.{IsSent, at_other, at_same}
+use Rattle.fab_integrity.proofs.Changes.{ready_posts}
 use Rattle.fab_settings.specs.Settings.{posts_of}
 use Rattle.fab_trace.specs.Report.{is_post_of, targets}
 use Rattle.fab_reports.specs.Lines.{AreBytes}
@@ -149,13 +149,6 @@ module _ (S : Setting) where
         at_other w.posts n more h ne ∙ sym (ap (λ b. cond b (rest_of (w.posts h)) (w.posts h)) (ne_eqb n h (λ same. ne (sym same))))
   ]
 
-  ready_posts : (w : World) (event : Inner) → (ready S w event).posts ≡ w.posts
-  ready_posts w (i.Begin n) = refl
-  ready_posts w (i.Resume n) = refl
-  ready_posts w (i.Deliver a b) = refl
-  ready_posts w (i.Idle n s) = refl
-  ready_posts w (i.Recover n) = refl
-
   pub posts_step : (w : World) (marked : Bool) (event : Event) → IsTrue (enabled S w (form_by marked event)) → (h : ℕ)
       → (steps S w (form_by marked event)).posts h ≡ cond (is_post_of h event) (rest_of (w.posts h)) (w.posts h)
   posts_step w false (e.Begin n) can h = refl
@@ -165,7 +158,7 @@ module _ (S : Setting) where
   posts_step w false (e.Recover n) can h = refl
   posts_step w false (e.Post n) can h = posted_rest w n (w.posts n) refl h
   posts_step w false (e.Crash n) can h = refl
-  posts_step w false (e.CrashIn keep event) can h = ap (λ (f : ℕ → List (ℕ × List ℕ)). f h) (ready_posts w event)
+  posts_step w false (e.CrashIn keep event) can h = ap (λ (f : ℕ → List (ℕ × List ℕ)). f h) (ready_posts S w event)
   posts_step w true (e.CrashIn keep event) can h = refl
   posts_step w true (e.Begin n) can h = absurd (true≢false (sym can))
   posts_step w true (e.Resume n) can h = absurd (true≢false (sym can))

@@ -12,6 +12,7 @@ use Rattle.fab_numbers.proofs.SitedInOrder.{sites_enumerated}
 use Rattle.fab_labels.proofs.FlowLemmas.{covered_by_denial}
 use Rattle.fab_base.specs.declared.label.Label.{Label}
 use Rattle.fab_base.specs.Labels.{FlowsInteg}
+use Rattle.fab_base.proofs.Lists.{all_two}
 use Rattle.fab_labelling.specs.Claims.{Holds, IsWellLabelled}
 use Rattle.fab_labelling.specs.Obligations.{Claim, flows, conf, nowhere, declassifies, endorses, holds, answers_for, owed}
 use Rattle.fab_labelling.specs.Readers.{Excludes, label_at, principal_of}
@@ -20,7 +21,6 @@ use Rattle.fab_places.proofs.LawLemmas.{within_all_covered}
 use Rattle.fab_laws.specs.Shapes.{is_fitting}
 use Rattle.fab_erasure.specs.Agreement.{IsKept, IsView}
 use Rattle.fab_erasure.proofs.Places.{one_place, one_way}
-use Rattle.fab_shapes.proofs.Lists.{from_two}
 use Rattle.fab_shapes.proofs.Programs.{program_fits}
 use Rattle.fab_views.proofs.Declared.{labels_declared}
 use Rattle.fab_views.proofs.Labels.{HasLabels}
@@ -50,7 +50,7 @@ module _ (r : Resolved) (nodes : ℕ) (trusts keeps : ℕ → Bool) (given : IsT
   is_view : HasLabels r → IsWellLabelled r → sites_of r ≡ enumerate_from 0 (pcs_of r) → is_fitting r ≡ true → IsView trusts keeps r
   is_view declared labelled ordered fits = record {
     kept =
-        from_two (λ x. Holds r x.claim) (λ x. IsFrom (length r.labels) x.claim) (λ x. IsKept trusts keeps r x.claim) (owed r) (λ x. claim_kept x.claim)
+        all_two (λ x. Holds r x.claim) (λ x. IsFrom (length r.labels) x.claim) (λ x. IsKept trusts keeps r x.claim) (λ x. claim_kept x.claim) (owed r)
         (recursion_from_All (λ x. Holds r x.claim) (owed r) labelled) (flows_from_declared r declared);
     shown = given.classes;
     absent = given.absent;

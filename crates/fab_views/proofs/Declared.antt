@@ -1,9 +1,9 @@
 -- In a bundle whose names are all declared each label that the program uses is.
-use Rattle.std.proofs.Common.{◌≡◌, ℕ, suc, ◌<◌, List, [], ◌∷◌, ◌++◌, map, length, option_map, Option, Some, None, refl, sym, ap, ◌∙◌, subst, arith}
+use Rattle.std.proofs.Common.{◌≡◌, ℕ, suc, ◌<◌, List, [], ◌∷◌, ◌++◌, map, length, option_map, Option, Some, None, refl, sym, ap, ◌∙◌, subst}
 use Rattle.std.specs.Prelude.{slice_get}
 use Rattle.std.specs.List.{AllByRecursion, flat_map}
 use Rattle.std.proofs.lemmas.List.{length-map}
-use Rattle.fab_base.proofs.Lists.{left_nil, right_nil, each_nil, all_split, all_map, at_index}
+use Rattle.fab_base.proofs.Lists.{all_append, left_nil, right_nil, each_nil, all_split, all_map, at_index, all_along}
 use Rattle.fab_tree.specs.declared.name.Name.{Name}
 use Rattle.fab_tree.specs.declared.declaration.Class.{Class}
 use Rattle.fab_tree.specs.declared.declaration.Field.{Field}
@@ -35,7 +35,6 @@ use Rattle.fab_language.specs.Numbers.{label_of, class_of, resolved}
 use Rattle.fab_language.proofs.NumberedForms.{statement_numbers}
 use Rattle.fab_language.proofs.Named.{number_below}
 use Rattle.fab_labelling.specs.Obligations.{label_of_returns}
-use Rattle.fab_laws.proofs.Values.{all_joined, all_more}
 use Rattle.fab_views.proofs.Labels.{named_by_right, labels_step, labels_in, labels_in_block, AreBelow, IsLabelledLocal, IsLabelledClass, IsLabelledMethod, HasLabels}
 
 module _ (s : Start) where
@@ -96,8 +95,8 @@ module _ (s : Start) where
           let next = (statement_of s locals (statement x) k).1 in
           let here = of_statement x known k hs.0 in
           let rest = block_layer xs (walk (statement x) known).behind next hs.1 in (
-            all_joined (λ p. in_label s p.label ≡ []) (declared_in (statement x)) (declares xs) here.0 rest.0,
-            all_joined (λ l. l < many) (labels_in (statement_of s locals (statement x) k).0) (labels_in_block (made xs next).0) here.1 rest.1,
+            all_append (λ p. in_label s p.label ≡ []) (declared_in (statement x)) (declares xs) here.0 rest.0,
+            all_append (λ l. l < many) (labels_in (statement_of s locals (statement x) k).0) (labels_in_block (made xs next).0) here.1 rest.1,
           )
 
       -- what two blocks declare and name
@@ -107,8 +106,8 @@ module _ (s : Start) where
           let hs = all_split (λ h. in_head s h.0 h.1 ≡ []) (walked xs known).heads (walked ys known).heads r in
           let a = block_layer xs known k hs.0 in
           let b = block_layer ys known (made xs k).1 hs.1 in (
-            all_joined (λ p. in_label s p.label ≡ []) (declares xs) (declares ys) a.0 b.0,
-            all_joined (λ l. l < many) (labels_in_block (made xs k).0) (labels_in_block (made ys (made xs k).1).0) a.1 b.1,
+            all_append (λ p. in_label s p.label ≡ []) (declares xs) (declares ys) a.0 b.0,
+            all_append (λ l. l < many) (labels_in_block (made xs k).0) (labels_in_block (made ys (made xs k).1).0) a.1 b.1,
           )
 
       abbrev walk_layer : o.Statement-F S → Walk
@@ -140,7 +139,7 @@ module _ (s : Start) where
           let b = made xs c.1 in
           let hs = all_split (λ h. in_head s h.0 h.1 ≡ []) (walked xs known).heads [] r.1 in
           let t = block_layer xs known c.1 hs.0 in
-          (t.0, below_by (ns.If c.0 b.0 []) (nso.If c.0 b.0 []) (sym (ns.rolls-If c.0 b.0 [])) (all_joined (λ l. l < many) (labels_in_block b.0) [] t.1 tt))
+          (t.0, below_by (ns.If c.0 b.0 []) (nso.If c.0 b.0 []) (sym (ns.rolls-If c.0 b.0 [])) (all_append (λ l. l < many) (labels_in_block b.0) [] t.1 tt))
       statement_layer (o.If e xs (Some ys)) known k r =
           let c = expression_of s locals e k in
           let b = made xs c.1 in
@@ -177,8 +176,8 @@ module _ (s : Start) where
         let next = (statement_of s locals x k).1 in
         let here = statement_names x known k hs.0 in
         let rest = block_names xs (walk x known).behind next hs.1 in (
-          all_joined (λ p. in_label s p.label ≡ []) (declared_in x) (flat_map declared_in xs) here.0 rest.0,
-          all_joined (λ l. l < many) (labels_in (statement_of s locals x k).0) (labels_in_block (block_of s locals xs next).0) here.1 rest.1,
+          all_append (λ p. in_label s p.label ≡ []) (declared_in x) (flat_map declared_in xs) here.0 rest.0,
+          all_append (λ l. l < many) (labels_in (statement_of s locals x k).0) (labels_in_block (block_of s locals xs next).0) here.1 rest.1,
         )
 
   -- ---- methods and classes
@@ -198,11 +197,11 @@ module _ (s : Start) where
       let body = heads_in m.body m.parameters in
       let heads = all_split (λ h. in_head s h.0 h.1 ≡ []) body.heads (result_heads m.result body.behind) (each_nil (λ (h : Locals × Head). in_head s h.0 h.1) (heads_of m) (right_nil (in_heading s m) in_heads e)) in
       let names = block_names (locals_of m) m.body m.parameters k heads.0 in
-      let parameters = all_more (λ p. in_parameter s p ≡ []) (λ p. in_label s p.label ≡ []) m.parameters (λ p h. right_nil (in_sort s p.sort) (in_label s p.label) h) (each_nil (in_parameter s) m.parameters (left_nil ps rs two)) in
+      let parameters = all_along (λ p. in_parameter s p ≡ []) (λ p. in_label s p.label ≡ []) (λ p h. right_nil (in_sort s p.sort) (in_label s p.label) h) m.parameters (each_nil (in_parameter s) m.parameters (left_nil ps rs two)) in
       record {
         locals = all_map (IsLabelledLocal many) (numbered_local s) (locals_of m)
-            (all_more (λ p. in_label s p.label ≡ []) (λ p. (label_use s p.label).number < many) (locals_of m) (λ p h. label_below p.label h)
-            (all_joined (λ p. in_label s p.label ≡ []) m.parameters (flat_map declared_in m.body) parameters names.0));
+            (all_along (λ p. in_label s p.label ≡ []) (λ p. (label_use s p.label).number < many) (λ p h. label_below p.label h) (locals_of m)
+            (all_append (λ p. in_label s p.label ≡ []) m.parameters (flat_map declared_in m.body) parameters names.0));
         returns = returns_below m.returns (right_nil ps rs two);
         begin = label_below m.begin (right_nil (ps ++ rs) (in_label s m.begin) three);
         body = names.1;
@@ -252,7 +251,7 @@ labels_declared s e =
     let names = unknowns s (no_unknowns s e) in
     record {
       classes = all_map (IsLabelledClass (many s)) (class_of s) s.program.classes
-          (all_more (λ c. in_class s c ≡ []) (λ c. IsLabelledClass (many s) (class_of s c)) s.program.classes (class_labelled s) (each_nil (in_class s) s.program.classes names.classes));
+          (all_along (λ c. in_class s c ≡ []) (λ c. IsLabelledClass (many s) (class_of s c)) (class_labelled s) s.program.classes (each_nil (in_class s) s.program.classes names.classes));
       methods = methods_labelled s s.program.methods 0 (each_nil (in_method s) s.program.methods names.methods);
     }
 

@@ -2,7 +2,7 @@
 use Rattle.std.proofs.Common.{◌≡◌, ℕ, ◌<◌, ◌==◌, Bool, true, false, if◌then◌else◌, List, [], ◌∷◌, ◌++◌, map, length, Option, Some, None, refl, subst}
 use Rattle.std.specs.Prelude.{slice_get}
 use Rattle.std.specs.List.{AllByRecursion, flat_map, list_any, range_with_len}
-use Rattle.fab_base.proofs.Lists.{all_split, at_index}
+use Rattle.fab_base.proofs.Lists.{all_append, all_split, at_index}
 use Rattle.fab_base.specs.declared.object.Width.TheVariants as widths
 use Rattle.fab_tree.specs.declared.expression.Operator.{Operator}
 use Rattle.fab_tree.specs.declared.expression.Operator.TheVariants as o
@@ -32,7 +32,7 @@ use Rattle.fab_labelling.specs.declared.rule.LabelRule.TheVariants.{Begin, Atomi
 use Rattle.fab_labelling.specs.Obligations.{Claim, flows, conf, nowhere, declassifies, endorses, holds, answers_for, Owed, owe, all_flow, all_conf, all_fail, under, class_of_sort, class_of_local, label_of_local, label_of_class, label_of_returns, to_each, Part, Tail, division, local_labels, class_behind, asking, reaching, tail_owes}
 use Rattle.fab_labelling.specs.Obligations.{form_step, part, given, all_given, parameter_labels, failing, for_each, calling, call_owes, making, downgrading, right_owes, returned, right_labels, writing, Owes, in_order, statement_step, statement_owes, block_owes, return_owes, failure_of, authority_of, method_owes, root_owes, request_owes, session_owes, owed}
 use Rattle.fab_labelling.proofs.Forms.{form_part, operand_part}
-use Rattle.fab_laws.proofs.Values.{all_joined, all_map}
+use Rattle.fab_laws.proofs.Values.{all_map}
 use Rattle.fab_shapes.proofs.Lists.{of_all}
 use Rattle.fab_views.proofs.Labels.{AreBelow, named_by_right, labels_step, labels_in, labels_in_block, IsLabelledLocal, IsLabelledClass, IsLabelledMethod, HasLabels}
 
@@ -54,10 +54,10 @@ module _ (n : ℕ) where
   AreFrom xs = AllByRecursion (λ x. IsFrom n x.claim) xs
 
   below : (xs ys : List ℕ) → Below xs → Below ys → Below (xs ++ ys)
-  below xs ys h k = all_joined (λ l. l < n) xs ys h k
+  below xs ys h k = all_append (λ l. l < n) xs ys h k
 
   both : (xs ys : List Owed) → AreFrom xs → AreFrom ys → AreFrom (xs ++ ys)
-  both xs ys h k = all_joined (λ x. IsFrom n x.claim) xs ys h k
+  both xs ys h k = all_append (λ x. IsFrom n x.claim) xs ys h k
 
   -- ---- labels flow
 

@@ -2,6 +2,7 @@
 use Rattle.std.proofs.Common.{◌≡◌, ℕ, Bool, true, length}
 use Rattle.std.specs.List.{enumerate_from}
 use Rattle.std.proofs.lemmas.List.Elements.{recursion_from_All}
+use Rattle.fab_base.proofs.Lists.{all_two}
 use Rattle.fab_tree.specs.declared.resolved.Resolved.{Resolved}
 use Rattle.fab_language.specs.Flows.{delegations_of}
 use Rattle.fab_labels.proofs.FlowLemmas.{covered_by_denial}
@@ -13,7 +14,6 @@ use Rattle.fab_places.proofs.LawLemmas.{within_all_covered}
 use Rattle.fab_laws.specs.Shapes.{is_fitting}
 use Rattle.fab_erasure.specs.Agreement.{IsKept, IsView}
 use Rattle.fab_erasure.proofs.Places.{one_place, one_way}
-use Rattle.fab_shapes.proofs.Lists.{from_two}
 use Rattle.fab_views.specs.Views.{IsSeenBy}
 use Rattle.fab_views.proofs.Labels.{HasLabels}
 use Rattle.fab_views.proofs.Flowing.{IsFrom, flows_from_declared}
@@ -42,7 +42,7 @@ module _ (r : Resolved) (nodes : ℕ) (sees shows : ℕ → Bool) (seen : IsSeen
   pub is_view : HasLabels r → IsWellLabelled r → sites_of r ≡ enumerate_from 0 (pcs_of r) → is_fitting r ≡ true → IsView sees shows r
   is_view declared labelled ordered fits = record {
     kept =
-        from_two (λ x. Holds r x.claim) (λ x. IsFrom (length r.labels) x.claim) (λ x. IsKept sees shows r x.claim) (owed r) (λ x. claim_kept x.claim)
+        all_two (λ x. Holds r x.claim) (λ x. IsFrom (length r.labels) x.claim) (λ x. IsKept sees shows r x.claim) (λ x. claim_kept x.claim) (owed r)
         (recursion_from_All (λ x. Holds r x.claim) (owed r) labelled) (flows_from_declared r declared);
     shown = seen.classes;
     absent = seen.absent;

@@ -1,4 +1,5 @@
-use Rattle.fab_cache.proofs.Laying.{cached_as_many, cached_few, cached_last, cached_once, empty_last}
+use Rattle.fab_protocol.proofs.Caches.{cached_as_many}
+use Rattle.fab_cache.proofs.Laying.{cached_few, cached_last, cached_once, empty_last}
 use Rattle.fab_cache.proofs.laws.caches_stay_distinct.Goals as goal
 
 pub returns-clause-own : goal.returns-clause-own

@@ -7,7 +7,8 @@ use Rattle.fab_meaning.proofs.expressions.+value.Given as goal
 
 abbrev pub invariant-chained-loop-other : goal.invariant-chained-loop-other
 invariant-chained-loop-other l = record {
-  same : chained operate (map (λ (u : Operator × Part). (u.0, u.1.run)) (others_of l.setting l.method (drop l.other-index l.others))) l.v l.state
-      ≡ chained operate (map (λ (u : Operator × Part). (u.0, u.1.run)) (others_of l.setting l.method l.others)) l.initial.v l.initial.state;
-  fuel : l.state.fuel ≡ l.initial.state.fuel;
+  same : chained operate (map (λ (u : Operator × Part). (u.0, u.1.run)) (others_of l.setting l.method (drop l.other-index l.others))) l.v l.state.state
+      ≡ chained operate (map (λ (u : Operator × Part). (u.0, u.1.run)) (others_of l.setting l.method l.others)) l.initial.v l.initial.state.state;
+  base : l.state.base ≡ l.initial.state.base;
+  fuel : l.state.state.fuel ≡ l.initial.state.state.fuel;
 }

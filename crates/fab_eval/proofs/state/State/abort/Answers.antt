@@ -1,6 +1,0 @@
-use Rattle.std.proofs.Common.{subst, sym}
-use Rattle.fab_eval.proofs.Making.{IsOwn, aborted_own}
-use Rattle.fab_eval.proofs.state.State.abort.Goals as goal
-
-pub invariant_of-self : goal.invariant_of-self
-invariant_of-self c = subst (IsOwn c.self.inside.tid) (sym c.abort.ensures) (aborted_own c.self.inside.tid c.self.inside.frames c.self.invariant)

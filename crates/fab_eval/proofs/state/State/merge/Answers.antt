@@ -1,5 +1,0 @@
-use Rattle.fab_eval.proofs.Making.{merged_own, own_or_kept}
-use Rattle.fab_eval.proofs.state.State.merge.Goals as goal
-
-pub invariant_of-self : goal.invariant_of-self
-invariant_of-self c = own_or_kept c.self.inside.tid c.merge.result c.self.inside.frames c.merge.new.self _ c.self.invariant (merged_own c.self.inside.tid c.self.inside.frames c.self.invariant) c.merge.ensures.ok c.merge.ensures.err

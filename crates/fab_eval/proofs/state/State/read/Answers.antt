@@ -1,5 +1,0 @@
-use Rattle.fab_eval.proofs.Making.{own_after, read_own}
-use Rattle.fab_eval.proofs.state.State.read.Goals as goal
-
-pub invariant_of-self : goal.invariant_of-self
-invariant_of-self c = own_after c.self.inside.tid c.read.result c.self.inside.frames c.read.new.self _ c.self.invariant (read_own c.self.inside.tid c.args.site _ c.args.field c.self.inside.frames c.self.invariant) c.read.ensures

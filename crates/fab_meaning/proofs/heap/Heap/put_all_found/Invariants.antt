@@ -1,6 +1,0 @@
-use Rattle.std.proofs.Common.{◌≡◌, ◌++◌, drop}
-use Rattle.fab_meaning.specs.Effects.{objects_at}
-use Rattle.fab_meaning.proofs.heap.Heap.put_all_found.Given as goal
-
-abbrev pub invariant-loop-name : goal.invariant-loop-name
-invariant-loop-name l = l.out ++ objects_at l.self.rows (drop l.name-index l.names) ≡ l.initial.out ++ objects_at l.self.rows l.names

@@ -1,0 +1,6 @@
+pub mod Making
+pub mod Stacks
+pub mod Running
+pub mod Calling
+pub mod Nexting
+pub mod Answering
