@@ -12,5 +12,6 @@ mod whole;
 
 pub use done::Done;
 pub use job::{EvalRefused, Job, Outcome, copy_of_request};
+pub use plain::{Plain, locals_at_start};
 pub use turn::{Paused, PausedRefused, Turn, start};
 pub use whole::evaluate;

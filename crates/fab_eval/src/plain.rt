@@ -18,7 +18,7 @@ use std::alloc::Global;
 
 /// Programs are read by their meaning.
 #[derive(Clone, Copy)]
-pub(crate) struct Plain;
+pub struct Plain;
 
 impl Acts for Plain {
     ghost means = { λ x. meanings };
@@ -95,7 +95,7 @@ fn hand(state: &mut State<'_>, target: Option<u16>, value: Option<Value>)
 }
 
 /// A method's locals at its start: what it is given, and then each other local's default.
-pub(crate) fn locals_at_start(method: &Method, args: Seq<Value>) -> Result<Vec<Value>, NoMemory>
+pub fn locals_at_start(method: &Method, args: Seq<Value>) -> Result<Vec<Value>, NoMemory>
     ensures { IfOk result (λ v. v.items ≡ locals_at_start method.now args) }
 {
     let mut values = args.into_vec();

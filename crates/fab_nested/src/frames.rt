@@ -80,6 +80,22 @@ impl<'a> Frames<'a> {
         }
     }
 
+    /// The same over a map that is given.
+    pub fn owning(alloc: Global, known: ObjectMap) -> Frames<'a>
+        ensures { result ≡ nested_over known }
+    {
+        // (a map's rows are in the order of names)
+        let _ = known.rows();
+        Frames {
+            versions: IndexMap::new(alloc),
+            known: Known::Own(known),
+            objects: Objects::none(alloc),
+            log: Vec::new(alloc),
+            marks: Vec::new(alloc),
+            touches: Touches::new(alloc),
+        }
+    }
+
     /// One answer more, of an object that wasn't there: in the heap, and in each heap that is saved,
     /// without going over these.
     pub fn answer(&mut self, oid: Oid, version: u32, object: Object) -> Result<(), NoMemory>

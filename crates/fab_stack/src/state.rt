@@ -106,6 +106,28 @@ impl<'a> State<'a> {
         })
     }
 
+    /// The same over the objects of a map that is given.
+    pub fn owning(
+        alloc: Global,
+        tid: Tid,
+        fuel: u32,
+        known: ObjectMap,
+        given: &[Value],
+    ) -> Result<State<'a>, NoMemory>
+        ensures { IfOk result (λ s. s ≡ point_over tid fuel known given.now) }
+    {
+        Ok(State {
+            alloc,
+            tid,
+            fuel,
+            locals: Vec::new(alloc),
+            frames: Frames::owning(alloc, known),
+            downs: Vec::new(alloc),
+            given: Seq::from_slice(alloc, given)?,
+            taken: 0,
+        })
+    }
+
     /// Where memory comes from.
     pub fn alloc(&self) -> Global {
         self.alloc
