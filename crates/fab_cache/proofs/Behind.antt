@@ -7,11 +7,12 @@ use Rattle.fab_base.specs.FlatMap.{is_among}
 use Rattle.fab_protocol.specs.Tables.{OnlyOnce}
 use Rattle.fab_protocol.specs.Versions.{Row, Rows, names_of}
 use Rattle.fab_protocol.specs.Caches.{with_older, last_distinct}
+use Rattle.fab_cache.specs.Caching.{lasting}
 use Rattle.fab_cache.proofs.Counts.{many_new}
-use Rattle.fab_cache.proofs.Lasting.{lasting, settled, older_settled, older_new, older_by, settled_taken, among_along, once_along, last_behind, last_walk}
+use Rattle.fab_cache.proofs.Lasting.{settled, older_settled, older_new, older_by, settled_taken, among_along, once_along, last_behind, last_walk}
 
 -- no newer row has the name
-abbrev pub is_new : Rows → Row → Bool
+abbrev is_new : Rows → Row → Bool
 is_new newer row = not (is_among row.0 (names_of newer))
 
 one_further : (a b : ℕ) → suc (a + b) ≡ a + suc b

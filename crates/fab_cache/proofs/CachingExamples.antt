@@ -3,8 +3,7 @@ use Rattle.std.proofs.Common.{◌≡◌, ℕ, List, [], ◌∷◌, Some, None, p
 use Rattle.fab_protocol.specs.Versions.{Row, Rows}
 use Rattle.fab_protocol.specs.Caches.{last_distinct}
 use Rattle.fab_protocol.proofs.Toy.{account, holding}
-use Rattle.fab_cache.specs.Caching.{laid, renewed}
-use Rattle.fab_cache.proofs.Beside.{staying}
+use Rattle.fab_cache.specs.Caching.{laid, lasting, renewed}
 
 -- version n of an account, at store 1
 abbrev seen : ℕ → ℕ → Row
@@ -29,6 +28,6 @@ no_room = refl
 too_long : last_distinct 1 (seen 0 1 ∷ seen 1 1 ∷ []) ≡ seen 1 1 ∷ []
 too_long = refl
 
--- beside newer rows, those of other names stay, the last ones
-beside_newer : staying 1 (seen 1 2 ∷ []) (seen 0 1 ∷ seen 2 1 ∷ seen 1 1 ∷ []) [] ≡ seen 2 1 ∷ []
-beside_newer = refl
+-- in front of newer rows, those of other names stay, the last ones
+before_newer : lasting 2 (seen 0 1 ∷ seen 2 1 ∷ seen 1 1 ∷ []) (seen 1 2 ∷ []) ≡ seen 2 1 ∷ seen 1 2 ∷ []
+before_newer = refl

@@ -10,11 +10,7 @@ use Rattle.fab_base.proofs.NameOrder.{one_name}
 use Rattle.fab_protocol.specs.Tables.{OnlyOnce}
 use Rattle.fab_protocol.specs.Versions.{Row, Rows, names_of}
 use Rattle.fab_protocol.specs.Caches.{with_older, last_distinct}
-
--- these put in front of newer ones, the last first
-abbrev pub lasting : ℕ → Rows → Rows → Rows
-lasting k [] newer = newer
-lasting k (row ∷ rows) newer = with_older k row (lasting k rows newer)
+use Rattle.fab_cache.specs.Caching.{lasting}
 
 -- a name among rows, row by row
 pub named : (o : Oid) (rows : Rows) → is_among o (names_of rows) ≡ list_any (λ row. is_same row.0 o) rows

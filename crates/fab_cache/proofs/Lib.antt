@@ -1,7 +1,6 @@
 pub mod Lasting
 pub mod Counts
 pub mod Behind
-pub mod Beside
 pub mod Laying
 pub mod Putting
 mod CachingExamples

@@ -1,13 +1,12 @@
 -- Caches as contracts see them, what replaces them behind puts, and the cache of one store.
-use Rattle.std.specs.Prelude.{◌≡◌, ℕ, suc, ◌<◌, ◌≤◌, List, [], ◌∷◌, ◌++◌, length, map, reverse}
+use Rattle.std.specs.Prelude.{◌≡◌, ℕ, suc, ◌≤◌, List, [], ◌∷◌, ◌++◌, length, map, reverse}
 use Rattle.std.specs.Prelude.{Option, Some, None, unwrap_or}
 use Rattle.std.specs.List.{AllByRecursion}
-use Rattle.lru.specs.LruCache.{LruCache}
 use Rattle.fab_base.specs.declared.object.Oid.{Oid}
 use Rattle.fab_base.specs.declared.object.Object.{Object}
 use Rattle.fab_protocol.specs.Tables.{OnlyOnce}
 use Rattle.fab_protocol.specs.Versions.{Row, Rows, names_of}
-use Rattle.fab_protocol.specs.Caches.{last_distinct, at_store}
+use Rattle.fab_protocol.specs.Caches.{with_older, last_distinct, at_store}
 
 -- how many rows a cache keeps at most, and the cache of each store
 pub record Caching : Type 0 where
@@ -52,15 +51,11 @@ AreFew k caches = AllByRecursion (λ cache. length cache ≤ k) caches
 abbrev pub row_of_entry : Oid × (ℕ × Object) → Row
 row_of_entry e = (e.0, e.1.0, e.1.1)
 
--- its rows, the oldest first: what was put last is the entry that was used last, and that stands first
-abbrev pub rows_in : LruCache Oid (ℕ × Object) → Rows
-rows_in cache = reverse (map row_of_entry cache.entries)
+-- the rows of entries of which the newest stands first, the oldest first
+abbrev pub rows_in : List (Oid × (ℕ × Object)) → Rows
+rows_in entries = reverse (map row_of_entry entries)
 
--- the same, where there is none yet
-abbrev pub rows_of : Option (LruCache Oid (ℕ × Object)) → Rows
-rows_of None = []
-rows_of (Some cache) = rows_in cache
-
--- it has room for a row, and is its own last distinct rows
-abbrev pub IsLatest : LruCache Oid (ℕ × Object) → Type 0
-IsLatest cache = (0 < cache.cap) × (last_distinct cache.cap (rows_in cache) ≡ rows_in cache)
+-- these put in front of newer ones, the last first
+abbrev pub lasting : ℕ → Rows → Rows → Rows
+lasting k [] newer = newer
+lasting k (row ∷ rows) newer = with_older k row (lasting k rows newer)

@@ -95,6 +95,6 @@ impl Caches {
     pub fn clear(&mut self)
         ensures { self.new ≡ record self.old { caches = map (λ cache. []) self.old.caches } }
     {
-        emptied(&mut self.caches);
+        emptied(self.alloc, &mut self.caches);
     }
 }

@@ -12,7 +12,7 @@ use std::alloc::Global;
 pub fn empties(alloc: Global, count: u16) -> Result<Vec<StoreCache>, NoMemory>
     ensures { IfOk result (λ caches. caches.items ≡ map (λ s. []) (range_with_len 0 count)) }
 {
-    (0..count).map(|_| StoreCache::empty()).collect(alloc)
+    (0..count).map(|_| StoreCache::empty(alloc)).collect(alloc)
 }
 
 /// The row of this name in the cache of its store.
@@ -81,10 +81,10 @@ pub fn lay(caches: &mut [StoreCache], mut new: Vec<Option<StoreCache>>)
 }
 
 /// Empties each cache.
-pub fn emptied(caches: &mut [StoreCache])
+pub fn emptied(alloc: Global, caches: &mut [StoreCache])
     ensures { caches.new ≡ map (λ cache. []) caches.old }
 {
     for cache in caches.iter_mut() {
-        *cache = StoreCache::empty();
+        *cache = StoreCache::empty(alloc);
     }
 }

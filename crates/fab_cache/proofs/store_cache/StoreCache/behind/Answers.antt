@@ -1,20 +1,22 @@
-use Rattle.std.proofs.Common.{◌++◌, sym, subst, ◌∙◌}
-use Rattle.fab_protocol.specs.Caches.{at_store}
+use Rattle.std.proofs.Common.{◌≡◌, ◌++◌, sym, subst}
+use Rattle.fab_protocol.specs.Caches.{at_store, last_distinct}
 use Rattle.fab_protocol.specs.Tables.{OnlyOnce}
 use Rattle.fab_protocol.specs.Versions.{names_of}
-use Rattle.fab_cache.specs.Caching.{rows_in, rows_of}
+use Rattle.fab_cache.specs.Caching.{rows_in}
 use Rattle.fab_cache.proofs.Lasting.{last_once}
-use Rattle.fab_cache.proofs.Putting.{behind_is, no_room}
+use Rattle.fab_cache.proofs.Putting.{behind_is}
 use Rattle.fab_cache.proofs.store_cache.StoreCache.behind.Goals as goal
 
-pub returns-in_default : goal.returns-in_default
-returns-in_default c = c.empty.ensures ∙ sym (no_room c.args.k (c.args.self.now ++ at_store c.args.store c.args.puts.now) c.in_default.ensures)
-
 pub invariant_of-result : goal.invariant_of-result
-invariant_of-result c = subst (λ l. OnlyOnce (names_of l)) (sym c.in_ok-put_all.ensures.rows) (last_once c.copy_all.new.entries.cap (rows_in c.copy_all.new.entries ++ at_store c.args.store c.args.puts.now))
+invariant_of-result c =
+    let is : rows_in c.keep_all.new.entries.entries ≡ last_distinct c.args.k (c.args.self.now ++ at_store c.args.store c.args.puts.now) =
+    behind_is c.args.k c.in_ok-entries.entries.entries c.args.self.now (rows_in c.self.inside.entries.entries) (at_store c.args.store c.args.puts.now)
+    (rows_in c.put_all.new.entries.entries) (rows_in c.keep_all.new.entries.entries) c.in_ok-entries.ensures.empty c.in_ok-put_all.ensures
+    c.in_ok-keep_all.ensures c.self.view_is in
+    subst (λ l. OnlyOnce (names_of l)) (sym is) (last_once c.args.k (c.args.self.now ++ at_store c.args.store c.args.puts.now))
 
 pub returns : goal.returns
 returns c =
-    behind_is c.args.k c.in-Some.most.value c.in_ok-entries.entries c.copy_all.new.entries (rows_of c.self.inside.entries) c.args.self.now
-    (at_store c.args.store c.args.puts.now) (rows_in c.put_all.new.entries) c.in_ok-entries.ensures c.in-Some.ensures c.in_ok-copy_all.ensures.cap
-    c.in_ok-copy_all.ensures.rows c.self.view_is c.in_ok-put_all.ensures.rows
+    behind_is c.args.k c.in_ok-entries.entries.entries c.args.self.now (rows_in c.self.inside.entries.entries) (at_store c.args.store c.args.puts.now)
+    (rows_in c.put_all.new.entries.entries) (rows_in c.keep_all.new.entries.entries) c.in_ok-entries.ensures.empty c.in_ok-put_all.ensures
+    c.in_ok-keep_all.ensures c.self.view_is
