@@ -15,7 +15,7 @@ use Rattle.fab_tree.specs.declared.resolved.Request.{Request}
 use Rattle.fab_tree.specs.declared.resolved.Resolved.{Resolved}
 use Rattle.fab_language.specs.declared.ending.Ending.{Ending}
 use Rattle.fab_language.specs.declared.ending.Ending.TheVariants.{Ended, Failed, Stopped, Missing}
-use Rattle.fab_language.specs.Meaning.{Meant, State, locals_at_start, meant_at, meant_by}
+use Rattle.fab_language.specs.Meaning.{Meant, State, locals_at_start, meant_at, meant_by, state_at_start}
 use Rattle.fab_language.specs.Evaluation.{if_ended, meant, tid_of}
 use Rattle.fab_laws.specs.Changes.{OnlyChanges}
 use Rattle.fab_laws.specs.Closed.{HasOne}
@@ -36,20 +36,37 @@ use Rattle.fab_evaluation.specs.Singles.{IsSingle, ending_of}
 -- ---- what was changed, put into the map
 
 -- the objects of these names in one map, put into another that has all others, make it the same
-module _ (map : FlatMap) where
-  settled : (names : List Oid) (known : FlatMap) (o : Oid) → (is_among o names ≡ true → HasOne map o) → (is_among o names ≡ false → get known o ≡ get map o)
-      → get (put_all (objects_at map names) known) o ≡ get map o
-  settled [] known o there same = same refl
-  settled (p ∷ names) known o there same =
-      ap (λ rows. get (put_all rows known) o) (flat_map-cons (λ (q : Oid). object_at q (get map q)) p names) ∙ by (get map p) refl (is_same p o) refl there same
-    where
-      by : (found : Option Object) → get map p ≡ found → (b : Bool) → is_same p o ≡ b → ((b || is_among o names) ≡ true → HasOne map o)
-          → ((b || is_among o names) ≡ false → get known o ≡ get map o) → get (put_all (object_at p found ++ objects_at map names) known) o ≡ get map o
-      by None e true i there same = let x = there refl in let no : None ≡ Some x.0 = sym e ∙ ap (get map) (one_name p o i) ∙ x.1 in cc
-      by None e false i there same = settled names known o there same
-      by (Some x) e true i there same =
-          settled names (put p x known) o (λ _. there refl) (λ _. ap (get (put p x known)) (sym (one_name p o i)) ∙ get-put_same p x known ∙ sym e ∙ ap (get map) (one_name p o i))
-      by (Some x) e false i there same = settled names (put p x known) o there (λ h. get-put_other p o x known i ∙ same h)
+module _ (map : FlatMap) (o : Oid) where
+  -- the other may have what isn't under one of these names, and an object is there under each
+  record Joins (names : List Oid) (known : FlatMap) : Type 0 where
+    there : is_among o names ≡ true → HasOne map o
+    same : is_among o names ≡ false → get known o ≡ get map o
+
+  abbrev Settles : List Oid → FlatMap → Type 0
+  Settles names known = get (put_all (objects_at map names) known) o ≡ get map o
+
+  -- with one name more in front
+  in_front : (p : Oid) (names : List Oid) (known : FlatMap) → Joins (p ∷ names) known → ((k : FlatMap) → Joins names k → Settles names k)
+      → (found : Option Object) → get map p ≡ found → (b : Bool) → is_same p o ≡ b → get (put_all (object_at p found ++ objects_at map names) known) o ≡ get map o
+  in_front p names known j next None e true i =
+      let x = j.there (ap (λ b. b || is_among o names) i) in let no : None ≡ Some x.0 = sym e ∙ ap (get map) (one_name p o i) ∙ x.1 in cc
+  in_front p names known j next None e false i =
+      next known (record { there = λ h. j.there (ap (λ b. b || is_among o names) i ∙ h); same = λ h. j.same (ap (λ b. b || is_among o names) i ∙ h) })
+  in_front p names known j next (Some x) e true i =
+      next (put p x known)
+      (record {
+        there = λ h. j.there (ap (λ b. b || is_among o names) i);
+        same = λ h. ap (get (put p x known)) (sym (one_name p o i)) ∙ get-put_same p x known ∙ sym e ∙ ap (get map) (one_name p o i);
+      })
+  in_front p names known j next (Some x) e false i =
+      next (put p x known)
+      (record { there = λ h. j.there (ap (λ b. b || is_among o names) i ∙ h); same = λ h. get-put_other p o x known i ∙ j.same (ap (λ b. b || is_among o names) i ∙ h) })
+
+  settled : (names : List Oid) (known : FlatMap) → Joins names known → Settles names known
+  settled [] known j = j.same refl
+  settled (p ∷ names) known j =
+      ap (λ rows. get (put_all rows known) o) (flat_map-cons (λ (q : Oid). object_at q (get map q)) p names)
+      ∙ in_front p names known j (λ k h. settled names k h) (get map p) refl (is_same p o) refl
 
 either : (a b : Bool) → (a || b) ≡ (b || a)
 either true true = refl
@@ -71,7 +88,8 @@ module _ (program : Resolved) (known : FlatMap) (request : Request) (up : ascend
   changes_make =
       same_from_get (put_all (objects_at done.map (done.written ++ done.made)) known) done.map
       (ascends-put_all (objects_at done.map (done.written ++ done.made)) known up) (changes.ascending up)
-      (λ o. settled done.map (done.written ++ done.made) known o (λ e. changes.there o (sym (among_changed o) ∙ e)) (λ e. sym (changes.others o (sym (among_changed o) ∙ e))))
+      (λ o. settled done.map o (done.written ++ done.made) known
+      (record { there = λ e. changes.there o (sym (among_changed o) ∙ e); same = λ e. sym (changes.others o (sym (among_changed o) ∙ e)) }))
 
   behind : (e : Ending) → put_all (if_ended e (objects_at done.map (done.written ++ done.made)) []) known ≡ if_ended e done.map known
   behind (Ended v) = changes_make
@@ -104,8 +122,10 @@ ends_so m first tid known js s ks t (Lacks site o fuel pairs objects) r = ap mea
 
 module _ (program : Resolved) (known : FlatMap) (request : Request) where
   -- where there is no method
-  pub none_meant : (p : Point) → slice_get program.methods request.method ≡ None → p ≡ point_over (tid_of request) 1000000 known [] → meant program known request ≡ meant_at (Ended None) p.state
-  none_meant p none at = ap meant_by (plain_none program (tid_of request) request 1000000 known none) ∙ sym (ap (λ (x : Point). meant_at (Ended None) x.state) at)
+  pub none_single : slice_get program.methods request.method ≡ None → IsSingle program known request (record { ending = Ended None; changed = [] })
+  none_single none =
+      let is : meant program known request ≡ meant_at (Ended None) (state_at_start known 1000000) = ap meant_by (plain_none program (tid_of request) request 1000000 known none) in
+      record { ending = sym (ap (λ (m : Meant). m.ending) is); map = sym (ap (λ (m : Meant). if_ended m.ending m.map known) is) }
 
   module _ (first : Method) (is : slice_get program.methods request.method ≡ Some first) (up : ascends known ≡ true) (way : Way) (ks : List left.Entry) (q : State) where
     abbrev start : Point

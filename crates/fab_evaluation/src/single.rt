@@ -34,24 +34,27 @@ pub(crate) fn run_one(
 {
     // (a map's rows are in the order of names)
     let _ = objects.rows();
+    let Some(first) = program.methods.as_slice().get(request.method as usize) else {
+        return Ok(Single {
+            ending: Ending::Ended(None),
+            changed: Seq::new(alloc),
+        });
+    };
     let tid = Tid {
         worker: request.worker,
         boot: 1,
         number: request.number,
     };
     let mut state = State::over(alloc, tid, FUEL, objects, &[])?;
-    let Some(first) = program.methods.as_slice().get(request.method as usize) else {
-        return over(alloc, Way::Over(Ok(None)), &state);
-    };
     let args = Seq::from_slice(alloc, request.args.as_slice())?;
     let locals = locals_at_start(first, args)?;
     let mut stack = begun(&mut state, first, locals)?;
     let way = run(&Plain, program, first, &mut stack, &mut state)?;
-    over(alloc, way, &state)
+    single_at(alloc, way, &state)
 }
 
 /// What a run came to, from the state at its end. An object that lacks ends it.
-fn over(alloc: Global, way: Way, state: &State<'_>) -> Result<Single, NoMemory>
+fn single_at(alloc: Global, way: Way, state: &State<'_>) -> Result<Single, NoMemory>
     ensures ending { IfOk result (λ s. s.ending ≡ ending_of way) }
     ensures changed { IfOk result (λ s. s.changed ≡ if_ended (ending_of way) (objects_at state.now.state.heap.rows (state.now.state.heap.written ++ state.now.state.heap.made)) []) }
 {
