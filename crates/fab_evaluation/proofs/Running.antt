@@ -31,7 +31,7 @@ use Rattle.fab_stack.specs.declared.stepping.Way.TheVariants.{Over, Lacks}
 use Rattle.fab_stack.specs.Points.{Point, point_over, with_locals}
 use Rattle.fab_stack.specs.Stepping.{Runs}
 use Rattle.fab_evaluation.specs.declared.single.Single.{Single}
-use Rattle.fab_evaluation.specs.Singles.{IsSingle, ending_of}
+use Rattle.fab_evaluation.specs.Singles.{IsSingle, changes_at, ending_of}
 
 -- ---- what was changed, put into the map
 
@@ -47,7 +47,8 @@ module _ (map : FlatMap) (o : Oid) where
 
   -- with one name more in front
   in_front : (p : Oid) (names : List Oid) (known : FlatMap) → Joins (p ∷ names) known → ((k : FlatMap) → Joins names k → Settles names k)
-      → (found : Option Object) → get map p ≡ found → (b : Bool) → is_same p o ≡ b → get (put_all (object_at p found ++ objects_at map names) known) o ≡ get map o
+      → (found : Option Object) → get map p ≡ found → (b : Bool) → is_same p o ≡ b
+      → get (put_all (object_at p found ++ objects_at map names) known) o ≡ get map o
   in_front p names known j next None e true i =
       let x = j.there (ap (λ b. b || is_among o names) i) in let no : None ≡ Some x.0 = sym e ∙ ap (get map) (one_name p o i) ∙ x.1 in cc
   in_front p names known j next None e false i =
@@ -60,7 +61,10 @@ module _ (map : FlatMap) (o : Oid) where
       })
   in_front p names known j next (Some x) e false i =
       next (put p x known)
-      (record { there = λ h. j.there (ap (λ b. b || is_among o names) i ∙ h); same = λ h. get-put_other p o x known i ∙ j.same (ap (λ b. b || is_among o names) i ∙ h) })
+      (record {
+        there = λ h. j.there (ap (λ b. b || is_among o names) i ∙ h);
+        same = λ h. get-put_other p o x known i ∙ j.same (ap (λ b. b || is_among o names) i ∙ h);
+      })
 
   settled : (names : List Oid) (known : FlatMap) → Joins names known → Settles names known
   settled [] known j = j.same refl
@@ -99,7 +103,7 @@ module _ (program : Resolved) (known : FlatMap) (request : Request) (up : ascend
 
   -- a run that ended as it is meant to, with what it left
   pub single_of : (way : Way) (q : State) (r : Result Single AllocError) → done ≡ meant_at (ending_of way) q → IfOk r (λ s. s.ending ≡ ending_of way)
-      → IfOk r (λ s. s.changed ≡ if_ended (ending_of way) (objects_at q.heap.rows (q.heap.written ++ q.heap.made)) []) → IfOk r (IsSingle program known request)
+      → IfOk r (λ s. s.changed ≡ changes_at (ending_of way) q.heap) → IfOk r (IsSingle program known request)
   single_of way q (Err e) is ending changed = tt
   single_of way q (Ok s) is ending changed = record {
     ending = ending ∙ sym (ap (λ (m : Meant). m.ending) is);
@@ -124,10 +128,12 @@ module _ (program : Resolved) (known : FlatMap) (request : Request) where
   -- where there is no method
   pub none_single : slice_get program.methods request.method ≡ None → IsSingle program known request (record { ending = Ended None; changed = [] })
   none_single none =
-      let is : meant program known request ≡ meant_at (Ended None) (state_at_start known 1000000) = ap meant_by (plain_none program (tid_of request) request 1000000 known none) in
+      let is : meant program known request ≡ meant_at (Ended None) (state_at_start known 1000000) =
+      ap meant_by (plain_none program (tid_of request) request 1000000 known none) in
       record { ending = sym (ap (λ (m : Meant). m.ending) is); map = sym (ap (λ (m : Meant). if_ended m.ending m.map known) is) }
 
-  module _ (first : Method) (is : slice_get program.methods request.method ≡ Some first) (up : ascends known ≡ true) (way : Way) (ks : List left.Entry) (q : State) where
+  module _ (first : Method) (is : slice_get program.methods request.method ≡ Some first) (up : ascends known ≡ true)
+      (way : Way) (ks : List left.Entry) (q : State) where
     abbrev start : Point
     start = with_locals (locals_at_start first request.args) (point_over (tid_of request) 1000000 known [])
 
@@ -139,7 +145,9 @@ module _ (program : Resolved) (known : FlatMap) (request : Request) where
         let tid = tid_of request in
         let js = rest (at_start first) first.body ∷ [] in
         ap meant_by (plain_begins program tid request 1000000 known first is [] tt)
-        ∙ ends_so (meanings program tid) (at_start first) tid known js start.state ks q way (h known (all_known tid known first 1000000 (locals_at_start first request.args) [] up))
+        ∙ ends_so (meanings program tid) (at_start first) tid known js start.state ks q way
+        (h known (all_known tid known first 1000000 (locals_at_start first request.args) [] up))
 
-    pub run_meant : (js : List left.Entry) (p : Point) → js ≡ rest (at_start first) first.body ∷ [] → p ≡ start → Made js p → meant program known request ≡ meant_at (ending_of way) q
+    pub run_meant : (js : List left.Entry) (p : Point) → js ≡ rest (at_start first) first.body ∷ [] → p ≡ start → Made js p
+        → meant program known request ≡ meant_at (ending_of way) q
     run_meant js p entries at h = made (subst (Made (rest (at_start first) first.body ∷ [])) at (subst (λ (l : List left.Entry). Made l p) entries h))

@@ -8,7 +8,9 @@ use Rattle.fab_language.specs.Evaluation.{in_turn, map_behind, meant}
 use Rattle.fab_evaluation.specs.declared.single.Single.{Single}
 use Rattle.fab_evaluation.specs.Singles.{IsSingle}
 
-module _ (program : Resolved) (known new : FlatMap) (left after : List Request) (request : Request) (endings ends : List Ending) (single : Single) (split : left ≡ request ∷ after) (ran : IsSingle program known request single) (put : new ≡ map_behind program known request) (pushed : ends ≡ endings ++ single.ending ∷ []) where
+module _ (program : Resolved) (known new : FlatMap) (left after : List Request) (request : Request) (endings ends : List Ending) (single : Single)
+    (split : left ≡ request ∷ after) (ran : IsSingle program known request single) (put : new ≡ map_behind program known request)
+    (pushed : ends ≡ endings ++ single.ending ∷ []) where
   pub endings_next : ends ++ (in_turn program new after).endings ≡ endings ++ (in_turn program known left).endings
   endings_next =
       ap (λ l. l ++ (in_turn program new after).endings) pushed

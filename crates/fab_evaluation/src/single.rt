@@ -1,8 +1,6 @@
 //! One request over a map.
-ghost use Rattle.std.specs.Prelude.{◌≡◌, [], ◌++◌, IfOk};
-ghost use Rattle.fab_language.specs.Evaluation.{if_ended};
-ghost use Rattle.fab_nested.specs.Effects.{objects_at};
-ghost use Rattle.fab_evaluation.specs.Singles.{IsSingle, ending_of};
+ghost use Rattle.std.specs.Prelude.{◌≡◌, IfOk};
+ghost use Rattle.fab_evaluation.specs.Singles.{IsSingle, changes_at, ending_of};
 
 use fab_base::{NoMemory, Object, Oid, Seq, Tid};
 use fab_eval::{Plain, locals_at_start};
@@ -56,7 +54,7 @@ pub(crate) fn run_one(
 /// What a run came to, from the state at its end. An object that lacks ends it.
 fn single_at(alloc: Global, way: Way, state: &State<'_>) -> Result<Single, NoMemory>
     ensures ending { IfOk result (λ s. s.ending ≡ ending_of way) }
-    ensures changed { IfOk result (λ s. s.changed ≡ if_ended (ending_of way) (objects_at state.now.state.heap.rows (state.now.state.heap.written ++ state.now.state.heap.made)) []) }
+    ensures changed { IfOk result (λ s. s.changed ≡ changes_at (ending_of way) state.now.state.heap) }
 {
     let ending = match way {
         Way::Over(Ok(value)) => {

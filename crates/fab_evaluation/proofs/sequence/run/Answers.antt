@@ -13,9 +13,11 @@ requests-preserved c =
     let put = c.in_ok-put_changed.ensures ∙ s.map in
     record {
       endings =
-          endings_next program c.requests.map c.put_changed.new.map c.requests.rest.now c.in-Some.after.now request c.requests.endings c.push.new.self single c.in-Some.ensures.cases.0 s put c.in_ok-push.ensures.ok
+          endings_next program c.requests.map c.put_changed.new.map c.requests.rest.now c.in-Some.after.now request c.requests.endings c.push.new.self single
+          c.in-Some.ensures.cases.0 s put c.in_ok-push.ensures.ok
           ∙ c.requests.invariant.endings;
       map =
-          map_next program c.requests.map c.put_changed.new.map c.requests.rest.now c.in-Some.after.now request c.requests.endings c.push.new.self single c.in-Some.ensures.cases.0 s put c.in_ok-push.ensures.ok
+          map_next program c.requests.map c.put_changed.new.map c.requests.rest.now c.in-Some.after.now request c.requests.endings c.push.new.self single
+          c.in-Some.ensures.cases.0 s put c.in_ok-push.ensures.ok
           ∙ c.requests.invariant.map;
     }

@@ -21,8 +21,12 @@ returns c =
     let first = c.in-Some.first.now in
     let some = let l = rw c.as_slice.ensures at c.in-Some.ensures.lookup in some_at program.methods request.method first l.3.0 l.1 in
     let locals = c.in_ok-locals.ensures ∙ ap (locals_at_start first) (c.in_ok-args.ensures ∙ c.as_slice-2.ensures) in
-    let begun = c.in_ok-stack.ensures.locals ∙ ap (λ (l : List Value). with_locals l c.in_ok-state.state) locals ∙ ap (λ (x : Point). with_locals (locals_at_start first request.args) x) c.in_ok-state.ensures in
+    let begun =
+    c.in_ok-stack.ensures.locals
+    ∙ ap (λ (l : List Value). with_locals l c.in_ok-state.state) locals
+    ∙ ap (λ (x : Point). with_locals (locals_at_start first request.args) x) c.in_ok-state.ensures in
     single_of program known request c.rows.ensures.ascending c.in_ok-way.way c.run.new.state.state c.single_at.result
-    (run_meant program known request first some c.rows.ensures.ascending c.in_ok-way.way (entries_of c.run.new.stack.items c.run.new.state.base.saved) c.run.new.state.state
+    (run_meant program known request first some c.rows.ensures.ascending c.in_ok-way.way
+    (entries_of c.run.new.stack.items c.run.new.state.base.saved) c.run.new.state.state
     (entries_of c.in_ok-stack.stack.items c.begun.new.state.base.saved) c.begun.new.state c.in_ok-stack.ensures.entries begun c.in_ok-way.ensures.runs)
     c.single_at.ensures.ending c.single_at.ensures.changed
