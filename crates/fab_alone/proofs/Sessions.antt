@@ -1,5 +1,5 @@
--- The requests of a bundle are of attempts of their own.
-use Rattle.std.proofs.Common.{◌≡◌, ◌≢◌, ◌+◌, ◌<◌, ◌==◌, ℕ, zero, suc, Bool, true, false, ◌&&◌, ◌||◌, if◌then◌else◌, List, [], ◌∷◌, ◌++◌, map, take, filter, count_by, Option, Some, None, refl, sym, ap, ◌∙◌, subst, arith, append-nil}
+-- The requests of the sessions at a node; sessions are of workers of different numbers.
+use Rattle.std.proofs.Common.{◌≡◌, ◌≢◌, ◌+◌, ◌<◌, ◌==◌, ℕ, zero, suc, Bool, true, false, ◌&&◌, ◌||◌, if◌then◌else◌, List, [], ◌∷◌, ◌++◌, map, take, filter, count_by, Option, Some, None, refl, sym, ap, ◌∙◌, subst, arith}
 use Rattle.std.specs.Prelude.{flat_map, filter_map}
 use Rattle.std.specs.List.{AllByRecursion, list_any, cons_option}
 use Rattle.std.proofs.lemmas.Bool.{true≢false}
@@ -7,18 +7,15 @@ use Rattle.std.proofs.lemmas.Bool.Decides.{nat_tests}
 use Rattle.std.proofs.lemmas.List.Concat.{flat_map-cons}
 use Rattle.std.proofs.lemmas.List.Sums.{sum_by-cons}
 use Rattle.std.proofs.lemmas.Slice.Eq.{bytes_eq-Decides}
-use Rattle.fab_base.specs.declared.object.Tid.{Tid}
-use Rattle.fab_base.proofs.Lists.{left_nil, right_nil, each_nil, all_append, all_always, all_along}
+use Rattle.fab_base.proofs.Lists.{left_nil, right_nil, each_nil}
 use Rattle.fab_tree.specs.declared.name.Name.{Name}
 use Rattle.fab_tree.specs.declared.declaration.Role.{Role}
 use Rattle.fab_tree.specs.declared.declaration.Role.TheVariants as r
 use Rattle.fab_tree.specs.declared.declaration.Node.{Node}
-use Rattle.fab_tree.specs.declared.start.RequestText.{RequestText}
 use Rattle.fab_tree.specs.declared.start.Session.{Session}
 use Rattle.fab_tree.specs.declared.start.Start.{Start}
 use Rattle.fab_tree.specs.declared.resolved.Request.{Request}
 use Rattle.fab_tree.specs.declared.resolved.Session.{Session as NumberedSession}
-use Rattle.fab_tree.specs.declared.resolved.Resolved.{Resolved}
 use Rattle.fab_tree.specs.Limits.{is_node}
 use Rattle.fab_language.specs.declared.rule.Fault.{Fault}
 use Rattle.fab_language.specs.declared.rule.NameRule.TheVariants as rule
@@ -31,19 +28,10 @@ use Rattle.fab_language.specs.Roles as roles
 use Rattle.fab_language.specs.Arity as arity
 use Rattle.fab_language.specs.Types as types
 use Rattle.fab_language.specs.Faults.{faults}
-use Rattle.fab_language.specs.Numbers.{resolved, principals_from, asked_from, request_of, session_of}
-use Rattle.fab_language.specs.Evaluation.{asked_at, requests_of, map_at_start, tid_of}
-use Rattle.fab_laws.specs.Changes.{IsUnmade}
-use Rattle.fab_evaluation.specs.Attempts.{AreApart, IsOld}
-use Rattle.fab_evaluation.specs.Roots.{IsResolved}
-use Rattle.fab_evaluation.proofs.RootObjects.{unmade_at_start}
+use Rattle.fab_language.specs.Numbers.{principals_from, session_of}
+use Rattle.fab_language.specs.Evaluation.{asked_at}
 
 -- ---- lists
-
--- each list that is made of an item has this, so the joined list has it
-all_flat : {A B : Type 0} (P : B → Type 0) (f : A → List B) (Q : A → Type 0) → ((x : A) → Q x → AllByRecursion P (f x)) → (xs : List A) → AllByRecursion Q xs → AllByRecursion P (flat_map f xs)
-all_flat P f Q h [] k = tt
-all_flat P f Q h (x ∷ xs) k = subst (AllByRecursion P) (sym (flat_map-cons f x xs)) (all_append P (f x) (flat_map f xs) (h x k.0) (all_flat P f Q h xs k.1))
 
 -- lists one behind the other
 abbrev joined : {A : Type 0} → List A → List (List A) → List A
@@ -54,41 +42,10 @@ parts_empty : {A : Type 0} (xs : List A) (rest : List (List A)) → joined xs re
 parts_empty xs [] h = (h, tt)
 parts_empty xs (ys ∷ rest) h = let g = parts_empty (xs ++ ys) rest h in (left_nil xs ys g.0, (right_nil xs ys g.0, g.1))
 
--- ---- requests of one worker, and of several
-
-abbrev OfWorker : ℕ → List Request → Type 0
-OfWorker w xs = AllByRecursion (λ x. x.worker ≡ w) xs
-
-abbrev NotOf : ℕ → List Request → Type 0
-NotOf w xs = AllByRecursion (λ x. w ≢ x.worker) xs
-
-other_worker : (x y : Request) (w : ℕ) → x.worker ≡ w → w ≢ y.worker → tid_of x ≢ tid_of y
-other_worker x y w e h g = h (sym e ∙ ap (λ (t : Tid). t.worker) g)
-
-others : (x : Request) (w : ℕ) (ys : List Request) → x.worker ≡ w → NotOf w ys → AllByRecursion (λ y. tid_of x ≢ tid_of y) ys
-others x w ys e h = all_along (λ y. w ≢ y.worker) (λ y. tid_of x ≢ tid_of y) (λ y g. other_worker x y w e g) ys h
-
--- requests of a worker that are apart, before those of others that are apart
-apart_both : (w : ℕ) (xs ys : List Request) → OfWorker w xs → AreApart xs → NotOf w ys → AreApart ys → AreApart (xs ++ ys)
-apart_both w [] ys o a n b = b
-apart_both w (x ∷ xs) ys o a n b = (all_append (λ y. tid_of x ≢ tid_of y) xs ys a.0 (others x w ys o.0 n), apart_both w xs ys o.1 a.1 n b)
-
 -- ---- the requests of one session
 
 abbrev own : NumberedSession → List Request
 own x = map (λ a. a.request) x.requests
-
-later : (s : Start) (w k n : ℕ) (x : Request) (xs : List RequestText) → x.number ≡ k → k < n → AllByRecursion (λ y. tid_of x ≢ tid_of y) (map (λ a. a.request) (asked_from s w n xs))
-later s w k n x [] e l = tt
-later s w k n x (y ∷ ys) e l = (λ g. let f : x.number ≡ n = ap (λ (t : Tid). t.number) g in absurd (omega (arith, e, f, l)), later s w k (suc n) x ys e (omega (arith, l)))
-
-apart_asked : (s : Start) (w n : ℕ) (xs : List RequestText) → AreApart (map (λ a. a.request) (asked_from s w n xs))
-apart_asked s w n [] = tt
-apart_asked s w n (x ∷ xs) = (later s w n (suc n) (request_of s w n x) xs refl (omega arith), apart_asked s w (suc n) xs)
-
-of_asked : (s : Start) (w n : ℕ) (xs : List RequestText) → OfWorker w (map (λ a. a.request) (asked_from s w n xs))
-of_asked s w n [] = tt
-of_asked s w n (x ∷ xs) = (refl, of_asked s w (suc n) xs)
 
 -- ---- the requests of one node
 
@@ -104,9 +61,6 @@ module _ (s : Start) where
   abbrev pub at_node : ℕ → List Session → List Request
   at_node node xs = flat_map (asked_at node) (map (session_of s) xs)
 
-  is_number : (n m : ℕ) → (n == m) ≡ true → n ≡ m
-  is_number n m h = grind (arith, nat_tests)
-
   not_number : (n m : ℕ) → n ≢ m → (m == n) ≡ false
   not_number n m h = grind (arith, nat_tests)
 
@@ -118,44 +72,11 @@ module _ (s : Start) where
       ∙ ap (λ b. (if b then own (session_of s x) else []) ++ at_node node xs) (not_number node (number x) h.0)
       ∙ none_at node xs h.1
 
-  of_node : (node : ℕ) (xs : List Session) → OfWorker node (at_node node xs)
-  of_node node [] = tt
-  of_node node (x ∷ xs) =
-      subst (OfWorker node) (sym (flat_map-cons (asked_at node) (session_of s x) (map (session_of s) xs)))
-      (all_append (λ (y : Request). y.worker ≡ node) (asked_at node (session_of s x)) (at_node node xs) (first (number x == node) refl) (of_node node xs))
-    where
-      first : (b : Bool) → (number x == node) ≡ b → OfWorker node (if b then own (session_of s x) else [])
-      first true e = subst (λ w. OfWorker w (own (session_of s x))) (is_number (number x) node e) (of_asked s (number x) 1 x.requests)
-      first false e = tt
-
-  apart_at : (node : ℕ) (xs : List Session) → Alone number xs → AreApart (at_node node xs)
-  apart_at node [] h = tt
-  apart_at node (x ∷ xs) h = subst AreApart (sym (flat_map-cons (asked_at node) (session_of s x) (map (session_of s) xs))) (first (number x == node) refl (apart_at node xs h.1))
-    where
-      first : (b : Bool) → (number x == node) ≡ b → AreApart (at_node node xs) → AreApart ((if b then own (session_of s x) else []) ++ at_node node xs)
-      first true e rest =
-          let none = none_at node xs (subst (λ w. AllByRecursion (λ y. w ≢ number y) xs) (is_number (number x) node e) h.0) in
-          subst AreApart (sym (ap (λ l. own (session_of s x) ++ l) none ∙ append-nil (own (session_of s x)))) (apart_asked s (number x) 1 x.requests)
-      first false e rest = rest
-
-  -- ---- the requests of all nodes
+  -- ---- the numbers of all nodes
 
   abbrev pub Different : List ℕ → Type 0
   Different [] = Unit {0}
   Different (n ∷ ns) = AllByRecursion (λ m. n ≢ m) ns × Different ns
-
-  abbrev of_nodes : List ℕ → List Request
-  of_nodes nodes = flat_map (λ node. at_node node s.sessions) nodes
-
-  not_of_node : (n m : ℕ) → n ≢ m → NotOf n (at_node m s.sessions)
-  not_of_node n m h = all_along (λ (y : Request). y.worker ≡ m) (λ y. n ≢ y.worker) (λ y e g. h (g ∙ e)) (at_node m s.sessions) (of_node m s.sessions)
-
-  apart_nodes : Alone number s.sessions → (nodes : List ℕ) → Different nodes → AreApart (of_nodes nodes)
-  apart_nodes alone [] d = tt
-  apart_nodes alone (n ∷ ns) d =
-      subst AreApart (sym (flat_map-cons (λ node. at_node node s.sessions) n ns))
-      (apart_both n (at_node n s.sessions) (of_nodes ns) (of_node n s.sessions) (apart_at n s.sessions alone)
-      (all_flat (λ (y : Request). n ≢ y.worker) (λ node. at_node node s.sessions) (λ m. n ≢ m) (not_of_node n) ns d.0) (apart_nodes alone ns d.1))
 
   abbrev pub numbers_from : ℕ → List Node → List ℕ
   numbers_from n xs = filter_map (λ x. x.node) (principals_from n xs)
@@ -335,13 +256,3 @@ module _ (s : Start) where
   alone h =
       let ats = all_at s.sessions (known_sessions h) (placed_sessions h) in
       alone_from s.sessions ats (all_unlike [] s.sessions (subst (λ l. repeats session_name l ≡ []) (kept s.sessions ats) (single_sessions h)))
-
-  pub requests_apart : faults s ≡ [] → AreApart (requests_of (resolved s))
-  requests_apart h = apart_nodes (alone h) (numbers_from 0 s.program.nodes) (different_from 0 s.program.nodes)
-
-  pub old_at_start : faults s ≡ [] → IsOld (map_at_start (resolved s)) (requests_of (resolved s))
-  old_at_start h = record { unmade = all_always (λ x. IsUnmade (tid_of x) (map_at_start (resolved s))) (λ x. unmade_at_start s (tid_of x) refl) (requests_of (resolved s)); apart = requests_apart h }
-
--- so it is for a bundle with numbers for names
-pub is_old : (q : Resolved) → IsResolved q → IsOld (map_at_start q) (requests_of q)
-is_old q h = subst (λ z. IsOld (map_at_start z) (requests_of z)) (sym h.is) (old_at_start h.start h.right)
