@@ -15,6 +15,8 @@ use fab_device::Journal;
 use fab_eval::Job;
 use fab_exchange::{Exchange, Given, Turn};
 use fab_gates::Gate;
+use fab_pauses::Evaluator;
+use fab_tree::resolved::Resolved;
 use std::alloc::Global;
 use std::marker::Brand;
 use std::sync::ledger::{Blank, Share};
@@ -84,43 +86,53 @@ fn rests<R: Wait>(rt: &R, bells: &Bells, node: u16, rest: Rest, looks: u32) -> b
 /// runs out.
 fn bring<X: Turning, N: RunName, R: Wait, G: Gate>(
     rt: &R,
-    alloc: Global,
     shared: &Mutex<Shared<X, N>>,
     gate: &G,
     node: u16,
+    evaluator: &mut Evaluator<'_>,
     job: Job,
     mine: &mut Share<N>,
 ) -> Option<u64>
     requires job { IsReady N.given.program job }
+    requires program { evaluator.old.program ≡ N.given.program }
     requires part { 0 < mine.old.parts }
+    ensures program { evaluator.new.program ≡ evaluator.old.program }
     ensures none { IfNone result (mine.new.amount ≡ mine.old.amount) }
     ensures amount { IfSome result (λ came. mine.new.amount ≡ mine.old.amount + came) }
     ensures bound { IfSome result (λ came. mine.new.amount < 2 ^ 64) }
     ensures parts { mine.new.parts ≡ mine.old.parts }
 {
-    let Ok(done) = evaluate_at(alloc, gate, node, job) else {
+    if evaluate_at(gate, node, evaluator, job).is_err() {
         return None;
+    }
+    let Some(done) = evaluator.done() else {
+        unreachable!()
     };
     let given = shared.lock(rt).give(node, done, mine);
     match given {
         Ok(Given::Taken) => Some(1),
-        Ok(Given::Stale(_)) => Some(0),
+        Ok(Given::Stale) => Some(0),
         Err(_) => None,
     }
 }
 
 /// One node's thread. It takes turns of its node until all is over, nobody is left that would do what is due, or memory runs out; what it
 /// leaves undone is found due again by others. Each turn is bound before it is looked at, so that the lock is free while a job is
-/// evaluated. Where a thread leaves the lock for long, it first wakes one of those for whom it left something to do.
+/// evaluated. Where a thread leaves the lock for long, it first wakes one of those for whom it left something to do. Its evaluator is its
+/// own, so a job goes on where the thread's last one paused.
 fn work<X: Turning, N: RunName, R: Wait, G: Gate>(
     rt: &R,
     alloc: Global,
+    program: &Resolved,
     shared: &Mutex<Shared<X, N>>,
     bells: &Bells,
     gate: &G,
     worker: Worker<N>,
-) -> Ran<N> {
+) -> Ran<N>
+    requires { program.now ≡ N.given.program }
+{
     let Worker { node, mut share } = worker;
+    let mut evaluator = Evaluator::new(alloc, program);
     let mut count = 0_u64;
     let mut looks = 0;
     for _ in rt.forever() {
@@ -132,7 +144,8 @@ fn work<X: Turning, N: RunName, R: Wait, G: Gate>(
                 looks = 0;
             }
             Ok(Turn::Evaluate(job)) => {
-                let Some(came) = bring(rt, alloc, shared, gate, node, job, &mut share) else {
+                let came = bring(rt, shared, gate, node, &mut evaluator, job, &mut share);
+                let Some(came) = came else {
                     break;
                 };
                 count += came;
@@ -222,9 +235,16 @@ fn run_named<X: Turning + Send, N: RunName + Send + Sync, R: Threads + Wait + Sy
     if places.reserve(nodes.len()).is_err() {
         return Err(held);
     }
+    let Ok(given) = held.program() else {
+        return Err(held);
+    };
+    let program: &Resolved = &given;
     let shared = Mutex::new(Shared::new(held, book));
-    let Ok(rans) = thread::map_vec(rt, workers, &|w| work(rt, alloc, &shared, &bells, gate, w))
-    else {
+    let Ok(rans) = thread::map_vec(
+        rt,
+        workers,
+        &|w| { work(rt, alloc, program, &shared, &bells, gate, w) },
+    ) else {
         return Err(shared.into_inner().into_held());
     };
     let counts = counts_of(rans, &mut all, places);

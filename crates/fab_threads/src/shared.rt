@@ -9,7 +9,7 @@ use crate::turning::Turning;
 use crate::watch::{Rest, Watch};
 use fab_base::NoMemory;
 use fab_eval::Done;
-use fab_exchange::{GiveRefused, Given, Turn};
+use fab_exchange::{Given, Turn};
 use std::sync::ledger::{Book, Share};
 
 /// Nodes have numbers below this.
@@ -66,8 +66,8 @@ impl<X: Turning, N: RunName> Shared<X, N> {
     }
 
     /// What a node's job came to, brought back, which a thread counts in its share where it is taken.
-    pub fn give(&mut self, node: u16, done: Done, mine: &mut Share<N>) -> Result<Given, GiveRefused>
-        requires program { done.job.program.value ≡ N.given.program }
+    pub fn give(&mut self, node: u16, done: &Done, mine: &mut Share<N>) -> Result<Given, NoMemory>
+        requires program { done.now.job.program.value ≡ N.given.program }
         requires part { 0 < mine.old.parts }
         ensures amount { mine.new.amount ≡ mine.old.amount + taken result }
         ensures parts { mine.new.parts ≡ mine.old.parts }

@@ -10,7 +10,6 @@ returns-then-not-is_current-clause-gives g c =
     let m = c.args.self.now in
     let Told : CoreModel → Type 0 = λ k. TellsJob k.given (world k) c.args.node c.in-Ok.told in record {
       stale = stale m.given m.moves c.args.node c.in-Ok.told c.args.done.job (subst Told c.self.view_is c.in-Ok.ensures.job) c.if-not-is_current.ensures;
-      back_is = refl;
       moves = refl;
     }
 

@@ -1,5 +1,5 @@
 use Rattle.fab_replay.proofs.Resting.{none_evaluates}
-use Rattle.fab_replay.proofs.running.done_of.Goals as goal
+use Rattle.fab_replay.proofs.running.evaluated.Goals as goal
 
 pub returns : goal.returns
 returns g c =

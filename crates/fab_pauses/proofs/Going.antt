@@ -1,0 +1,44 @@
+-- Answers with one more, and jobs with them.
+use Rattle.std.specs.Prelude.{◌≡◌, ℕ, [], ◌∷◌, ◌++◌, length, Option, Some, None, IsSome}
+use Rattle.std.proofs.Common.{refl, sym, ap, ◌∙◌, arith, length-append}
+use Rattle.std.specs.Option.{option_to_list}
+use Rattle.std.proofs.lemmas.List.{same_from_push}
+use Rattle.fab_base.specs.declared.object.Object.{Object}
+use Rattle.fab_base.specs.declared.object.Oid.{Oid}
+use Rattle.fab_nested.specs.Nested.{Answers}
+use Rattle.fab_eval.specs.declared.job.Job.{Job}
+use Rattle.fab_pauses.specs.Jobs.{GoesOn, IsOneMore, IsSameJob}
+
+module _ (before : Answers) (o : Oid) (answers front : Answers) (last : Oid × ℕ × Object) (is : answers ≡ front ++ last ∷ []) where
+  pub same_front : IsOneMore before o answers → front ≡ before
+  same_front h = (same_from_push front before last (o, h.version, h.object) (sym is ∙ h.is)).0
+
+  pub same_last : IsOneMore before o answers → last.0 ≡ o
+  same_last h = ap (λ (a : Oid × ℕ × Object). a.0) (same_from_push front before last (o, h.version, h.object) (sym is ∙ h.is)).1
+
+  pub one_more : last.0 ≡ o → front ≡ before → IsOneMore before o answers
+  one_more l f = record {
+    version = last.1;
+    object = last.2;
+    is = is ∙ ap (λ (xs : Answers). xs ++ last ∷ []) f ∙ ap (λ (p : Oid). before ++ (p, last.1, last.2) ∷ []) l;
+  }
+
+pub no_more : (before : Answers) (o : Oid) (answers : Answers) → length answers ≡ 0 → IsOneMore before o answers → ⊥
+no_more before o answers none h =
+    let long : length answers ≡ length (before ++ (o, h.version, h.object) ∷ []) = ap length h.is in
+    omega (arith, none, long, length-append before ((o, h.version, h.object) ∷ []))
+
+module _ (before : Job) (o : Oid) (job : Job) where
+  pub goes : job.request ≡ before.request → job.tid ≡ before.tid → IsOneMore before.answers o job.answers → GoesOn before o job
+  goes r t h = record { version = h.version; object = h.object; same = record { request = r; tid = t; answers = h.is } }
+
+  pub one_more_of : GoesOn before o job → IsOneMore before.answers o job.answers
+  one_more_of h = record { version = h.version; object = h.object; is = h.same.answers }
+
+-- what is popped off a list is its last item
+pub popped : (answers rest : Answers) (r : Option (Oid × ℕ × Object)) (before : Answers) (a : Oid × ℕ × Object) → answers ≡ rest ++ option_to_list r → (0 < length answers → IsSome r)
+    → answers ≡ before ++ a ∷ [] → r ≡ Some a
+popped answers rest None before a is some e =
+    let long : length answers ≡ length (before ++ a ∷ []) = ap length e in
+    absurd (some (omega (arith, long, length-append before (a ∷ []))))
+popped answers rest (Some b) before a is some e = ap Some (same_from_push rest before b a (sym is ∙ e)).1

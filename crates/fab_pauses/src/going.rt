@@ -1,0 +1,50 @@
+//! Whether a job goes on where another one paused.
+ghost use Rattle.std.specs.Prelude.{◌≡◌, IfSome};
+ghost use Rattle.std.specs.Bool.{MatchBool};
+ghost use Rattle.fab_eval.specs.declared.job.Job.{Job as AnyJob};
+ghost use Rattle.fab_pauses.specs.Evaluations.{job_of};
+ghost use Rattle.fab_pauses.specs.Jobs.{GoesOn, IsOneMore};
+
+use crate::same::{are_same_answers, is_same_oid, is_same_request};
+use fab_base::{Object, Oid};
+use fab_eval::{Job, Paused, Turn};
+
+/// Whether answers are others with one more, of this object and the last. Lengths are compared first, since most jobs differ in them.
+fn is_one_more(before: &[(Oid, u32, Object)], oid: Oid, answers: &[(Oid, u32, Object)]) -> bool
+    ensures { MatchBool result (IsOneMore before.now oid answers.now) (IsOneMore before.now oid answers.now → ⊥) }
+{
+    match answers.split_last() {
+        Some((last, front)) => {
+            front.len() == before.len()
+                && is_same_oid(last.0, oid)
+                && are_same_answers(front, before)
+        }
+        None => false,
+    }
+}
+
+/// Whether a job is another one with an answer more, of this object and the last. Nothing is copied.
+fn goes_on(before: &Job, oid: Oid, job: &Job) -> bool
+    ensures { MatchBool result (GoesOn before.now oid job.now) (GoesOn before.now oid job.now → ⊥) }
+{
+    is_same_request(&job.request, &before.request)
+        && job.tid == before.tid
+        && is_one_more(before.answers.as_slice(), oid, job.answers.as_slice())
+}
+
+/// The pause where a job goes on, if it does.
+pub(crate) fn pause_for<'a>(last: Option<Turn<'a>>, job: &Job) -> Option<Paused<'a>>
+    ensures goes_on { IfSome result (λ p. GoesOn p.job p.oid job.now) }
+    ensures last { (P : AnyJob → Type 0) → IfSome last.entry (λ t. P (job_of t)) → IfSome result (λ p. P p.job) }
+{
+    match last {
+        Some(Turn::Paused(paused)) => {
+            if goes_on(&paused.done().job, paused.need().1, job) {
+                Some(paused)
+            } else {
+                None
+            }
+        }
+        _ => None,
+    }
+}
