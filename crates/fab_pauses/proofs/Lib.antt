@@ -1,5 +1,5 @@
 -- answers with one more
-pub mod Going
+pub mod Adding
 -- a job that goes on at a pause
 pub mod Turning
 -- the evaluators of all numbers

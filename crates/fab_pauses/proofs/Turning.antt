@@ -37,20 +37,31 @@ unmade before o job h none =
     (or_parts (list_any (made before.tid) before.answers) (list_any (made before.tid) (asked ∷ [])) (sym (list_any-append (made before.tid) before.answers (asked ∷ [])) ∙ all)).1 in
     (or_parts (is_made_in before.tid o) false last).0
 
+same_some : {A : Type 0} {x y : A} → Some x ≡ Some y → x ≡ y
+same_some h = cc
+
 -- where it goes on with this answer, it is the job
-module _ (before : Job) (o : Oid) (job : Job) (h : GoesOn before o job) (version : ℕ) (x : Object) (given : Some (o, h.version, h.object) ≡ Some (o, version, x)) where
+module _ (before : Job) (o : Oid) (job : Job) (h : GoesOn before o job) (p : Oid) (version : ℕ) (x : Object) (given : ◌≡◌ {A = Option (Oid × ℕ × Object)} (Some (o, h.version, h.object)) (Some (p, version, x))) where
+  same_asked : ◌≡◌ {A = Oid × ℕ × Object} (o, h.version, h.object) (p, version, x)
+  same_asked = same_some given
+
   same_version : h.version ≡ version
-  same_version = cc
+  same_version = ap (λ (a : Oid × ℕ × Object). a.1) same_asked
 
   same_object : h.object ≡ x
-  same_object = cc
+  same_object = ap (λ (a : Oid × ℕ × Object). a.2) same_asked
 
-  pub same_answered : IsSameJob (answered o version x before) job
+  same_answered : IsSameJob (answered o version x before) job
   same_answered = record {
     request = sym h.same.request;
     tid = sym h.same.tid;
     answers = ap (λ (v : ℕ). before.answers ++ (o, v, x) ∷ []) (sym same_version) ∙ ap (λ (y : Object). before.answers ++ (o, h.version, y) ∷ []) (sym same_object) ∙ sym h.same.answers;
   }
 
-  pub went_on : (turn : Turn) → job_of turn ≡ answered o version x before → IsSameJob (job_of turn) job
-  went_on turn is = subst (λ (j : Job). IsSameJob j job) (sym is) same_answered
+  pub went_on : {E : Type 0} (result : Result Turn E) → IfOk result (Turns (answered o version x before)) → IfOk result (λ t. IsSameJob (job_of t) job)
+  went_on (Ok turn) is = subst (λ (j : Job). IsSameJob j job) (sym (its_job (answered o version x before) turn is)) same_answered
+  went_on (Err e) is = tt
+
+-- there is no list that ends in an answer and has no last one
+pub is_there : (r : Option (Oid × ℕ × Object)) (a : Oid × ℕ × Object) → r ≡ None → r ≡ Some a → ⊥
+is_there r a none some = let no : None ≡ Some a = sym none ∙ some in cc

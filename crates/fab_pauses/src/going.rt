@@ -1,8 +1,8 @@
 //! Whether a job goes on where another one paused.
 ghost use Rattle.std.specs.Prelude.{◌≡◌, IfSome};
 ghost use Rattle.std.specs.Bool.{MatchBool};
-ghost use Rattle.fab_eval.specs.declared.job.Job.{Job as AnyJob};
-ghost use Rattle.fab_pauses.specs.Evaluations.{job_of};
+ghost use Rattle.fab_tree.specs.declared.resolved.Resolved.{Resolved as AnyProgram};
+ghost use Rattle.fab_pauses.specs.Evaluations.{IsOf, job_of};
 ghost use Rattle.fab_pauses.specs.Jobs.{GoesOn, IsOneMore};
 
 use crate::same::{are_same_answers, is_same_oid, is_same_request};
@@ -13,17 +13,20 @@ use fab_eval::{Job, Paused, Turn};
 fn is_one_more(before: &[(Oid, u32, Object)], oid: Oid, answers: &[(Oid, u32, Object)]) -> bool
     ensures { MatchBool result (IsOneMore before.now oid answers.now) (IsOneMore before.now oid answers.now → ⊥) }
 {
-    match answers.split_last() {
-        Some((last, front)) => {
-            front.len() == before.len()
-                && is_same_oid(last.0, oid)
-                && are_same_answers(front, before)
-        }
-        None => false,
+    let Some((last, front)) = answers.split_last() else {
+        return false;
+    };
+    if front.len() != before.len() {
+        return false;
     }
+    if !is_same_oid(last.0, oid) {
+        return false;
+    }
+    are_same_answers(front, before)
 }
 
 /// Whether a job is another one with an answer more, of this object and the last. Nothing is copied.
+#[tactic(auto, using(crate::proofs::Adding::goes, crate::proofs::Adding::one_more_of))]
 fn goes_on(before: &Job, oid: Oid, job: &Job) -> bool
     ensures { MatchBool result (GoesOn before.now oid job.now) (GoesOn before.now oid job.now → ⊥) }
 {
@@ -35,7 +38,7 @@ fn goes_on(before: &Job, oid: Oid, job: &Job) -> bool
 /// The pause where a job goes on, if it does.
 pub(crate) fn pause_for<'a>(last: Option<Turn<'a>>, job: &Job) -> Option<Paused<'a>>
     ensures goes_on { IfSome result (λ p. GoesOn p.job p.oid job.now) }
-    ensures last { (P : AnyJob → Type 0) → IfSome last.entry (λ t. P (job_of t)) → IfSome result (λ p. P p.job) }
+    ensures last { (program : AnyProgram) → IfSome last.entry (λ t. IsOf program (job_of t)) → IfSome result (λ p. IsOf program p.job) }
 {
     match last {
         Some(Turn::Paused(paused)) => {

@@ -1,7 +1,7 @@
 -- Answers with one more, and jobs with them.
-use Rattle.std.specs.Prelude.{◌≡◌, ℕ, [], ◌∷◌, ◌++◌, length, Option, Some, None, IsSome}
+use Rattle.std.specs.Prelude.{◌≡◌, ℕ, Bool, true, false, [], ◌∷◌, ◌++◌, length}
+use Rattle.std.specs.Bool.{MatchBool}
 use Rattle.std.proofs.Common.{refl, sym, ap, ◌∙◌, arith, length-append}
-use Rattle.std.specs.Option.{option_to_list}
 use Rattle.std.proofs.lemmas.List.{same_from_push}
 use Rattle.fab_base.specs.declared.object.Object.{Object}
 use Rattle.fab_base.specs.declared.object.Oid.{Oid}
@@ -35,10 +35,7 @@ module _ (before : Job) (o : Oid) (job : Job) where
   pub one_more_of : GoesOn before o job → IsOneMore before.answers o job.answers
   one_more_of h = record { version = h.version; object = h.object; is = h.same.answers }
 
--- what is popped off a list is its last item
-pub popped : (answers rest : Answers) (r : Option (Oid × ℕ × Object)) (before : Answers) (a : Oid × ℕ × Object) → answers ≡ rest ++ option_to_list r → (0 < length answers → IsSome r)
-    → answers ≡ before ++ a ∷ [] → r ≡ Some a
-popped answers rest None before a is some e =
-    let long : length answers ≡ length (before ++ a ∷ []) = ap length e in
-    absurd (some (omega (arith, long, length-append before (a ∷ []))))
-popped answers rest (Some b) before a is some e = ap Some (same_from_push rest before b a (sym is ∙ e)).1
+-- what a test decides, decides what follows from it
+pub decides : {P Q R S : Type 0} (b : Bool) → (P → R) → (Q → S) → MatchBool b P Q → MatchBool b R S
+decides true f g h = f h
+decides false f g h = g h
