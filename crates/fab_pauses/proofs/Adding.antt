@@ -1,13 +1,13 @@
 -- Answers with one more, and jobs with them.
 use Rattle.std.specs.Prelude.{◌≡◌, ℕ, Bool, true, false, [], ◌∷◌, ◌++◌, length}
 use Rattle.std.specs.Bool.{MatchBool}
-use Rattle.std.proofs.Common.{refl, sym, ap, ◌∙◌, arith, length-append}
+use Rattle.std.proofs.Common.{sym, ap, ◌∙◌, arith, length-append}
 use Rattle.std.proofs.lemmas.List.{same_from_push}
 use Rattle.fab_base.specs.declared.object.Object.{Object}
 use Rattle.fab_base.specs.declared.object.Oid.{Oid}
 use Rattle.fab_nested.specs.Nested.{Answers}
 use Rattle.fab_eval.specs.declared.job.Job.{Job}
-use Rattle.fab_pauses.specs.Jobs.{GoesOn, IsOneMore, IsSameJob}
+use Rattle.fab_pauses.specs.Jobs.{GoesOn, IsOneMore}
 
 module _ (before : Answers) (o : Oid) (answers front : Answers) (last : Oid × ℕ × Object) (is : answers ≡ front ++ last ∷ []) where
   pub same_front : IsOneMore before o answers → front ≡ before

@@ -1,10 +1,9 @@
 -- When two jobs are one, and when one goes on where another paused.
-use Rattle.std.specs.Prelude.{◌≡◌, ℕ, [], ◌∷◌, ◌++◌, Some, None}
+use Rattle.std.specs.Prelude.{◌≡◌, ℕ, [], ◌∷◌, ◌++◌, None}
 use Rattle.std.proofs.Common.{refl, sym, ap, ◌∙◌, arith, length, length-append}
 use Rattle.fab_base.specs.declared.object.Object.{Object}
 use Rattle.fab_base.specs.declared.object.Oid.{Oid}
 use Rattle.fab_base.specs.declared.object.Tid.{Tid}
-use Rattle.fab_nested.specs.Nested.{Answers}
 use Rattle.fab_eval.specs.Answered.{answered}
 use Rattle.fab_eval.specs.declared.job.Job.{Job}
 use Rattle.fab_pauses.specs.Evaluations.{EvaluatorsModel, last_of}
