@@ -203,6 +203,7 @@ fn counts_of<N: RunName>(rans: Vec<Ran<N>>, all: &mut Share<N>, places: Vec<u64>
 }
 
 /// The threads, under a name. Without memory what takes turns is handed back, once all of them have returned.
+#[tactic(auto, using(crate::proofs::Crossing::program_lent))]
 fn run_named<X: Turning + Send, N: RunName + Send + Sync, R: Threads + Wait + Sync, G: Gate + Sync>(
     rt: &R,
     alloc: Global,

@@ -1,6 +1,3 @@
-use Rattle.fab_replay.proofs.Resting.{none_evaluates}
+use Rattle.std.proofs.Common.{◌∙◌, sym}
+use Rattle.fab_replay.proofs.Resting.{has_done, none_evaluates}
 use Rattle.fab_replay.proofs.running.evaluated.Goals as goal
-
-pub returns : goal.returns
-returns g c =
-    none_evaluates c.args.core.now.given c.args.core.now.moves c.args.worker c.in_ok-job.field-0 c.is_a_run.ensures.run c.in_ok-job.ensures.job c.in-None.is
