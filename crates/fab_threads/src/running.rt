@@ -16,7 +16,6 @@ use fab_eval::Job;
 use fab_exchange::{Exchange, Given, Turn};
 use fab_gates::Gate;
 use fab_pauses::Evaluator;
-use fab_tree::resolved::Resolved;
 use std::alloc::Global;
 use std::marker::Brand;
 use std::sync::ledger::{Blank, Share};
@@ -116,27 +115,28 @@ fn bring<X: Turning, N: RunName, R: Wait, G: Gate>(
     }
 }
 
-/// One node's thread. It takes turns of its node until all is over, nobody is left that would do what is due, or memory runs out; what it
-/// leaves undone is found due again by others. Each turn is bound before it is looked at, so that the lock is free while a job is
-/// evaluated. Where a thread leaves the lock for long, it first wakes one of those for whom it left something to do. Its evaluator is its
-/// own, so a job goes on where the thread's last one paused.
-fn work<X: Turning, N: RunName, R: Wait, G: Gate>(
+/// The turns of one node's thread, until all is over, nobody is left that would do what is due, or memory runs out: how many events came.
+/// What it leaves undone is found due again by others. Each turn is bound before it is looked at, so that the lock is free while a job is
+/// evaluated. Where a thread leaves the lock for long, it first wakes one of those for whom it left something to do.
+fn take_turns<X: Turning, N: RunName, R: Wait, G: Gate>(
     rt: &R,
-    alloc: Global,
-    program: &Resolved,
     shared: &Mutex<Shared<X, N>>,
     bells: &Bells,
     gate: &G,
-    worker: Worker<N>,
-) -> Ran<N>
-    requires { program.now ≡ N.given.program }
+    node: u16,
+    evaluator: &mut Evaluator<'_>,
+    share: &mut Share<N>,
+) -> u64
+    requires program { evaluator.old.program ≡ N.given.program }
+    requires one_part { share.old.parts ≡ 1 }
+    requires nothing { share.old.amount ≡ 0 }
+    ensures one_part { share.new.parts ≡ 1 }
+    ensures counted { share.new.amount ≡ result }
 {
-    let Worker { node, mut share } = worker;
-    let mut evaluator = Evaluator::new(alloc, program);
     let mut count = 0_u64;
     let mut looks = 0;
     for _ in rt.forever() {
-        let (turn, aside) = shared.lock(rt).turn(node, &mut share);
+        let (turn, aside) = shared.lock(rt).turn(node, share);
         bells.ring(aside.wakes);
         match turn {
             Ok(Turn::Acted) => {
@@ -144,8 +144,7 @@ fn work<X: Turning, N: RunName, R: Wait, G: Gate>(
                 looks = 0;
             }
             Ok(Turn::Evaluate(job)) => {
-                let came = bring(rt, shared, gate, node, &mut evaluator, job, &mut share);
-                let Some(came) = came else {
+                let Some(came) = bring(rt, shared, gate, node, evaluator, job, share) else {
                     break;
                 };
                 count += came;
@@ -159,6 +158,28 @@ fn work<X: Turning, N: RunName, R: Wait, G: Gate>(
             Ok(Turn::Over) | Err(_) => break,
         }
     }
+    count
+}
+
+/// One node's thread. Its evaluator is its own, so a job goes on where the thread's last one paused. The program is had under the lock,
+/// once.
+fn work<X: Turning, N: RunName, R: Wait, G: Gate>(
+    rt: &R,
+    alloc: Global,
+    shared: &Mutex<Shared<X, N>>,
+    bells: &Bells,
+    gate: &G,
+    worker: Worker<N>,
+) -> Ran<N> {
+    let Worker { node, mut share } = worker;
+    let program = shared.lock(rt).program();
+    let count = match program {
+        Ok(program) => {
+            let mut evaluator = Evaluator::new(alloc, &program);
+            take_turns(rt, shared, bells, gate, node, &mut evaluator, &mut share)
+        }
+        Err(_) => 0,
+    };
     let woken = shared.lock(rt).leave(node);
     bells.ring(woken);
     ran_with(share, count)
@@ -203,7 +224,6 @@ fn counts_of<N: RunName>(rans: Vec<Ran<N>>, all: &mut Share<N>, places: Vec<u64>
 }
 
 /// The threads, under a name. Without memory what takes turns is handed back, once all of them have returned.
-#[tactic(auto, using(crate::proofs::Crossing::program_lent))]
 fn run_named<X: Turning + Send, N: RunName + Send + Sync, R: Threads + Wait + Sync, G: Gate + Sync>(
     rt: &R,
     alloc: Global,
@@ -236,16 +256,9 @@ fn run_named<X: Turning + Send, N: RunName + Send + Sync, R: Threads + Wait + Sy
     if places.reserve(nodes.len()).is_err() {
         return Err(held);
     }
-    let Ok(given) = held.program() else {
-        return Err(held);
-    };
-    let program: &Resolved = &given;
     let shared = Mutex::new(Shared::new(held, book));
-    let Ok(rans) = thread::map_vec(
-        rt,
-        workers,
-        &|w| { work(rt, alloc, program, &shared, &bells, gate, w) },
-    ) else {
+    let Ok(rans) = thread::map_vec(rt, workers, &|w| work(rt, alloc, &shared, &bells, gate, w))
+    else {
         return Err(shared.into_inner().into_held());
     };
     let counts = counts_of(rans, &mut all, places);

@@ -10,6 +10,8 @@ use crate::watch::{Rest, Watch};
 use fab_base::NoMemory;
 use fab_eval::Done;
 use fab_exchange::{Given, Turn};
+use fab_tree::resolved::Resolved;
+use std::sync::Arc;
 use std::sync::ledger::{Book, Share};
 
 /// Nodes have numbers below this.
@@ -45,6 +47,13 @@ impl<X: Turning, N: RunName> Shared<X, N> {
             book,
             watch: Watch::new(),
         }
+    }
+
+    /// The program of the named start.
+    pub fn program(&self) -> Result<Arc<Resolved>, NoMemory>
+        ensures { IfOk result (λ program. program.value ≡ N.given.program) }
+    {
+        self.held.program()
     }
 
     /// A turn of a node, which a thread counts in its share.
