@@ -1,4 +1,4 @@
-use Rattle.std.proofs.Common.{◌≡◌, true, rules}
+use Rattle.std.proofs.Common.{◌≡◌, true, refl, rules}
 use Rattle.std.specs.Option.{option_copied}
 use Rattle.fab_replay.proofs.Behind.{then_event, then_none}
 use Rattle.fab_replay.proofs.Steps.{came_after, still_may, still_with}
@@ -9,10 +9,14 @@ enact-requires-clause-may g c =
     let may : c.in_ok-may.may ≡ true = search rules in
     still_may c.args.core.now c.enabled.new.self c.args.event c.enabled.ensures.given c.enabled.ensures.moves c.in_ok-may.may c.in_ok-may.ensures.answer may
 
+pub enabled-requires-clause-done : goal.enabled-requires-clause-done
+enabled-requires-clause-done g c = (c.in_ok-at.ensures.done (option_copied c.done_at-over.result) c.done_at-over.ensures).done
+
 pub enact-requires-clause-done : goal.enact-requires-clause-done
 enact-requires-clause-done g c =
-    let same : option_copied c.as_ref-over.result ≡ c.in_ok-done.done = search rules in
-    still_with c.args.core.now c.enabled.new.self c.args.event c.enabled.ensures.given c.enabled.ensures.moves c.in_ok-done.done (option_copied c.as_ref-over.result) same c.in_ok-done.ensures
+    let over = option_copied c.done_at-over.result in
+    still_with c.args.core.now c.enabled.new.self c.args.event c.enabled.ensures.given c.enabled.ensures.moves over over refl
+    (c.in_ok-at.ensures.done over c.done_at-over.ensures)
 
 pub returns-clause-came : goal.returns-clause-came
 returns-clause-came g c =

@@ -1,7 +1,7 @@
 //! Whether two jobs are one.
 ghost use Rattle.std.specs.Prelude.{◌≡◌};
 ghost use Rattle.std.specs.Bool.{MatchBool};
-ghost use Rattle.fab_exchange.specs.Jobs.{IsSameJob};
+ghost use Rattle.fab_pauses.specs.Jobs.{IsSameJob};
 
 use fab_base::{Object, Oid, Value};
 use fab_eval::Job;
@@ -34,7 +34,7 @@ fn are_same_values(a: &[Value], b: &[Value]) -> bool
 }
 
 /// Whether two requests are one.
-fn is_same_request(a: &Request, b: &Request) -> bool
+pub(crate) fn is_same_request(a: &Request, b: &Request) -> bool
     ensures { MatchBool result (a.now ≡ b.now) (a.now ≡ b.now → ⊥) }
 {
     a.worker == b.worker
@@ -44,7 +44,7 @@ fn is_same_request(a: &Request, b: &Request) -> bool
 }
 
 /// Whether two names are one.
-fn is_same_oid(a: Oid, b: Oid) -> bool
+pub(crate) fn is_same_oid(a: Oid, b: Oid) -> bool
     ensures { MatchBool result (a ≡ b) (a ≡ b → ⊥) }
 {
     a == b
@@ -61,7 +61,7 @@ fn is_same_answer(a: &(Oid, u32, Object), b: &(Oid, u32, Object)) -> bool
 }
 
 /// Whether two lists of answers are one.
-fn are_same_answers(a: &[(Oid, u32, Object)], b: &[(Oid, u32, Object)]) -> bool
+pub(crate) fn are_same_answers(a: &[(Oid, u32, Object)], b: &[(Oid, u32, Object)]) -> bool
     ensures { MatchBool result (a.now ≡ b.now) (a.now ≡ b.now → ⊥) }
 {
     let mut left = a;
@@ -80,7 +80,7 @@ fn are_same_answers(a: &[(Oid, u32, Object)], b: &[(Oid, u32, Object)]) -> bool
 }
 
 /// Whether two jobs of one program are one.
-pub(crate) fn is_same_job(a: &Job, b: &Job) -> bool
+pub fn is_same_job(a: &Job, b: &Job) -> bool
     ensures { MatchBool result (IsSameJob a.now b.now) (IsSameJob a.now b.now → ⊥) }
 {
     is_same_request(&a.request, &b.request)
