@@ -1,5 +1,5 @@
 -- A job is begun, and comes to an end or to an object that lacks.
-use Rattle.std.proofs.Common.{◌≡◌, ℕ, true, false, List, [], ◌∷◌, length, take, Option, Some, None, Result, Ok, Err, IfOk, sym, ap, ◌∙◌, subst}
+use Rattle.std.proofs.Common.{◌≡◌, ℕ, Bool, true, false, List, [], ◌∷◌, length, take, Option, Some, None, Result, Ok, Err, IfOk, sym, ap, ◌∙◌, subst}
 use Rattle.std.specs.Prelude.{slice_get}
 use Rattle.std.specs.declared.alloc.AllocError.{AllocError}
 use Rattle.fab_base.specs.declared.object.Oid.{Oid}

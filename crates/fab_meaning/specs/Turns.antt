@@ -1,11 +1,11 @@
 -- A job so far.
-use Rattle.std.specs.Prelude.{◌≡◌, length, take, Option, Result}
+use Rattle.std.specs.Prelude.{◌≡◌, false, length, take, Option, Result}
 use Rattle.fab_base.specs.declared.object.Value.{Value}
 use Rattle.fab_language.specs.declared.ending.Ending.{Ending}
 use Rattle.fab_language.specs.declared.ending.Ending.TheVariants.{Ended, Failed, Missing, Stopped}
 use Rattle.fab_language.specs.Heaps.{touched}
 use Rattle.fab_language.specs.Meaning.{meant_at}
-use Rattle.fab_stack.specs.Attempts as attempts
+use Rattle.fab_stack.specs.Attempts.{is_made_in}
 use Rattle.fab_stack.specs.declared.halt.End.{End}
 use Rattle.fab_stack.specs.Points.{Point, point_before}
 use Rattle.fab_meaning.specs.declared.paused.Paused.{Paused}
@@ -34,7 +34,7 @@ pub record IsPausedAt (job : Job) (p : Paused) : Type 0 where
 pub record Waits (p : Paused) : Type 0 where
   pub job : Job
   pub paused : IsPausedAt job p
-  pub unmade : attempts.is_made_in job.tid p.oid ≡ false
+  pub unmade : is_made_in job.tid p.oid ≡ false
 
 -- this is what a run came to that ended so at a point
 abbrev pub IsDone : Result (Option Value) End → Point → Turn → Type 0

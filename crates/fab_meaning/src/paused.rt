@@ -1,8 +1,7 @@
 //! Runs by the erased meaning, from the start to the first object that lacks, and from there on.
 ghost use Rattle.std.specs.Prelude.{◌≡◌, IfOk};
-ghost use Rattle.fab_language.specs.declared.ending.Ending.TheVariants.{Missing};
 ghost use Rattle.fab_stack.specs.Stepping.{IsMatched};
-ghost use Rattle.fab_meaning.specs.Jobs.{Job as AnyJob, answered, meant_of};
+ghost use Rattle.fab_meaning.specs.Jobs.{Job as AnyJob, answered};
 ghost use Rattle.fab_meaning.specs.Lefts.{IsLeftOf};
 ghost use Rattle.fab_meaning.specs.Turns.{IsDone, IsPausedAt, Turns, Waits};
 
@@ -24,8 +23,8 @@ use std::alloc::Global;
 pub struct Paused<'a> {
     program: &'a Resolved,
     seen: Seen,
-    site: u16,
-    oid: Oid,
+    pub site: u16,
+    pub oid: Oid,
     first: &'a Method,
     stack: Vec<Entry<'a>>,
     state: State<'a>,
@@ -116,13 +115,6 @@ fn going<'a>(
 }
 
 impl<'a> Paused<'a> {
-    /// The site that lacks an object, and the object.
-    pub fn lack(&self) -> (u16, Oid)
-        ensures { (job : AnyJob) → IsPausedAt job self.now → (meant_of job).ending ≡ Missing result.0 result.1 }
-    {
-        (self.site, self.oid)
-    }
-
     /// Goes on with the object that lacked: what `begin` gives for the map with it. Whoever is given
     /// more values begins again.
     pub fn go_on(self, object: Object) -> Result<Turn<'a>, NoMemory>
