@@ -2,7 +2,6 @@
 use Rattle.std.proofs.Common.{◌≡◌, ℕ, Bool, true, false, List, [], ◌∷◌, length, take, Option, Some, None, Result, Ok, Err, IfOk, sym, ap, ◌∙◌, subst}
 use Rattle.std.specs.Prelude.{slice_get}
 use Rattle.std.specs.declared.alloc.AllocError.{AllocError}
-use Rattle.fab_base.specs.declared.object.Oid.{Oid}
 use Rattle.fab_base.specs.declared.object.Tid.{Tid}
 use Rattle.fab_base.specs.declared.object.Value.{Value}
 use Rattle.fab_base.specs.FlatMap.{FlatMap, ascends}
@@ -13,7 +12,7 @@ use Rattle.fab_tree.specs.declared.resolved.Resolved.{Resolved}
 use Rattle.fab_language.specs.declared.ending.Ending.{Ending}
 use Rattle.fab_language.specs.declared.ending.Ending.TheVariants as endings
 use Rattle.fab_language.specs.Heaps.{touched}
-use Rattle.fab_language.specs.Meaning.{Meant, missing, meant_at, meant_by, ending_at}
+use Rattle.fab_language.specs.Meaning.{Meant, meant_at, meant_by}
 use Rattle.fab_erasure.specs.Erased.{blank_result, locals_at_start}
 use Rattle.fab_left.specs.ErasedActs.{meanings}
 use Rattle.fab_left.specs.Left.{AllStem, at_start, rest}
@@ -23,13 +22,12 @@ use Rattle.fab_stack.specs.declared.halt.End.TheVariants.{Failed, Stopped, Missi
 use Rattle.fab_stack.specs.declared.stack.Entry.{Entry}
 use Rattle.fab_stack.specs.declared.stepping.Way.{Way}
 use Rattle.fab_stack.specs.declared.stepping.Way.TheVariants.{Over, Lacks}
-use Rattle.fab_stack.specs.Points.{Point, point_before, point_over, with_locals}
+use Rattle.fab_stack.specs.Points.{Point, point_over, with_locals}
 use Rattle.fab_stack.specs.Stacks.{entries_of}
 use Rattle.fab_stack.specs.Stepping.{IsMatched, IsSameAttempt, Runs}
 use Rattle.fab_meaning.specs.declared.paused.Paused.{Paused}
 use Rattle.fab_meaning.specs.declared.paused.Turn.{Turn}
 use Rattle.fab_meaning.specs.declared.paused.Turn.TheVariants as turns
-use Rattle.fab_meaning.specs.declared.whole.Meant as found
 use Rattle.fab_meaning.specs.Ends.{IsMeant, ending_of}
 use Rattle.fab_meaning.specs.Jobs.{Job, meant_of}
 use Rattle.fab_meaning.specs.Lefts.{IsLeftOf, means_in}
