@@ -122,7 +122,9 @@ impl<'a> Known<'a> {
         let last = mem::replace(&mut self.last, None);
         let rows = self.rows.as_slice();
         let given = self.given.as_slice();
-        match turned(self.alloc, self.part, self.seen, rows, given, last, number, tid)? {
+        match turned(
+            self.alloc, self.part, self.seen, rows, given, last, number, tid,
+        )? {
             None => Ok(None),
             Some(pause) => {
                 let oid = pause.oid;
@@ -214,13 +216,7 @@ fn answer(
 
 /// Whether the last run was of this request in this attempt, knew just these rows, and lacks the object
 /// of this name, which the attempt doesn't make.
-fn is_next(
-    last: &Last<'_>,
-    before: &[(Oid, u32, Object)],
-    name: Oid,
-    number: u32,
-    tid: Tid,
-) -> bool
+fn is_next(last: &Last<'_>, before: &[(Oid, u32, Object)], name: Oid, number: u32, tid: Tid) -> bool
     ensures { result ≡ ((last.now.number == number) && is_tid last.now.tid tid && (length before.now == last.now.rows)
         && is_same name last.now.pause.oid && not (is_made_in tid last.now.pause.oid)) }
 {

@@ -169,11 +169,7 @@ fn vote(
 }
 
 /// A node comes back after a crash.
-fn recover<'a>(
-    setting: &Setting<'a>,
-    kept: &mut Kept<'a>,
-    node: u16,
-) -> Result<Sends, NoMemory>
+fn recover<'a>(setting: &Setting<'a>, kept: &mut Kept<'a>, node: u16) -> Result<Sends, NoMemory>
     ensures kept { OnOk result ((k : Rebuilt) → IsKept (sight_at setting.now) (public_at setting.now) kept.old k
         → IsKept (sight_at setting.now) (public_at setting.now) kept.new (next (sight_at setting.now) (public_at setting.now) (Recover node) k)) }
     ensures sent { IfOk result (λ sent. (k : Rebuilt) → IsKept (sight_at setting.now) (public_at setting.now) kept.old k
