@@ -1,5 +1,7 @@
 pub mod Committing
 pub mod Fronts
+pub mod Asking
+pub mod Knowing
 pub mod Messaging
 pub mod Outcomes
 pub mod Parting
