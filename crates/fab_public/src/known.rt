@@ -29,9 +29,9 @@ pub(crate) struct Last<'a> {
 }
 
 /// The objects that a worker is known to know in its attempt, with their versions, and the values that
-/// it was given. A run of its request goes on where the last one lacked an object, so that
-/// the map of what is known is made once for an attempt, and each statement is done once. Contracts
-/// don't see where that is.
+/// it was given. A run of its request goes on where the last one lacked an object, unless a value was
+/// given since, so that the map of what is known isn't made anew at each answer. Contracts don't see
+/// where that is.
 #[derive(Drop)]
 pub(crate) struct Known<'a> {
     alloc: Global,
