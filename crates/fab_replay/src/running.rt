@@ -60,6 +60,7 @@ fn evaluated<J: Journal>(
 }
 
 /// Makes the evaluation that an event takes, if it takes one: by which evaluator.
+#[tactic(auto, using(crate::proofs::Resting::resumes_with, crate::proofs::Resting::crashes_with))]
 fn evaluated_for<J: Journal>(
     core: &Core<J>,
     evaluators: &mut Evaluators<'_>,
@@ -107,6 +108,23 @@ fn enact<J: Journal>(
     }
 }
 
+/// One event comes, if it may, with the evaluation that it takes.
+fn come<J: Journal>(core: &mut Core<J>, event: Event, done: Option<&Done>) -> Result<Came, NoMemory>
+    requires done { ComesWith core.old.given core.old.moves event (option_copied done) }
+    requires few { attempts core.old.moves < 4000000000 }
+    ensures given { core.new.given ≡ core.old.given }
+    ensures came { IfOk result (ComesBy core.old.given event core.old.moves core.new.moves) }
+    ensures journals { IfOk result (λ came. AreBehind (fails_by event came) core.old.journals core.new.journals) }
+    ensures memory { OnErr result (core.new.moves ≡ core.old.moves) }
+    ensures still { OnErr result (AreBehind (λ n. false) core.old.journals core.new.journals) }
+{
+    let may = core.enabled(&event, done)?;
+    if !may {
+        return Ok(Came::Barred);
+    }
+    enact(core, event, done)
+}
+
 /// One event comes, if it may.
 fn next<J: Journal>(
     core: &mut Core<J>,
@@ -123,12 +141,7 @@ fn next<J: Journal>(
     ensures still { OnErr result (AreBehind (λ n. false) core.old.journals core.new.journals) }
 {
     let at = evaluated_for(core, evaluators, event)?;
-    let over = done_at(evaluators, at);
-    let may = core.enabled(&event, over)?;
-    if !may {
-        return Ok(Came::Barred);
-    }
-    enact(core, event, over)
+    come(core, event, done_at(evaluators, at))
 }
 
 /// The events of the schedule come in order, up to the first that may not come or in which a journal fails. A job that comes again with
