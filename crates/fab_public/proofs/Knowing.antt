@@ -141,4 +141,4 @@ pub lacks_by : (sight : Sight) (P : Public) (n : ℕ) (v : WorkerSeen) (r : Runn
 lacks_by sight P n v r t o by is h =
     subst (λ (e : Ending). Lacks o e)
     (ap (λ (u : Tid). (ran_by r u.worker v.request u (map_of (objects_of v.known)) v.given).ending) is
-    ∙ ap (λ (m : Meant). m.ending) (by n v.request (tid_of sight P n v) (map_of (objects_of v.known)) v.given)) h
+    ∙ ap (λ (m : Meant). m.ending) (by.same n v.request (tid_of sight P n v) (map_of (objects_of v.known)) v.given)) h
