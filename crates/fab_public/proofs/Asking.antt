@@ -12,7 +12,7 @@ use Rattle.fab_release.specs.Sights.{Public, Sight}
 use Rattle.fab_public.specs.Knowing.{Lacks}
 
 module _ (sight : Sight) (P : Public) (n : ℕ) (e : Ending) (v : WorkerSeen) where
-  abbrev fetched : Oid → List (ℕ × Message)
+  abbrev pub fetched : Oid → List (ℕ × Message)
   fetched o = let told : ℕ × Message = (o.store, Fetch (tid_of sight P n v) o) in unless_cached sight P (cached_row v.caches o) (told ∷ [])
 
   -- an object of a store in the set

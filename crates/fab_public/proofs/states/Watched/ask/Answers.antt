@@ -1,7 +1,7 @@
 use Rattle.std.proofs.Common.{◌≡◌, ℕ, List, [], ◌∷◌, Option, Some, None, sym, ap, subst, ◌∙◌}
 use Rattle.std.proofs.lemmas.Result.{on_ok_weaker}
 use Rattle.fab_base.specs.declared.object.Oid.{Oid}
-use Rattle.fab_release.specs.Replay.{WorkerSeen, asked_by, run}
+use Rattle.fab_release.specs.Replay.{WorkerSeen, asked_by, asks_by, fetch, run}
 use Rattle.fab_protocol.specs.Caches.{cached_row}
 use Rattle.fab_sent.specs.Messages.{all_spelled}
 use Rattle.fab_public.specs.declared.states.Watched.{Watched}
@@ -22,7 +22,7 @@ returns-then-is_in-clause-kept c = λ by.
     let e = (run sight P n v).ending in
     let l : Lacks (Some c.in-Some.oid) e = subst (λ (o : Option Oid). Lacks o e) c.in-Some.is (c.in_ok-oid.ensures.lacks sight P by) in
     let same : worker_of c.lacks.new.self ≡ v = ap worker_of c.in_ok-oid.ensures.same in
-    on_ok_weaker c.ask_for.result
+    on_ok_weaker {Q = worker_of c.ask_for.new.self ≡ asks_by sight P e v} c.ask_for.result
     (λ h. h ∙ ap (λ (x : WorkerSeen). asked_by sight P c.in-Some.oid (cached_row x.caches c.in-Some.oid) x) same
     ∙ asks_inside sight P n e v c.in-Some.oid l (sym c.is_in.ensures.computed ∙ c.if-is_in.true))
     c.ask_for.ensures.kept
@@ -37,7 +37,7 @@ returns-then-is_in-clause-sent c = λ by.
     let e = (run sight P n v).ending in
     let l : Lacks (Some c.in-Some.oid) e = subst (λ (o : Option Oid). Lacks o e) c.in-Some.is (c.in_ok-oid.ensures.lacks sight P by) in
     let same : worker_of c.lacks.new.self ≡ v = ap worker_of c.in_ok-oid.ensures.same in
-    if_ok_weaker c.ask_for.result
+    if_ok_weaker {Q = λ (sent : List (ℕ × List ℕ)). sent ≡ all_spelled (fetch sight P n e v)} c.ask_for.result
     (λ sent h. h ∙ ap (λ (x : WorkerSeen). all_spelled (fetched sight P n e x c.in-Some.oid)) same
     ∙ ap all_spelled (fetch_inside sight P n e v c.in-Some.oid l (sym c.is_in.ensures.computed ∙ c.if-is_in.true)))
     c.ask_for.ensures.sent

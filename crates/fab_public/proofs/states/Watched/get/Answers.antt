@@ -1,7 +1,7 @@
 use Rattle.std.proofs.Common.{◌≡◌, ℕ, Option, Some, None, sym, ap, subst, ◌∙◌}
 use Rattle.std.proofs.lemmas.Result.{on_ok_weaker}
 use Rattle.fab_base.specs.declared.object.Oid.{Oid}
-use Rattle.fab_release.specs.Replay.{WorkerSeen, knows, row_at, run}
+use Rattle.fab_release.specs.Replay.{WorkerSeen, got_by, knows, row_at, run}
 use Rattle.fab_public.specs.Knowing.{Lacks}
 use Rattle.fab_public.specs.Settings.{public_at, sight_at}
 use Rattle.fab_public.specs.States.{worker_of}
@@ -26,7 +26,7 @@ returns-else-is_in-clause-seen c = λ by.
     let v = worker_of c.args.self.now in
     let e = (run sight P n v).ending in
     let l : Lacks (Some c.in-Some.oid) e = subst (λ (o : Option Oid). Lacks o e) c.in-Some.is (c.in_ok-oid.ensures.lacks sight P by) in
-    on_ok_weaker c.learn.result
+    on_ok_weaker {Q = worker_of c.learn.new.self ≡ got_by sight P c.args.table.now c.args.version e v} c.learn.result
     (λ h. h ∙ ap (λ (x : WorkerSeen). knows sight P (row_at c.args.table.now c.in-Some.oid c.args.version) x) (ap worker_of c.in_ok-oid.ensures.same)
     ∙ got_outside sight P n e v c.args.table.now c.args.version c.in-Some.oid l (sym c.is_in.ensures.computed ∙ c.if-is_in.false))
     c.learn.ensures.seen
