@@ -1,4 +1,4 @@
-use Rattle.std.proofs.Common.{Bool, false, if◌then◌else◌, sym, ap, subst, ◌++◌, ◌∙◌}
+use Rattle.std.proofs.Common.{Bool, if◌then◌else◌, sym, ap, subst, ◌++◌, ◌∙◌}
 use Rattle.std.proofs.lemmas.Result.{on_ok_weaker}
 use Rattle.fab_protocol.specs.Versions.{Rows}
 use Rattle.fab_release.specs.Replay.{at_store, at_worker, row_at, store_applies, store_hears, store_says, tabled, worker_hears, worker_says}

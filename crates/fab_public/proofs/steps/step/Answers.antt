@@ -1,7 +1,7 @@
 use Rattle.std.proofs.Common.{sym, ap, ◌∙◌}
 use Rattle.fab_release.specs.declared.release.Release.TheVariants as releases
 use Rattle.fab_public.specs.Settings.{public_at, sight_at}
-use Rattle.fab_public.proofs.Stepping.{kept_as, sent_as}
+use Rattle.fab_public.proofs.Stepping.{kept_as, kept_either, sent_as, sent_either}
 use Rattle.fab_public.proofs.steps.step.Goals as goal
 
 pub returns-in-Received-clause-kept : goal.returns-in-Received-clause-kept
@@ -77,9 +77,11 @@ returns-in-Crash-clause-sent c =
 pub returns-in-Failed-clause-kept : goal.returns-in-Failed-clause-kept
 returns-in-Failed-clause-kept c =
     let i = c.in-Failed in
-    kept_as (sight_at c.args.setting.now) (public_at c.args.setting.now) c.args.kept.now c.change_worker-in-Failed.new.kept c.change_worker-in-Failed.result (releases.Failed i.worker) c.args.release.now (sym i.is) c.change_worker-in-Failed.ensures.kept
+    kept_either (sight_at c.args.setting.now) (public_at c.args.setting.now) c.args.kept.now c.change_worker-in-Failed.new.kept c.change_worker-in-Failed.result c.args.release.now (releases.Failed i.worker) (releases.Stopped i.worker) i.is
+    c.change_worker-in-Failed.ensures.kept c.change_worker-in-Failed.ensures.kept
 
 pub returns-in-Failed-clause-sent : goal.returns-in-Failed-clause-sent
 returns-in-Failed-clause-sent c =
     let i = c.in-Failed in
-    sent_as (sight_at c.args.setting.now) (public_at c.args.setting.now) c.args.kept.now c.change_worker-in-Failed.new.kept c.change_worker-in-Failed.result (releases.Failed i.worker) c.args.release.now (sym i.is) c.change_worker-in-Failed.ensures.sent
+    sent_either (sight_at c.args.setting.now) (public_at c.args.setting.now) c.args.kept.now c.change_worker-in-Failed.new.kept c.change_worker-in-Failed.result c.args.release.now (releases.Failed i.worker) (releases.Stopped i.worker) i.is
+    c.change_worker-in-Failed.ensures.sent c.change_worker-in-Failed.ensures.sent
