@@ -1,5 +1,5 @@
 -- What an evaluation that lacks an object, or none, makes of a worker.
-use Rattle.std.proofs.Common.{◌≡◌, ℕ, Bool, true, false, if◌then◌else◌, List, [], ◌∷◌, Option, Some, None, refl, sym, ap, ◌∙◌}
+use Rattle.std.proofs.Common.{◌≡◌, ℕ, true, false, if◌then◌else◌, List, [], ◌∷◌, Some, None, refl, sym, ap, ◌∙◌}
 use Rattle.fab_base.specs.declared.message.Message.{Message}
 use Rattle.fab_base.specs.declared.message.Message.TheVariants.{Fetch}
 use Rattle.fab_base.specs.declared.object.Oid.{Oid}
@@ -12,7 +12,7 @@ use Rattle.fab_release.specs.Sights.{Public, Sight}
 use Rattle.fab_public.specs.Knowing.{Lacks}
 
 module _ (sight : Sight) (P : Public) (n : ℕ) (e : Ending) (v : WorkerSeen) where
-  abbrev fetched : Oid → List (ℕ × Message)
+  abbrev pub fetched : Oid → List (ℕ × Message)
   fetched o = let told : ℕ × Message = (o.store, Fetch (tid_of sight P n v) o) in unless_cached sight P (cached_row v.caches o) (told ∷ [])
 
   -- an object of a store in the set

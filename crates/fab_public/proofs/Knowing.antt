@@ -1,6 +1,5 @@
 -- A worker's request is run on: what is kept of its last run, and what comes of it.
-use Rattle.std.proofs.Common.{◌≡◌, ℕ, ◌≤◌, ◌==◌, Bool, true, false, not, ◌&&◌, List, [], ◌∷◌, ◌++◌, length, length-append, map, take, Option, Some, None, Result, Ok, Err, IfOk, refl, sym, ap, ◌∙◌, subst, arith}
-use Rattle.std.specs.declared.alloc.AllocError.{AllocError}
+use Rattle.std.proofs.Common.{◌≡◌, ℕ, ◌==◌, Bool, true, false, not, ◌&&◌, List, [], ◌∷◌, ◌++◌, length, length-append, take, Option, Some, None, refl, sym, ap, ◌∙◌, subst, arith}
 use Rattle.std.proofs.lemmas.Bool.{false≢true}
 use Rattle.std.proofs.lemmas.Bool.Decides.{nat_tests}
 use Rattle.std.proofs.lemmas.List.{map-append, take-append-le, take_all, take_at}
@@ -12,11 +11,10 @@ use Rattle.fab_base.specs.FlatMap.{FlatMap, is_same, map_of, put}
 use Rattle.fab_base.proofs.NameOrder.{one_name}
 use Rattle.fab_map.proofs.Rows.{put_more}
 use Rattle.fab_language.specs.declared.ending.Ending.{Ending}
-use Rattle.fab_language.specs.declared.ending.Ending.TheVariants.{Failed, Missing}
 use Rattle.fab_language.specs.Meaning.{Meant}
 use Rattle.fab_meaning.specs.declared.paused.Paused.{Paused}
 use Rattle.fab_meaning.specs.declared.paused.Turn.{Turn}
-use Rattle.fab_meaning.specs.Jobs.{Job, answered, meant_of}
+use Rattle.fab_meaning.specs.Jobs.{Job, answered}
 use Rattle.fab_meaning.specs.Turns.{IsOver, IsPausedAt, Turns, Waits}
 use Rattle.fab_protocol.specs.Versions.{Row, Rows, is_made_in, is_tid, objects_of}
 use Rattle.fab_release.specs.Bundles.{erased_of}
@@ -141,4 +139,4 @@ pub lacks_by : (sight : Sight) (P : Public) (n : ℕ) (v : WorkerSeen) (r : Runn
 lacks_by sight P n v r t o by is h =
     subst (λ (e : Ending). Lacks o e)
     (ap (λ (u : Tid). (ran_by r u.worker v.request u (map_of (objects_of v.known)) v.given).ending) is
-    ∙ ap (λ (m : Meant). m.ending) (by n v.request (tid_of sight P n v) (map_of (objects_of v.known)) v.given)) h
+    ∙ ap (λ (m : Meant). m.ending) (by.same n v.request (tid_of sight P n v) (map_of (objects_of v.known)) v.given)) h

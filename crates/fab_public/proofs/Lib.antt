@@ -8,6 +8,7 @@ pub mod Parting
 pub mod Sending
 pub mod Standing
 pub mod Starting
+pub mod Stepping
 pub mod Storing
 pub mod Tabling
 pub mod Watching

@@ -32,8 +32,8 @@ abbrev pub ran_by : Runner → ℕ → ℕ → Tid → FlatMap → List Value �
 ran_by r n number t known given = erased_of (has_bit r.seen.labels) (has_bit r.seen.classes) r.program (request_at r.program n number) t known given
 
 -- that is what everybody may know of it
-abbrev pub IsRunBy : Public → Runner → Type 0
-IsRunBy P r = (n number : ℕ) (t : Tid) (known : FlatMap) (given : List Value) → ran_by r n number t known given ≡ P.means n number t known given
+pub record IsRunBy (P : Public) (r : Runner) : Type 0 where
+  pub same : (n number : ℕ) (t : Tid) (known : FlatMap) (given : List Value) → ran_by r n number t known given ≡ P.means n number t known given
 
 -- it ended for want of this object, or of none
 abbrev pub Lacks : Option Oid → Ending → Type 0

@@ -15,7 +15,8 @@ use Rattle.fab_public.specs.Knowing.{Runner, ran_by}
 
 -- a request over these rows and given values
 abbrev pub job_over : Runner → Rows → List Value → Request → Tid → Job
-job_over r rows given request t = record { program = r.program; seen = r.seen; known = map_of (objects_of rows); given = given; request = request; tid = t; fuel = 1000000 }
+job_over r rows given request t =
+    record { program = r.program; seen = r.seen; known = map_of (objects_of rows); given = given; request = request; tid = t; fuel = 1000000 }
 
 -- a worker's request of this number is paused so in an attempt
 pub record IsRun (r : Runner) (rows : Rows) (given : List Value) (number : ℕ) (t : Tid) (p : Paused) : Type 0 where

@@ -8,4 +8,4 @@ pub returns-clause-caching : goal.returns-clause-caching
 returns-clause-caching c = fresh_caching (public_at c.args.setting.now).cache _ c.in_ok-caches.ensures
 
 pub returns-clause-by : goal.returns-clause-by
-returns-clause-by c = subst (λ (k : Knows). IsRunBy (public_at c.args.setting.now) k.by) (sym c.nothing.ensures) (λ n number t known given. refl)
+returns-clause-by c = subst (λ (k : Knows). IsRunBy (public_at c.args.setting.now) k.by) (sym c.nothing.ensures) (record { same = λ n number t known given. refl })
