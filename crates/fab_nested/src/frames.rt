@@ -14,11 +14,12 @@ use crate::copies::{map_copy, put_all_found, put_rows};
 use crate::frame_error::FrameError;
 use crate::known::{Known, field_at};
 use crate::log::{Change, note, undo_to};
+use crate::names::Names;
 use crate::objects::{Objects, is_in};
 use crate::touches::Touches;
 use fab_base::{NoMemory, Object, Oid, Seq, Stop, Value};
 use fab_map::ObjectMap;
-use indexmap::{IndexMap, IndexSet};
+use indexmap::IndexMap;
 use std::alloc::Global;
 use std::marker::Model;
 
@@ -264,7 +265,7 @@ impl<'a> Frames<'a> {
     pub fn made_at(&self, site: u16) -> u16
         ensures { result ≡ index_at site self.now.now }
     {
-        let made = self.objects.made.iter().filter(|oid| oid.site == site);
+        let made = self.objects.made.as_slice().iter().filter(|oid| oid.site == site);
         made.count() as u16
     }
 
@@ -324,8 +325,8 @@ impl<'a> Frames<'a> {
 }
 
 /// Touches an object that is there, unless it was made here or would be one too many.
-fn touch(made: &IndexSet<Oid>, touches: &mut Touches, site: u16, oid: Oid) -> Result<bool, NoMemory>
-    ensures fits { IfOk result (λ fits. (x : AnyObject) → reach_in site oid (Some x) made.now.keys touches.old ≡ (if fits then found x touches.new else full)) }
+fn touch(made: &Names<Oid>, touches: &mut Touches, site: u16, oid: Oid) -> Result<bool, NoMemory>
+    ensures fits { IfOk result (λ fits. (x : AnyObject) → reach_in site oid (Some x) made.now touches.old ≡ (if fits then found x touches.new else full)) }
     ensures full { IfOk result (λ fits. OnFalse fits (touches.new ≡ touches.old)) }
     ensures err { OnErr result (touches.new ≡ touches.old) }
 {
