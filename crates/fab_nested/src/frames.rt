@@ -13,7 +13,7 @@ use crate::answers::{copies, version_of, versions_of, with_field};
 use crate::copies::{map_copy, put_all_found, put_rows};
 use crate::frame_error::FrameError;
 use crate::known::{Known, field_at};
-use crate::log::{Change, note, undo_to};
+use crate::log::{Change, make_room, note, undo_to};
 use crate::names::Names;
 use crate::objects::{Objects, is_in};
 use crate::touches::Touches;
@@ -157,7 +157,7 @@ impl<'a> Frames<'a> {
         requires { is_changed oid self.old.now ≡ true }
         ensures { Gives result self.old self.new (write site oid field value self.old) }
     {
-        self.log.reserve(1)?;
+        make_room(&mut self.log, self.marks.as_slice())?;
         if !touch(&self.objects.made, &mut self.touches, site, oid)? {
             return Err(FrameError::Full(Stop::Reads));
         }
@@ -183,7 +183,7 @@ impl<'a> Frames<'a> {
             return Err(FrameError::Need(oid));
         };
         let object = with_field(object.copy(alloc)?, field, value);
-        self.log.reserve(1)?;
+        make_room(&mut self.log, self.marks.as_slice())?;
         let (pairs, objects) = self.touches.counts();
         if !self.touches.reach(site, oid)? {
             return Err(FrameError::Full(Stop::Reads));
@@ -208,7 +208,7 @@ impl<'a> Frames<'a> {
         ensures { Gives result self.old self.new (create oid object self.old) }
     {
         let alloc = *self.log.allocator();
-        self.log.reserve(1)?;
+        make_room(&mut self.log, self.marks.as_slice())?;
         let Some(change) = self.objects.make(alloc, oid, object)? else {
             return Err(FrameError::Full(Stop::Writes));
         };
@@ -265,7 +265,12 @@ impl<'a> Frames<'a> {
     pub fn made_at(&self, site: u16) -> u16
         ensures { result ≡ index_at site self.now.now }
     {
-        let made = self.objects.made.as_slice().iter().filter(|oid| oid.site == site);
+        let made = self
+            .objects
+            .made
+            .as_slice()
+            .iter()
+            .filter(|oid| oid.site == site);
         made.count() as u16
     }
 
