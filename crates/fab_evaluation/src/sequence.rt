@@ -50,10 +50,7 @@ fn put_changed(map: &mut ObjectMap, changed: Seq<(Oid, Object)>) -> Result<(), N
 }
 
 /// The requests of all sessions, in the order of their workers' numbers. None is copied.
-pub(crate) fn in_order<'a>(
-    alloc: Global,
-    start: &'a Resolved,
-) -> Result<Seq<&'a Request>, NoMemory>
+pub(crate) fn in_order<'a>(alloc: Global, start: &'a Resolved) -> Result<Seq<&'a Request>, NoMemory>
     ensures { IfOk result (λ requests. asked requests ≡ requests_of start.now) }
 {
     let mut requests = Seq::new(alloc);
