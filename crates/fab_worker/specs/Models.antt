@@ -85,9 +85,9 @@ pub record IsJobOf (job : Job) (x : WorkerModel) : Type 0 where
   pub answers : job.answers ≡ x.attempt.answers
 
 -- the request that is at work, in this attempt
-pub record IsRequestAt (request : Request) (tid : Tid) (x : WorkerModel) : Type 0 where
-  pub request : request_at x ≡ Some request
-  pub tid : tid ≡ tid_at x
+pub record IsRequestAt (asked : Request) (t : Tid) (x : WorkerModel) : Type 0 where
+  pub request : request_at x ≡ Some asked
+  pub tid : t ≡ tid_at x
 
 -- a job but for its program, which nobody compares
 pub record IsJobIn (job : Job) (x : WorkerModel) : Type 0 where
