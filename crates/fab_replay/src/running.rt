@@ -54,11 +54,11 @@ fn went_on<J: Journal>(
     let Some(done) = evaluators.done(worker) else {
         return Ok(false);
     };
-    let Some((oid, version, object)) = core.answer_behind(worker, &done.job) else {
+    let Some(answer) = core.answer_behind(worker, &done.job) else {
         return Ok(false);
     };
-    let object = object.copy(alloc)?;
-    evaluators.go_on(worker, *oid, *version, object)
+    let object = answer.2.copy(alloc)?;
+    evaluators.go_on(worker, answer.0, answer.1, object)
 }
 
 /// Evaluates the job of a worker, if there is one: by which evaluator. A job that doesn't go on is copied whole.
