@@ -1,10 +1,6 @@
 -- Jobs and their copies.
-use Rattle.std.specs.Prelude.{◌≡◌, ℕ, Result, Ok, Err, IfOk, false}
-use Rattle.std.specs.List.{IsDistinct, list_any}
-use Rattle.std.proofs.Common.{refl, sym, ap, ◌∙◌, subst}
-use Rattle.fab_base.specs.FlatMap.{is_same}
-use Rattle.fab_nested.specs.Nested.{names_of}
-use Rattle.fab_eval.specs.Attempts.{is_made_in}
+use Rattle.std.specs.Prelude.{◌≡◌}
+use Rattle.std.proofs.Common.{refl}
 use Rattle.fab_eval.specs.Outcomes.{meant_of, outcome_of}
 use Rattle.fab_eval.specs.declared.job.Job.{Job}
 use Rattle.fab_pool.specs.Jobs.{IsCopy, IsReady}

@@ -19,6 +19,10 @@ pub record IsCopy (job copy : Job) : Type 0 where
   pub tid : copy.tid ≡ job.tid
   pub answers : copy.answers ≡ job.answers
 
+-- a copy of the job that what stands in this place has
+abbrev pub IsOf : {X : Type 0} → (X → Job) → List X → ℕ → Job → Type 0
+IsOf job xs place copy = HoldsAt (λ x. IsCopy (job x) copy) xs place
+
 -- a copy of the job in this place
 abbrev pub IsAt : List Job → ℕ → Job → Type 0
 IsAt jobs place copy = HoldsAt (λ job. IsCopy job copy) jobs place

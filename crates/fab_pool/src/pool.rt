@@ -1,8 +1,8 @@
 //! The threads of a pool.
 ghost use Rattle.std.specs.Prelude.{◌≡◌, ◌<◌, ◌≤◌, All, IfOk, length, map};
-ghost use Rattle.fab_pool.specs.Jobs.{IsAt, IsReady};
+ghost use Rattle.fab_pool.specs.Jobs.{IsAt, IsOf, IsReady};
 
-use crate::slot::Slot;
+use crate::slot::{Slot, Waiting};
 use crossbeam_channel::Receiver;
 use fab_base::{NoMemory, Seq};
 use fab_eval::{Done, Job};
@@ -32,28 +32,28 @@ fn slots_of(alloc: Global, jobs: Seq<Job>) -> Result<Vec<Slot>, NoMemory>
 }
 
 /// What a copy of the job in this place comes to.
-fn evaluate_at<G: Gate>(
+fn evaluate_at<S: Waiting, G: Gate>(
     alloc: Global,
-    slots: &[Slot],
+    slots: &[S],
     place: usize,
     gate: &G,
 ) -> Result<Placed, NoMemory>
     requires { place < length slots.now }
-    ensures { IfOk result (λ placed. IsAt slots.now placed.place placed.done.job) }
+    ensures { IfOk result (λ placed. IsOf S.job slots.now placed.place placed.done.job) }
 {
     let done = slots[place].evaluate_copy(alloc, gate)?;
     Ok(Placed { place, done })
 }
 
 /// One thread: it evaluates copies of the jobs whose places it gets, until there are no more, or memory runs out.
-fn take_places<R: Wait, G: Gate>(
+fn take_places<S: Waiting, R: Wait, G: Gate>(
     rt: &R,
     alloc: Global,
     places: &Receiver<usize>,
-    slots: &[Slot],
+    slots: &[S],
     gate: &G,
 ) -> Vec<Placed>
-    ensures { All (λ placed. IsAt slots.now placed.place placed.done.job) result.items }
+    ensures { All (λ placed. IsOf S.job slots.now placed.place placed.done.job) result.items }
 {
     let mut taken: Vec<Placed> = Vec::new(alloc);
     for _ in rt.forever() {
@@ -76,14 +76,14 @@ fn take_places<R: Wait, G: Gate>(
 
 /// What the threads bring back, each its own. All places stand in the channel before the first thread starts, and there is room for each,
 /// so nobody waits for a place.
-fn by_threads<R: Threads + Wait + Sync, G: Gate + Sync>(
+fn by_threads<S: Waiting + Sync, R: Threads + Wait + Sync, G: Gate + Sync>(
     rt: &R,
     alloc: Global,
-    slots: &[Slot],
+    slots: &[S],
     width: usize,
     gate: &G,
 ) -> Result<Vec<Vec<Placed>>, NoMemory>
-    ensures { IfOk result (λ lists. All (λ list. All (λ placed. IsAt slots.now placed.place placed.done.job) list.items) lists.items) }
+    ensures { IfOk result (λ lists. All (λ list. All (λ placed. IsOf S.job slots.now placed.place placed.done.job) list.items) lists.items) }
 {
     let (feed, places) = crossbeam_channel::bounded(alloc, slots.len())?;
     for place in 0..slots.len() {

@@ -1,5 +1,6 @@
 //! A job that waits, and what came of it.
 ghost use Rattle.std.specs.Prelude.{◌≡◌, IfOk};
+ghost use Rattle.fab_eval.specs.declared.job.Job.{Job as AnyJob};
 ghost use Rattle.fab_pool.specs.Jobs.{IsCopy, IsReady};
 
 use crate::copies::{copy_of_job, done_of};
@@ -8,6 +9,15 @@ use fab_eval::{Done, Job, evaluate};
 use fab_gates::Gate;
 use std::alloc::{AllocError, Global};
 use std::marker::Model;
+
+/// What has a job, a copy of which threads evaluate. They know no more of it, so nothing else has to be said across threads.
+pub(crate) trait Waiting {
+    ghost job: { Self → AnyJob };
+
+    /// What a copy of the job comes to.
+    fn evaluate_copy<G: Gate>(&self, alloc: Global, gate: &G) -> Result<Done, NoMemory>
+        ensures { IfOk result (λ done. IsCopy (job self.now) done.job) };
+}
 
 /// A job, and what a copy of it came to, if that is here. Contracts see the job.
 #[derive(Drop)]
@@ -52,14 +62,6 @@ impl Slot {
         Slot { job, done: None }
     }
 
-    /// What a copy of the job comes to.
-    pub(crate) fn evaluate_copy<G: Gate>(&self, alloc: Global, gate: &G) -> Result<Done, NoMemory>
-        ensures { IfOk result (λ done. IsCopy self.now done.job) }
-    {
-        let copy = copy_of_job(alloc, &self.job)?;
-        evaluate_here(alloc, gate, copy)
-    }
-
     /// Keeps what a copy came to.
     pub(crate) fn put(&mut self, done: Done)
         requires { IsCopy self.old done.job }
@@ -77,5 +79,14 @@ impl Slot {
             Some(done) => Ok(done_of(job, done)),
             None => evaluate_here(alloc, gate, job),
         }
+    }
+}
+
+impl Waiting for Slot {
+    ghost job = { λ s. s };
+
+    fn evaluate_copy<G: Gate>(&self, alloc: Global, gate: &G) -> Result<Done, NoMemory> {
+        let copy = copy_of_job(alloc, &self.job)?;
+        evaluate_here(alloc, gate, copy)
     }
 }

@@ -10,8 +10,7 @@ pub loop-place-preserved-then-place-len : goal.loop-place-preserved-then-place-l
 loop-place-preserved-then-place-len c =
     let fits : Placed → Type 0 = λ placed. IsAt c.args.slots.now.items placed.place placed.done.job in
     let i = c.loop-place.invariant in
-    let next = c.in-Some.ensures.steps in
-    (
+    let next = c.in-Some.ensures.steps in (
       put_same c.loop-place.slots.items c.in-Some.field-0.place _ c.put.new.self (c.put.ensures ∙ c.index_mut.ensures.value) ∙ i.0,
       All-rest fits c.in-Some.field-0 (into_iter_items c.next.new.self) (into_iter_items c.loop-place.place-iterator) next.0 i.1,
     )

@@ -13,8 +13,7 @@ loop-job-preserved c =
     let next = c.in-Some.ensures.steps in
     let front = c.loop-job.slots.items in
     let before = into_iter_items c.loop-job.job-iterator in
-    let after = into_iter_items c.next.new.self in
-    (
+    let after = into_iter_items c.next.new.self in (
       ap (λ (l : List Job). l ++ after) (c.in_ok-push.ensures.items ∙ ap (λ (x : Job). front ++ x ∷ []) c.new.ensures) ∙ one_further front before after c.args.jobs c.in-Some.job i.0 next.0,
       All-rest IsReady c.in-Some.job after before next.0 i.1,
     )
