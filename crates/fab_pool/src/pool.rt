@@ -146,7 +146,7 @@ impl Pool {
     ) -> Result<Seq<Done>, NoMemory>
         requires width { (0 < width) × (width ≤ 32) }
         requires ready { All IsReady jobs }
-        ensures { IfOk result (λ dones. map (λ d. d.job) dones ≡ jobs) }
+        ensures order { IfOk result (λ dones. map (λ d. d.job) dones ≡ jobs) }
     {
         let mut slots = slots_of(alloc, jobs)?;
         let lists = by_threads(rt, alloc, slots.as_slice(), usize::from(width), gate)?;
