@@ -79,7 +79,8 @@ module _ (g : GivenModel) (nodes : List (Option NodeModel)) (queues : Network) (
 
   pub core_answers : (n : ℕ) (job : Job) (told : Option Row) → job.program.value ≡ g.program → HasAnswer (HasJobAt (slot nodes n)) job told → TellsAnswer g w n job told
   core_answers n job told program h =
-      answer_so job told (λ (a : Row). core_has n (answered a.0 a.1 a.2 job) program) (λ (a : Row). core_back n (answered a.0 a.1 a.2 job)) h
+      answer_so (HasJobAt (slot nodes n)) (λ (j : Job). TellsJob g w n (Some j)) job told (λ (a : Row). core_has n (answered a.0 a.1 a.2 job) program)
+      (λ (a : Row). core_back n (answered a.0 a.1 a.2 job)) h
 
   pub core_requests : (n : ℕ) → length (requests_of g.program n) < 2 ^ 32
   core_requests n = (is_setting g c.given).requests n

@@ -138,7 +138,7 @@ pub decided : {P Q : Type 0} (b : Bool) → (P → Q) → (Q → P) → MatchBoo
 decided true to back h = to h
 decided false to back h = λ q. h (back q)
 
-pub answer_so : {P Q : Job → Type 0} (job : Job) (told : Option Row) → ((a : Row) → P (answered a.0 a.1 a.2 job) → Q (answered a.0 a.1 a.2 job))
+pub answer_so : (P Q : Job → Type 0) (job : Job) (told : Option Row) → ((a : Row) → P (answered a.0 a.1 a.2 job) → Q (answered a.0 a.1 a.2 job))
     → ((a : Row) → Q (answered a.0 a.1 a.2 job) → P (answered a.0 a.1 a.2 job)) → HasAnswer P job told → HasAnswer Q job told
-answer_so job None to back h = λ a q. h a (back a q)
-answer_so job (Some a) to back h = (to a h.0, h.1)
+answer_so P Q job None to back h = λ a q. h a (back a q)
+answer_so P Q job (Some a) to back h = (to a h.0, h.1)
