@@ -1,20 +1,23 @@
 -- The rest of a block goes behind others only where something is left of it.
-use Rattle.std.proofs.Common.{◌≡◌, List, [], ◌∷◌, ◌++◌, map, refl, sym, ap, ◌∙◌, subst, append_assoc}
+use Rattle.std.proofs.Common.{◌≡◌, ◌==◌, false, List, [], ◌∷◌, ◌++◌, length, map, refl, sym, ap, ◌∙◌, subst, append_assoc}
+use Rattle.std.proofs.lemmas.Bool.{true≢false}
 use Rattle.std.proofs.lemmas.List.{map-append}
 use Rattle.std.specs.List.{AllByRecursion}
 use Rattle.fab_base.specs.declared.object.Tid.{Tid}
 use Rattle.fab_base.specs.declared.object.Value.{Value}
 use Rattle.fab_base.specs.FlatMap.{FlatMap}
 use Rattle.fab_tree.specs.declared.resolved.Statement.{Statement}
+use Rattle.fab_language.specs.Heaps.{Heap}
 use Rattle.fab_language.specs.Meaning.{State, M, Run, goes, ends}
 use Rattle.fab_left.specs.Deeds.{Deed, into, again, trying}
 use Rattle.fab_left.specs.Left as left
 use Rattle.fab_left.specs.Left.{Place, Means, left, rest, tried, resume, finish, whole, wider, wider_entry, StemsIn, AllStem}
 use Rattle.fab_left.specs.Steps.{IsSplit}
 use Rattle.fab_left.proofs.Stacks.{finish_more}
-use Rattle.fab_stack.specs.Stacks.{behind}
+use Rattle.fab_stack.specs.declared.stack.Entry.{Entry}
+use Rattle.fab_stack.specs.Stacks.{behind, entries_of, trials}
 use Rattle.fab_stack.specs.Stepping.{GoesOn}
-use Rattle.fab_stack.proofs.Stacks.{leads_here}
+use Rattle.fab_stack.proofs.Stacks.{leads_here, put_one}
 
 module _ (m : Means) (first : Place) where
   over : (p : Place) (r : Run (Unit {0})) → resume m (rest p []) r ≡ r
@@ -73,3 +76,14 @@ module _ (m : Means) (tid : Tid) (does : Place → Statement → M Deed) (split 
   leads_try a b mid new e f is =
       rw (is, f) (subst (λ (l : List left.Entry). GoesOn m first tid known (ks ++ rest p (s ∷ ss) ∷ []) t l u) (sym (append_assoc (behind ks p ss) (tried p u.locals u.heap b ∷ []) (rest p a ∷ [])))
       (behind_on m first tid known (ks ++ rest p (s ∷ ss) ∷ []) t ks (tried p u.locals u.heap b ∷ rest p a ∷ []) p u ss (leads_here m tid does split first known ks p s ss t u (trying a b) _ tt e st refl)))
+
+-- ---- as it is put there
+
+pub put_behind : (old new : List Entry) (k : Entry) (p : Place) (ss : List Statement) (heaps : List Heap) → (length ss == 0) ≡ false → new ≡ old ++ k ∷ [] → trials (k ∷ []) ≡ 0 → entries_of (k ∷ []) heaps ≡ rest p ss ∷ []
+    → entries_of new heaps ≡ behind (entries_of old heaps) p ss
+put_behind old new k p [] heaps some e z is = absurd (true≢false some)
+put_behind old new k p (s ∷ ss) heaps some e z is = put_one old new k heaps e z ∙ ap (λ l. entries_of old heaps ++ l) is
+
+-- the block that is first in hand isn't empty
+pub put_first : (ks new : List left.Entry) (p : Place) (s : Statement) (ss all : List Statement) → all ≡ s ∷ ss → new ≡ behind ks p all → new ≡ ks ++ rest p all ∷ []
+put_first ks new p s ss all e is = is ∙ subst (λ (l : List Statement). behind ks p l ≡ ks ++ rest p l ∷ []) (sym e) refl

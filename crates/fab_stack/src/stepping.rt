@@ -225,7 +225,7 @@ fn next<'a, A: Acts>(
     hand: Hand<'a>,
 ) -> Result<(), Fall>
     requires matched { IsMatched stack.old.items state.old }
-    ensures steps { (first : Place) (known : FlatMap) → AllStem state.old.base.tid known (entries_of stack.old.items state.old.base.saved ++ in_hand hand ∷ []) state.old.state → Steps (A.means acts.now program.now state.old.base.tid) first state.old.base.tid known result (entries_of stack.old.items state.old.base.saved ++ in_hand hand ∷ []) state.old.state (entries_of stack.new.items state.new.base.saved) state.new.state }
+    ensures steps { (first : Place) (known : FlatMap) → AllStem state.old.base.tid known (entries_of stack.old.items state.old.base.saved ++ in_hand hand.entry ∷ []) state.old.state → Steps (A.means acts.now program.now state.old.base.tid) first state.old.base.tid known result (entries_of stack.old.items state.old.base.saved ++ in_hand hand.entry ∷ []) state.old.state (entries_of stack.new.items state.new.base.saved) state.new.state }
     ensures matched { UnlessMemory result (IsMatched stack.new.items state.new) }
     ensures attempt { UnlessMemory result (IsSameAttempt state.new.base state.old.base) }
     ensures bound { Shortens result (1 + bound stack.old.items state.old) (bound stack.new.items state.new) }
@@ -251,7 +251,7 @@ fn through<'a, A: Acts>(
 ) -> Result<Hand<'a>, Fall>
     requires matched { IsMatched stack.old.items state.old }
     requires first { hand.statements.now ≡ s.now ∷ others.now }
-    ensures steps { (first : Place) (known : FlatMap) → AllStem state.old.base.tid known (entries_of stack.old.items state.old.base.saved ++ in_hand hand ∷ []) state.old.state → Strides (A.means acts.now program.now state.old.base.tid) first state.old.base.tid known result (entries_of stack.old.items state.old.base.saved ++ in_hand hand ∷ []) state.old.state (entries_of stack.new.items state.new.base.saved) state.new.state }
+    ensures steps { (first : Place) (known : FlatMap) → AllStem state.old.base.tid known (entries_of stack.old.items state.old.base.saved ++ in_hand hand.entry ∷ []) state.old.state → Strides (A.means acts.now program.now state.old.base.tid) first state.old.base.tid known result (entries_of stack.old.items state.old.base.saved ++ in_hand hand.entry ∷ []) state.old.state (entries_of stack.new.items state.new.base.saved) state.new.state }
     ensures matched { UnlessMemory result (IsMatched stack.new.items state.new) }
     ensures attempt { UnlessMemory result (IsSameAttempt state.new.base state.old.base) }
     ensures bound { Shortens result (bound stack.old.items state.old) (bound stack.new.items state.new) }
@@ -291,7 +291,7 @@ fn follow<'a, A: Acts>(
     lead: Lead<'a>,
 ) -> Result<Hand<'a>, Fall>
     requires matched { IsMatched stack.old.items state.old }
-    ensures steps { (first : Place) (known : FlatMap) (s : AnyStatement) (before : AnyState) → hand.statements.now ≡ s ∷ others.now → A.does acts.now program.now state.old.base.tid (place hand.method.now hand.depth) s before ≡ goes (deed_of lead.entry) state.old.state → AllStem state.old.base.tid known (entries_of stack.old.items state.old.base.saved ++ rest (place hand.method.now hand.depth) (s ∷ others.now) ∷ []) before → Strides (A.means acts.now program.now state.old.base.tid) first state.old.base.tid known result (entries_of stack.old.items state.old.base.saved ++ rest (place hand.method.now hand.depth) (s ∷ others.now) ∷ []) before (entries_of stack.new.items state.new.base.saved) state.new.state }
+    ensures steps { (first : Place) (known : FlatMap) (s : AnyStatement) (before : AnyState) → hand.entry.statements.now ≡ s ∷ others.now → A.does acts.now program.now state.old.base.tid (place hand.entry.method.now hand.entry.depth) s before ≡ goes (deed_of lead.entry) state.old.state → AllStem state.old.base.tid known (entries_of stack.old.items state.old.base.saved ++ rest (place hand.entry.method.now hand.entry.depth) (s ∷ others.now) ∷ []) before → Strides (A.means acts.now program.now state.old.base.tid) first state.old.base.tid known result (entries_of stack.old.items state.old.base.saved ++ rest (place hand.entry.method.now hand.entry.depth) (s ∷ others.now) ∷ []) before (entries_of stack.new.items state.new.base.saved) state.new.state }
     ensures matched { UnlessMemory result (IsMatched stack.new.items state.new) }
     ensures attempt { UnlessMemory result (IsSameAttempt state.new.base state.old.base) }
     ensures fuel { state.new.state.fuel ≡ state.old.state.fuel }
