@@ -232,7 +232,10 @@ fn next<'a, A: Acts>(
 {
     let mut hand = hand;
     'on: while let Some((s, others)) = hand.statements.split_first() {
-        hand = through(acts, program, stack, state, hand, s, others)?;
+        match through(acts, program, stack, state, hand, s, others) {
+            Ok(then) => hand = then,
+            Err(fall) => return Err(fall),
+        }
     }
     Ok(())
 }

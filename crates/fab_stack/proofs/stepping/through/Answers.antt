@@ -34,7 +34,7 @@ returns-in-Err-Ended-Failed-clause-steps g c = λ first known st.
     let p = (place c.args.hand.method.now c.args.hand.depth) in
     fails_at (g.A.Acts.means acts program tid) tid (g.A.Acts.does acts program tid) (g.met.A.Acts.split acts program tid) first known (entries_of c.args.stack.now.items c.args.state.now.base.saved) _ p c.args.state.now.state c.act.new.state.state
     (ap (λ (b : Base). entries_of c.args.stack.now.items b.saved) c.in-Err-Ended-Failed.ensures.base) c.args.s.now c.args.others.now c.args.hand.statements.now c.requires.first
-    (subst (λ (h : Halt). Leads (Err h) c.act.new.state (g.A.Acts.does acts program tid p c.args.s.now c.args.state.now.state)) (c.in-Err-Ended-Failed.field-0-is ∙ ap Ended (rw c.in-Err-Ended-Failed.field-0-is at c.in-Err-Ended-Failed.field-0-0-is)) (c.in-Err-Ended-Failed.ensures.gives c.args.hand.depth)) st
+    (subst (λ (h : Halt). Leads (Err h) c.act.new.state (g.A.Acts.does acts program tid p c.args.s.now c.args.state.now.state)) (c.in-Err-Ended-Failed.field-0-is ∙ ap Ended c.in-Err-Ended-Failed.field-0-0-is) (c.in-Err-Ended-Failed.ensures.gives c.args.hand.depth)) st
 
 pub returns-in-Err-Ended-Stopped-clause-steps : goal.returns-in-Err-Ended-Stopped-clause-steps
 returns-in-Err-Ended-Stopped-clause-steps g c = λ first known st.
@@ -44,7 +44,7 @@ returns-in-Err-Ended-Stopped-clause-steps g c = λ first known st.
     let p = (place c.args.hand.method.now c.args.hand.depth) in
     stops_all (g.A.Acts.means acts program tid) first tid known (entries_of c.args.stack.now.items c.args.state.now.base.saved ++ in_hand c.args.hand ∷ []) (entries_of c.args.stack.now.items c.args.state.now.base.saved) c.args.state.now.state c.act.new.state.state c.in-Err-Ended-Stopped.stop
     (stops_at (g.A.Acts.means acts program tid) tid (g.A.Acts.does acts program tid) (g.met.A.Acts.split acts program tid) first known (entries_of c.args.stack.now.items c.args.state.now.base.saved) _ p c.args.state.now.state c.act.new.state.state refl c.args.s.now c.args.others.now c.args.hand.statements.now c.in-Err-Ended-Stopped.stop c.requires.first
-    (subst (λ (h : Halt). Leads (Err h) c.act.new.state (g.A.Acts.does acts program tid p c.args.s.now c.args.state.now.state)) (c.in-Err-Ended-Stopped.field-0-is ∙ ap Ended (rw c.in-Err-Ended-Stopped.field-0-is at c.in-Err-Ended-Stopped.field-0-0-is)) (c.in-Err-Ended-Stopped.ensures.gives c.args.hand.depth)) st)
+    (subst (λ (h : Halt). Leads (Err h) c.act.new.state (g.A.Acts.does acts program tid p c.args.s.now c.args.state.now.state)) (c.in-Err-Ended-Stopped.field-0-is ∙ ap Ended c.in-Err-Ended-Stopped.field-0-0-is) (c.in-Err-Ended-Stopped.ensures.gives c.args.hand.depth)) st)
 
 pub returns-in_ok-put-in-Err-Ended-Missing-clause-steps : goal.returns-in_ok-put-in-Err-Ended-Missing-clause-steps
 returns-in_ok-put-in-Err-Ended-Missing-clause-steps g c = λ first known st.
@@ -57,7 +57,7 @@ returns-in_ok-put-in-Err-Ended-Missing-clause-steps g c = λ first known st.
     (misses_at (g.A.Acts.means acts program tid) tid (g.A.Acts.does acts program tid) (g.met.A.Acts.split acts program tid) first known (entries_of c.args.stack.now.items c.args.state.now.base.saved) _ p c.args.state.now.state c.act.new.state.state c.args.s.now c.args.others.now c.args.hand.statements.now c.in-Err-Ended-Missing.site c.in-Err-Ended-Missing.oid
     (ap (λ (b : Base). entries_of c.put.new.stack.items b.saved) c.in-Err-Ended-Missing.ensures.base
     ∙ put_first (entries_of c.args.stack.now.items c.args.state.now.base.saved) _ p c.args.s.now c.args.others.now c.args.hand.statements.now c.requires.first (c.in_ok-put-in-Err-Ended-Missing.ensures.entries c.args.state.now.base.saved))
-    c.requires.first (subst (λ (h : Halt). Leads (Err h) c.act.new.state (g.A.Acts.does acts program tid p c.args.s.now c.args.state.now.state)) (c.in-Err-Ended-Missing.field-0-is ∙ ap Ended (rw c.in-Err-Ended-Missing.field-0-is at c.in-Err-Ended-Missing.field-0-0-is)) (c.in-Err-Ended-Missing.ensures.gives c.args.hand.depth)))
+    c.requires.first (subst (λ (h : Halt). Leads (Err h) c.act.new.state (g.A.Acts.does acts program tid p c.args.s.now c.args.state.now.state)) (c.in-Err-Ended-Missing.field-0-is ∙ ap Ended c.in-Err-Ended-Missing.field-0-0-is) (c.in-Err-Ended-Missing.ensures.gives c.args.hand.depth)))
 
 pub returns-in_ok-put-in-Err-Ended-Missing-clause-matched : goal.returns-in_ok-put-in-Err-Ended-Missing-clause-matched
 returns-in_ok-put-in-Err-Ended-Missing-clause-matched g c =
