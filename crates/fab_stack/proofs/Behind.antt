@@ -4,7 +4,6 @@ use Rattle.std.proofs.lemmas.Bool.{true≢false}
 use Rattle.std.proofs.lemmas.List.{map-append}
 use Rattle.std.specs.List.{AllByRecursion}
 use Rattle.fab_base.specs.declared.object.Tid.{Tid}
-use Rattle.fab_base.specs.declared.object.Value.{Value}
 use Rattle.fab_base.specs.FlatMap.{FlatMap}
 use Rattle.fab_tree.specs.declared.resolved.Statement.{Statement}
 use Rattle.fab_language.specs.Heaps.{Heap}

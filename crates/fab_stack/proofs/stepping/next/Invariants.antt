@@ -1,6 +1,5 @@
-use Rattle.std.proofs.Common.{List, [], ◌∷◌, ◌++◌, ◌≤◌}
+use Rattle.std.proofs.Common.{[], ◌∷◌, ◌++◌, ◌≤◌}
 use Rattle.fab_base.specs.FlatMap.{FlatMap}
-use Rattle.fab_left.specs.Left as left
 use Rattle.fab_left.specs.Left.{AllStem, Place}
 use Rattle.fab_stack.specs.Stacks.{entries_of, in_hand}
 use Rattle.fab_stack.specs.Stepping.{GoesOn, IsMatched, IsSameAttempt, bound}
