@@ -31,13 +31,13 @@ use Rattle.fab_laws.proofs.Locality.{over_more, part_agrees}
 use Rattle.fab_rights.specs.declared.rights.Rights.{Rights}
 use Rattle.fab_rights.proofs.Bits.{has_bit_exact}
 use Rattle.fab_attempts.specs.Sessions.{requests_in, requests_of}
-use Rattle.fab_evaluation.proofs.Sessions as sessions
 use Rattle.fab_shapes.proofs.Courses.{at_end}
 use Rattle.fab_world.specs.Machine.{Setting}
 use Rattle.fab_integrity.proofs.Invariant.{In}
 use Rattle.fab_integrity.proofs.Lists.{each_of, filter_none}
 use Rattle.fab_settings.specs.Settings.{IsAcceptedWith, meant_of, request_at, setting_of}
 use Rattle.fab_ended.proofs.Sessions.{sessions_are_honest}
+use Rattle.fab_alone.proofs.Sessions as sessions
 use Rattle.fab_alone.specs.Alone.{IsAlone, IsSameOverMore, NoneLacks, first_tid, map_behind, meant_behind}
 
 -- ---- the numbers of nodes

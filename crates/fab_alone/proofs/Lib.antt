@@ -22,6 +22,8 @@ pub mod Steps
 pub mod Runs
 -- computed on small runs
 mod AloneExamples
+-- the sessions of a bundle
+pub mod Sessions
 -- the evaluation of a bundle, and its runs
 pub mod Courses
 pub mod Bundles

@@ -1,6 +1,3 @@
-pub mod Answering
-pub mod Few
-pub mod Meeting
-pub mod Old
 pub mod RootObjects
-pub mod Sessions
+pub mod Running
+pub mod Turning

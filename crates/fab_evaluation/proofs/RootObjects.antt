@@ -1,19 +1,15 @@
--- The objects of roots have names of their own, and no request made them.
-use Rattle.std.proofs.Common.{◌≡◌, ◌+◌, ◌<◌, ℕ, zero, suc, true, false, if◌then◌else◌, List, [], ◌∷◌, Option, Some, None, slice_get, subst, refl, sym, ap, ◌∙◌, arith}
+-- The objects of roots have names of their own.
+use Rattle.std.proofs.Common.{◌≡◌, ◌+◌, ◌<◌, ℕ, zero, suc, false, List, [], ◌∷◌, Option, Some, None, slice_get, subst, refl, sym, ap, ◌∙◌, arith}
 use Rattle.std.specs.List.{IsDistinct, AllByRecursion}
 use Rattle.std.specs.Map.{keys_of}
 use Rattle.fab_base.specs.declared.object.Oid.{Oid}
-use Rattle.fab_base.specs.declared.object.Tid.{Tid}
-use Rattle.fab_base.specs.FlatMap.{is_same, get, map_of}
-use Rattle.fab_base.proofs.NameOrder.{one_name}
-use Rattle.fab_map.proofs.Made.{get-map_of}
+use Rattle.fab_base.specs.FlatMap.{is_same}
 use Rattle.fab_tree.specs.declared.start.Root.{Root as WrittenRoot}
 use Rattle.fab_tree.specs.declared.start.Start.{Start}
 use Rattle.fab_tree.specs.declared.resolved.Root.{Root}
 use Rattle.fab_tree.specs.declared.resolved.Resolved.{Resolved}
-use Rattle.fab_language.specs.Numbers.{resolved, roots_from, oid_of, values_of}
+use Rattle.fab_language.specs.Numbers.{resolved, roots_from}
 use Rattle.fab_language.specs.Evaluation.{rows_of}
-use Rattle.fab_laws.specs.Changes.{IsUnmade}
 use Rattle.fab_lines.specs.Numbered.{AreNumbered}
 use Rattle.fab_lines.proofs.Roots.{NumberedFrom, behind_first, same_number, not_same}
 use Rattle.fab_evaluation.specs.Roots.{IsResolved}
@@ -51,20 +47,6 @@ numbered_from s k (y ∷ ys) (suc n) x e = let a = numbered_from s (suc k) ys n 
 -- the roots of a bundle stand at their numbers
 pub numbered : (s : Start) → AreNumbered (resolved s).roots
 numbered s n x e = let a = numbered_from s 0 s.roots n x e in omega (arith, a)
-
--- ---- attempts
-
--- no root was made in an attempt of boot 1
-none_of : (s : Start) (k : ℕ) (roots : List WrittenRoot) (o : Oid) → o.boot ≡ 1 → get (rows_of (roots_from s k roots)) o ≡ None
-none_of s k [] o h = refl
-none_of s k (y ∷ ys) o h =
-    elim (is_same (oid_of s k y) o) as (λ b. is_same (oid_of s k y) o ≡ b → (if b then Some (record { class = (oid_of s k y).class; fields = values_of s y.values }) else get (rows_of (roots_from s (suc k) ys)) o) ≡ None) [
-      | true ↦ λ e. let boots : 0 ≡ o.boot = ap (λ (q : Oid). q.boot) (one_name (oid_of s k y) o e) in absurd (omega (arith, boots, h))
-      | false ↦ λ e. none_of s (suc k) ys o h
-    ] refl
-
-pub unmade_at_start : (s : Start) (t : Tid) → t.boot ≡ 1 → IsUnmade t (map_of (rows_of (resolved s).roots))
-unmade_at_start s t h o own = get-map_of (rows_of (resolved s).roots) o (distinct (resolved s).roots (numbered s)) ∙ none_of s 0 s.roots o (own.boot ∙ h)
 
 -- ---- the roots of a bundle with numbers for names
 

@@ -1,4 +1,2 @@
-pub mod Answered
-pub mod Attempts
 pub mod Roots
-pub mod Turns
+pub mod Singles

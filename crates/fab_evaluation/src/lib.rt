@@ -2,7 +2,6 @@
 //! start.
 #![tactic(auto)]
 
-mod answers;
 mod objects;
 mod outcomes;
 mod sequence;

@@ -2,8 +2,6 @@
 ghost use Rattle.std.specs.Prelude.{◌≡◌, ◌++◌, IfOk, OnOk, flat_map, map};
 ghost use Rattle.fab_base.specs.FlatMap.{put_all};
 ghost use Rattle.fab_language.specs.Evaluation.{asked_at, in_turn, requests_of};
-ghost use Rattle.fab_nested.specs.Nested.{objects_of};
-ghost use Rattle.fab_evaluation.specs.Attempts.{IsOld};
 
 use crate::single::{Single, run_one};
 use fab_base::{NoMemory, Object, Oid, Seq};
@@ -28,7 +26,6 @@ pub(crate) fn run(
     objects: ObjectMap,
     requests: &[Request],
 ) -> Result<Ran, NoMemory>
-    requires { IsOld objects requests.now }
     ensures endings { IfOk result (λ r. r.endings ≡ (in_turn program.now.value objects requests.now).endings) }
     ensures map { IfOk result (λ r. r.map ≡ (in_turn program.now.value objects requests.now).map) }
 {
@@ -36,35 +33,19 @@ pub(crate) fn run(
     let mut endings = Seq::new(alloc);
     let mut rest = requests;
     'requests: while let Some((request, after)) = rest.split_first() {
-        let request = copy_of_request(alloc, request)?;
-        let Single {
-            ending,
-            writes,
-            creates,
-        } = run_one(alloc, program, &map, request)?;
-        put_writes(&mut map, writes)?;
-        put_creates(&mut map, creates)?;
+        let Single { ending, changed } = run_one(alloc, program, &map, request)?;
+        put_changed(&mut map, changed)?;
         endings.push(ending)?;
         rest = after;
     }
     Ok(Ran { endings, map })
 }
 
-/// Puts what a request wrote into the map.
-fn put_writes(map: &mut ObjectMap, writes: Seq<(Oid, u32, Object)>) -> Result<(), NoMemory>
-    ensures { OnOk result (map.new ≡ put_all (objects_of writes) map.old) }
+/// Puts what a request changed into the map.
+fn put_changed(map: &mut ObjectMap, changed: Seq<(Oid, Object)>) -> Result<(), NoMemory>
+    ensures { OnOk result (map.new ≡ put_all changed map.old) }
 {
-    'writes: for (oid, _version, object) in writes.into_vec() {
-        map.put(oid, object)?;
-    }
-    Ok(())
-}
-
-/// Puts what a request made into the map.
-fn put_creates(map: &mut ObjectMap, creates: Seq<(Oid, Object)>) -> Result<(), NoMemory>
-    ensures { OnOk result (map.new ≡ put_all creates map.old) }
-{
-    'creates: for (oid, object) in creates.into_vec() {
+    'changed: for (oid, object) in changed.into_vec() {
         map.put(oid, object)?;
     }
     Ok(())

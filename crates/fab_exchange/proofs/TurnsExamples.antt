@@ -42,9 +42,8 @@ use Rattle.fab_core.specs.declared.applied.Applied.TheVariants as a
 use Rattle.fab_core.proofs.Tables.{node_below}
 use Rattle.fab_exchange.specs.Dues.{comes, crashes, form_at, found_at, is_some_due, own_at, posts, posts_to}
 use Rattle.fab_exchange.specs.Exchanges.{AreCounts, IsMarked, has_mark, none_yet}
-use Rattle.fab_exchange.specs.Jobs.{IsSameJob}
 use Rattle.fab_exchange.specs.Tallies.{counted_in, crashed_in}
-use Rattle.fab_exchange.specs.Turns.{Acts, AreOver, Asks, ChangeAt, Ends, IsBack, IsCurrent, IsFailed, IsOf, Takes, Waits, due, follows, is_resume, node_with}
+use Rattle.fab_exchange.specs.Turns.{Acts, AreOver, Asks, ChangeAt, Ends, IsCurrent, IsFailed, IsOf, Leaves, Takes, Waits, due, follows, is_resume, node_with}
 use Rattle.fab_exchange.specs.declared.counting.Count.{Count}
 use Rattle.fab_exchange.specs.declared.found.Found.TheVariants as f
 use Rattle.fab_exchange.proofs.Finds.{is_over, none_due}
@@ -306,21 +305,14 @@ module _ (done : Done) (program : done.job.program.value ≡ asked.program) (req
     came = record { applied = a.Whole; follows = resume_may_follow; moves = refl; journals = none_fails 0 js };
   }
 
-  not_back : (back : Done) (new : List Move) → IsBack asked 0 done back (behind (e.Begin 0 ∷ [])) new → ⊥
-  not_back back new h = h.stale (first_job done.job program request answers tid)
+  not_left : (new : List Move) → Leaves asked 0 done (behind (e.Begin 0 ∷ [])) new → ⊥
+  not_left new h = h.stale (first_job done.job program request answers tid)
 
-back_before : (done : Done) → IsBack asked 0 done done [] []
-back_before done = record { stale = no_job_yet done.job; back_is = refl; moves = refl }
+left_before : (done : Done) → Leaves asked 0 done [] []
+left_before done = record { stale = no_job_yet done.job; moves = refl }
 
 not_taken_before : (done : Done) (old new : List (Option JournalModel)) (moves : List Move) → Takes 0 done (core asked [] old) (core asked moves new) → ⊥
 not_taken_before done old new moves h = no_job_yet done.job h.current
-
-same_job : (job : Job) → IsSameJob job job
-same_job job = record { request = refl; tid = refl; answers = refl }
-
--- the same request at another attempt
-another_job : (a b : Job) → a.tid.number ≡ 1 → b.tid.number ≡ 2 → IsSameJob a b → ⊥
-another_job a b first later h = let same : 1 ≡ 2 = sym first ∙ ap (λ (t : Tid). t.number) h.tid ∙ later in omega (arith, same)
 
 -- ---- counts
 

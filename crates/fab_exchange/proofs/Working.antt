@@ -10,7 +10,7 @@ use Rattle.fab_node.specs.Standing.{GivenModel}
 use Rattle.fab_core.specs.Cores.{setting, world_by}
 use Rattle.fab_core.specs.Telling.{TellsJob, is_at_work}
 use Rattle.fab_core.proofs.Steady.{all_steady}
-use Rattle.fab_exchange.specs.Jobs.{IsTold}
+use Rattle.fab_pauses.specs.Jobs.{IsThere}
 use Rattle.fab_exchange.specs.Turns.{IsCurrent}
 
 same_some : {A : Type 0} {x y : A} → Some x ≡ Some y → x ≡ y
@@ -41,7 +41,7 @@ module _ (g : GivenModel) (moves : List Move) (n : ℕ) where
   none_at_work run can tells = true≢false (sym (at_work run can) ∙ tells)
 
   -- the job that was told is the one of the worker, and no other is
-  pub current : (told : Option Job) (job : Job) → TellsJob g (world_by g moves) n told → IsTold told job → job.program.value ≡ g.program → IsCurrent g moves n job
+  pub current : (told : Option Job) (job : Job) → TellsJob g (world_by g moves) n told → IsThere told job → job.program.value ≡ g.program → IsCurrent g moves n job
   current None job tells h program = absurd h
   current (Some x) job tells h program = record {
     at_work = tells.0;
@@ -54,7 +54,7 @@ module _ (g : GivenModel) (moves : List Move) (n : ℕ) where
     };
   }
 
-  pub stale : (told : Option Job) (job : Job) → TellsJob g (world_by g moves) n told → (IsTold told job → ⊥) → IsCurrent g moves n job → ⊥
+  pub stale : (told : Option Job) (job : Job) → TellsJob g (world_by g moves) n told → (IsThere told job → ⊥) → IsCurrent g moves n job → ⊥
   stale None job tells other h = true≢false (sym h.at_work ∙ tells)
   stale (Some x) job tells other h = other (record {
     request = same_some (sym tells.1.request ∙ h.job_is.request);

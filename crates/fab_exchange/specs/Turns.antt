@@ -175,15 +175,15 @@ pub record Takes (n : ℕ) (done : Done) (old new : CoreModel) : Type 0 where
   pub may : IsTrue (follows old.given old.moves (form_of (unmarked event)))
   pub came : HasCome n event old new
 
-pub record IsBack (g : GivenModel) (n : ℕ) (done back : Done) (old new : List Move) : Type 0 where
+-- it isn't what the worker has to evaluate, and no event came
+pub record Leaves (g : GivenModel) (n : ℕ) (done : Done) (old new : List Move) : Type 0 where
   pub stale : IsCurrent g old n done.job → ⊥
-  pub back_is : back ≡ done
   pub moves : new ≡ old
 
 abbrev pub Gives : ℕ → Done → CoreModel → CoreModel → Given → Type 0
 Gives n done old new given.Taken = Takes n done old new
-Gives n done old new (given.Stale back) = IsBack old.given n done back old.moves new.moves
+Gives n done old new given.Stale = Leaves old.given n done old.moves new.moves
 
 abbrev pub IsStale : Given → Type 0
 IsStale given.Taken = ⊥
-IsStale (given.Stale back) = Unit {0}
+IsStale given.Stale = Unit {0}

@@ -9,9 +9,8 @@ mod exchange;
 mod finding;
 mod found;
 mod lines;
-mod same;
 mod taking;
 mod turn;
 
 pub use exchange::Exchange;
-pub use turn::{GiveRefused, Given, Turn};
+pub use turn::{Given, Turn};

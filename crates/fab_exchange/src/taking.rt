@@ -1,17 +1,17 @@
 //! Whose turn it is, and what comes of it.
-ghost use Rattle.std.specs.Prelude.{◌≡◌, IfOk, IfErr, OnErr};
+ghost use Rattle.std.specs.Prelude.{◌≡◌, IfOk, OnErr};
 ghost use Rattle.std.specs.Bool.{MatchBool};
-ghost use Rattle.fab_exchange.specs.Jobs.{IsTold};
+ghost use Rattle.fab_pauses.specs.Jobs.{IsThere};
 ghost use Rattle.fab_exchange.specs.Turns.{AreAsSure, Gives, IsStale, IsStill, NoneCame, Turns};
 
 use crate::exchange::Exchange;
 use crate::found::Found;
-use crate::same::is_same_job;
-use crate::turn::{GiveRefused, Given, Turn};
+use crate::turn::{Given, Turn};
 use fab_base::NoMemory;
 use fab_device::Journal;
 use fab_eval::{Done, Job};
 use fab_net::{Event, Inner};
+use fab_pauses::is_same_job;
 
 impl<J: Journal> Exchange<J> {
     /// An event of a node comes that is due; or its evaluation is asked for, whose end is due; or it is to wait, exactly where none
@@ -50,33 +50,28 @@ impl<J: Journal> Exchange<J> {
         }
     }
 
-    /// What a worker's job came to is taken, and the worker goes on. It is given back exactly where it isn't what the worker has to
-    /// evaluate, and then nothing changes.
-    pub fn give(&mut self, node: u16, done: Done) -> Result<Given, GiveRefused>
-        requires program { done.job.program.value ≡ self.old.given.program }
+    /// What a worker's job came to is taken, and the worker goes on. It isn't exactly where it isn't what the worker has to evaluate, and
+    /// then nothing changes.
+    pub fn give(&mut self, node: u16, done: &Done) -> Result<Given, NoMemory>
+        requires program { done.now.job.program.value ≡ self.old.given.program }
         ensures given { self.new.given ≡ self.old.given }
-        ensures gives { IfOk result (Gives node done self.old self.new) }
+        ensures gives { IfOk result (Gives node done.now self.old self.new) }
         ensures stale { IfOk result (λ given. IsStale given → self.new ≡ self.old) }
-        ensures back { IfErr result (λ e. e.done ≡ done) }
         ensures memory { OnErr result (NoneCame node self.old self.new) }
         ensures sure { AreAsSure self.old.journals self.new.journals }
     {
-        let Ok(told) = self.core.job(node) else {
-            return Err(GiveRefused { done });
-        };
+        let told = self.core.job(node)?;
         if !is_current(told, &done.job) {
-            return Ok(Given::Stale(done));
+            return Ok(Given::Stale);
         }
-        match self.does(Inner::Resume(node), Some(&done)) {
-            Ok(()) => Ok(Given::Taken),
-            Err(_) => Err(GiveRefused { done }),
-        }
+        self.does(Inner::Resume(node), Some(done))?;
+        Ok(Given::Taken)
     }
 }
 
 /// Whether a job is the one that was told.
 fn is_current(told: Option<Job>, job: &Job) -> bool
-    ensures { MatchBool result (IsTold told job.now) (IsTold told job.now → ⊥) }
+    ensures { MatchBool result (IsThere told job.now) (IsThere told job.now → ⊥) }
 {
     match told {
         Some(current) => is_same_job(&current, job),

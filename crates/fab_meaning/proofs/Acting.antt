@@ -9,13 +9,13 @@ use Rattle.fab_tree.specs.declared.resolved.Expression.{Expression}
 use Rattle.fab_tree.specs.declared.resolved.Statement.{Statement, roll-Statement}
 use Rattle.fab_tree.specs.declared.resolved.Statement.TheVariants as tree
 use Rattle.fab_tree.specs.declared.resolved.Statement.TheOpen as form
-use Rattle.fab_language.specs.Meaning.{State, and_then, create, failed, goes, ends, gives, ◌>>=◌, ◌>>◌, charge, local}
-use Rattle.fab_erasure.specs.Erased.{fields_shown, write_shown}
+use Rattle.fab_language.specs.Meaning.{State, and_then, create, failed, goes, ends, gives, ◌>>◌, charge}
+use Rattle.fab_erasure.specs.Erased.{fields_shown}
 use Rattle.fab_left.specs.ErasedActs as erased
-use Rattle.fab_left.specs.Deeds.{passed, trying, entering}
+use Rattle.fab_left.specs.Deeds.{passed, trying}
 use Rattle.fab_left.proofs.ActForms.{erased_act_is}
 use Rattle.fab_meaning.specs.declared.setting.Setting.{Setting}
-use Rattle.fab_meaning.specs.Settings.{act, choice, making, repeat, right_act, takes, value, values}
+use Rattle.fab_meaning.specs.Settings.{act, calling, choice, making, repeat, right_act, takes, values, writing}
 use Rattle.fab_meaning.specs.Sights.{sees, shows}
 
 module _ (c : Setting) (m : Method) (tid : Tid) where
@@ -26,10 +26,10 @@ module _ (c : Setting) (m : Method) (tid : Tid) where
   act_assign x r at = ap (act c m tid) (sym (tree.rolls-Assign x r at)) ∙ opened (form.Assign x r at)
 
   pub act_write : (x : Use) (field : ℕ) (e : Expression) (site : ℕ)
-      → act c m tid (tree.Write x field e site) ≡ (charge >> (value c m e >>= λ v. local x.number >>= λ o. write_shown (sees c.sight) (shows c.sight) site field v o >> gives passed))
+      → act c m tid (tree.Write x field e site) ≡ (charge >> writing c m x field e site)
   act_write x field e site = ap (act c m tid) (sym (tree.rolls-Write x field e site)) ∙ opened (form.Write x field e site)
 
-  pub act_call : (n : Use) (args : List Expression) → act c m tid (tree.Call n args) ≡ (charge >> (values c m args >>= λ vs. gives (entering n.number vs None)))
+  pub act_call : (n : Use) (args : List Expression) → act c m tid (tree.Call n args) ≡ (charge >> calling c m n args None)
   act_call n args = ap (act c m tid) (sym (tree.rolls-Call n args)) ∙ opened (form.Call n args)
 
   pub act_if : (e : Expression) (a b : List Statement) → act c m tid (tree.If e a b) ≡ (charge >> choice c m e a b)

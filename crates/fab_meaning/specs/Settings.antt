@@ -11,11 +11,11 @@ use Rattle.fab_tree.specs.declared.resolved.Method.{Method}
 use Rattle.fab_tree.specs.declared.resolved.Right.{Right}
 use Rattle.fab_tree.specs.declared.resolved.Statement.{Statement}
 use Rattle.fab_tree.specs.declared.resolved.Use.{Use}
-use Rattle.fab_language.specs.Meaning.{M, ◌>>=◌, ◌>>◌, gives, create, holds, noted_down}
+use Rattle.fab_language.specs.Meaning.{M, ◌>>=◌, ◌>>◌, gives, create, holds, local, noted_down}
 use Rattle.fab_labelling.specs.Obligations.{class_of_local, label_of_local}
 use Rattle.fab_erasure.specs.Erased as e
 use Rattle.fab_erasure.specs.Erased.{Part}
-use Rattle.fab_left.specs.Deeds.{Deed, passed, into, again}
+use Rattle.fab_left.specs.Deeds.{Deed, passed, into, again, entering}
 use Rattle.fab_left.specs.ErasedActs as erased
 use Rattle.fab_meaning.specs.declared.setting.Setting.{Setting}
 use Rattle.fab_meaning.specs.declared.setting.Sight.{Sight}
@@ -72,6 +72,18 @@ blank_of m x = e.blank_of (λ l. true) (λ l. true) [] m.locals (slice_get m.loc
 
 abbrev pub downgraded : Sight → Value → ℕ → ℕ → Value → M Value
 downgraded sight blank from to v = e.downgraded (sees sight) (shows sight) [] [] blank from to v
+
+-- a field of the object of a local is written
+abbrev pub writing : Setting → Method → Use → ℕ → Expression → ℕ → M Deed
+writing c m x field y site = do
+  v ← value c m y
+  o ← local x.number
+  e.write_shown (sees c.sight) (shows c.sight) site field v o
+  gives passed
+
+-- a method is called with what arguments come to
+abbrev pub calling : Setting → Method → Use → List Expression → Option ℕ → M Deed
+calling c m n xs target = values c m xs >>= λ vs. gives (entering n.number vs target)
 
 -- a local takes an object of what arguments come to
 abbrev pub making : Setting → Method → Tid → ℕ → ℕ → ℕ → ℕ → List Expression → M Deed

@@ -1,15 +1,17 @@
 //! What a statement does at once. What only unseen values decide isn't done.
-ghost use Rattle.std.specs.Prelude.{◌≡◌, Ok};
+ghost use Rattle.std.specs.Prelude.{◌≡◌, Ok, if◌then◌else◌};
+ghost use Rattle.fab_left.specs.Deeds.{passed, trying};
 ghost use Rattle.fab_stack.specs.Gives.{Gives};
-ghost use Rattle.fab_stack.specs.Leads.{Leads, Lowers};
-ghost use Rattle.fab_meaning.specs.Settings.{act, blank_of, choice, downgraded, lowering, making, repeat, right_act, takes};
+ghost use Rattle.fab_stack.specs.Leads.{Leads, Lowers, deed_of};
+ghost use Rattle.fab_meaning.specs.Settings.{act, blank_of, calling, choice, downgraded, lowering, making, repeat, right_act, takes, writing};
+ghost use Rattle.fab_meaning.specs.Sights.{sees};
 
 use crate::expressions::{value, values};
 use crate::setting::{Setting, Sight};
 use crate::shown::{fields_shown, is_seen, sees_local, shown_if, write_shown};
 use fab_base::{Seq, Value};
 use fab_stack::{End, Halt, Lead, State};
-use fab_tree::resolved::{Expression, Method, Right, Statement};
+use fab_tree::resolved::{Expression, Method, Right, Statement, Use};
 use fab_values::{default, holds};
 
 /// Does what a statement does at once, which costs 1.
@@ -32,38 +34,77 @@ pub(crate) fn act<'a>(
             field,
             value: e,
             site,
-        } => {
-            let v = value(setting, method, state, e)?;
-            let at = state.local(object.number);
-            write_shown(setting.sight, state, *site, *field, v, at)?;
-            Ok(Lead::Passed)
-        }
+        } => writing(setting, state, method, *object, *field, e, *site),
         Statement::Call {
             method: other,
             arguments,
-        } => {
-            let args = values(setting, method, state, arguments.as_slice())?;
-            Ok(Lead::Enter(other.number, args, None))
-        }
+        } => calling(setting, state, method, *other, arguments, None),
         Statement::If {
             condition,
             block,
             otherwise,
-        } => { choice(setting, state, method, condition, block, otherwise) }
+        } => choice(setting, state, method, condition, block, otherwise),
         Statement::While { condition, block } => repeat(setting, state, method, condition, block),
         Statement::Atomic {
             label,
             block,
             otherwise,
             ..
-        } => {
-            Ok(if setting.sight.sees(label.number) {
-                Lead::Try(block.as_slice(), otherwise.as_slice())
-            } else {
-                Lead::Passed
-            })
-        }
+        } => Ok(trial(setting.sight, *label, block, otherwise)),
         Statement::Fail { .. } => Err(Halt::Ended(End::Failed)),
+    }
+}
+
+/// Writes what an expression comes to into a field of the object of a local.
+fn writing<'a>(
+    setting: &Setting<'_>,
+    state: &mut State<'_>,
+    method: &Method,
+    object: Use,
+    field: u16,
+    e: &Expression,
+    site: u16,
+) -> Result<Lead<'a>, Halt>
+    ensures gives { Leads result state.new (writing setting.now method.now object field e.now site state.old.state) }
+    ensures base { state.new.base ≡ state.old.base }
+    ensures fuel { state.new.state.fuel ≡ state.old.state.fuel }
+{
+    let v = value(setting, method, state, e)?;
+    let at = state.local(object.number);
+    write_shown(setting.sight, state, site, field, v, at)?;
+    Ok(Lead::Passed)
+}
+
+/// Calls a method with what arguments come to; a local takes what it gives, or none.
+fn calling<'a>(
+    setting: &Setting<'_>,
+    state: &mut State<'_>,
+    method: &Method,
+    other: Use,
+    arguments: &Seq<Expression>,
+    target: Option<u16>,
+) -> Result<Lead<'a>, Halt>
+    ensures gives { Leads result state.new (calling setting.now method.now other arguments.now target state.old.state) }
+    ensures base { state.new.base ≡ state.old.base }
+    ensures fuel { state.new.state.fuel ≡ state.old.state.fuel }
+{
+    let args = values(setting, method, state, arguments.as_slice())?;
+    Ok(Lead::Enter(other.number, args, target))
+}
+
+/// Tries a block before another, if the label of the trial is seen.
+fn trial<'a>(
+    sight: Sight,
+    label: Use,
+    block: &'a Seq<Statement>,
+    otherwise: &'a Seq<Statement>,
+) -> Lead<'a>
+    ensures { deed_of result ≡ (if sees sight label.number then trying block.now otherwise.now else passed) }
+{
+    if sight.sees(label.number) {
+        Lead::Try(block.as_slice(), otherwise.as_slice())
+    } else {
+        Lead::Passed
     }
 }
 
@@ -136,46 +177,23 @@ fn assignment<'a>(
         Right::Call {
             method: other,
             arguments,
-        } => {
-            let args = values(setting, method, state, arguments.as_slice())?;
-            Ok(Lead::Enter(other.number, args, Some(local)))
-        }
+        } => calling(setting, state, method, *other, arguments, Some(local)),
         Right::New {
             class,
             store,
             arguments,
             site,
             ..
-        } => {
-            making(
-                setting,
-                state,
-                method,
-                local,
-                store.number,
-                class.number,
-                *site,
-                arguments.as_slice(),
-            )
-        }
+        } => making(
+            setting, state, method, local, *store, *class, *site, arguments,
+        ),
         Right::Downgrade {
             value: e,
             from,
             to,
             site,
             ..
-        } => {
-            lowering(
-                setting,
-                state,
-                method,
-                local,
-                from.number,
-                to.number,
-                *site,
-                e,
-            )
-        }
+        } => lowering(setting, state, method, local, *from, *to, *site, e),
     }
 }
 
@@ -185,18 +203,18 @@ fn making<'a>(
     state: &mut State<'_>,
     method: &Method,
     local: u16,
-    store: u16,
-    class: u16,
+    store: Use,
+    class: Use,
     site: u16,
-    arguments: &[Expression],
+    arguments: &Seq<Expression>,
 ) -> Result<Lead<'a>, Halt>
-    ensures gives { Leads result state.new (making setting.now method.now state.old.base.tid local store class site arguments.now state.old.state) }
+    ensures gives { Leads result state.new (making setting.now method.now state.old.base.tid local store.number class.number site arguments.now state.old.state) }
     ensures base { state.new.base ≡ state.old.base }
     ensures fuel { state.new.state.fuel ≡ state.old.state.fuel }
 {
-    let fields = values(setting, method, state, arguments)?;
-    let shown = fields_shown(state.alloc(), setting.sight, class, fields)?;
-    let v = state.create(store, class, site, shown)?;
+    let fields = values(setting, method, state, arguments.as_slice())?;
+    let shown = fields_shown(state.alloc(), setting.sight, class.number, fields)?;
+    let v = state.create(store.number, class.number, site, shown)?;
     take(setting.sight, state, method, local, v);
     Ok(Lead::Passed)
 }
@@ -207,17 +225,18 @@ fn lowering<'a>(
     state: &mut State<'_>,
     method: &Method,
     local: u16,
-    from: u16,
-    to: u16,
+    from: Use,
+    to: Use,
     site: u16,
     e: &Expression,
 ) -> Result<Lead<'a>, Halt>
-    ensures gives { Leads result state.new (lowering setting.now method.now local from to site e.now state.old.state) }
+    ensures gives { Leads result state.new (lowering setting.now method.now local from.number to.number site e.now state.old.state) }
     ensures base { state.new.base ≡ state.old.base }
     ensures fuel { state.new.state.fuel ≡ state.old.state.fuel }
 {
     let v = value(setting, method, state, e)?;
-    let down = downgraded(setting.sight, state, blank_of(method, local), from, to, v);
+    let blank = blank_of(method, local);
+    let down = downgraded(setting.sight, state, blank, from.number, to.number, v);
     let noted = state.note_down(site, down)?;
     take(setting.sight, state, method, local, noted);
     Ok(Lead::Passed)

@@ -6,8 +6,10 @@ mod act;
 mod erased;
 mod expressions;
 mod methods;
+mod paused;
 mod setting;
 mod shown;
 mod whole;
 
+pub use paused::{Paused, Turn, begin};
 pub use whole::{Changes, Meant, effect, meaning, plain_meaning};

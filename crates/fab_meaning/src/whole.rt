@@ -123,6 +123,13 @@ fn found(
     ensures { IfOk result (λ m. IsMeant m (erased (sees sight) (shows sight) program.now known.now request.now tid fuel given.now)) }
 {
     let Finished { ended, state } = ran(alloc, program, sight, known, given, request, tid, fuel)?;
+    over(ended, state)
+}
+
+/// What was meant, from how a run ended and the state at its end.
+pub(crate) fn over(ended: Result<Option<Value>, End>, state: State<'_>) -> Result<Meant, NoMemory>
+    ensures { IfOk result (λ m. IsMeant m (meant_at (ending_of ended) state.entry.state)) }
+{
     let (map, written, made) = state.parts()?;
     let (touches, downs) = state.into_notes()?;
     Ok(Meant {

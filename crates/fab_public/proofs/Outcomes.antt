@@ -18,3 +18,12 @@ on_ok_both (Err e) p q h = tt
 pub on_ok_from : {A E P : Type 0} (r : Result A E) → P → OnOk r P
 on_ok_from (Ok a) p = p
 on_ok_from (Err e) p = tt
+
+-- what a result promises under a premise
+pub if_ok_under : {A E C : Type 0} {P Q : A → Type 0} (r : Result A E) → (C → IfOk r P) → ((a : A) → (C → P a) → Q a) → IfOk r Q
+if_ok_under (Ok a) p h = h a p
+if_ok_under (Err e) p h = tt
+
+pub on_ok_where : {A E C P R : Type 0} (r : Result A E) → (C → OnOk r P) → ((C → P) → R) → OnOk r R
+on_ok_where (Ok a) p h = h p
+on_ok_where (Err e) p h = tt

@@ -3,7 +3,9 @@ use Rattle.std.proofs.Common.{◌≡◌, ℕ, List, [], ◌∷◌, map, refl, ap
 use Rattle.std.specs.List.{range_with_len}
 use Rattle.fab_cache.specs.Caching.{AreLast, Caching}
 use Rattle.fab_public.specs.declared.states.Watched.{Watched}
-use Rattle.fab_public.specs.States.{IsCaching}
+use Rattle.fab_public.specs.Knowing.{IsRunBy}
+use Rattle.fab_public.specs.States.{IsCaching, IsWatched}
+use Rattle.fab_release.specs.Sights.{Public}
 
 pub still_caching : (k : ℕ) (x y : Watched) → y.caches ≡ x.caches → IsCaching k x → IsCaching k y
 still_caching k x y same is = record {
@@ -21,3 +23,10 @@ fresh_caching k w fresh = record {
   limit = ap (λ (c : Caching). c.k) fresh;
   last = subst (λ (c : Caching). AreLast k c.caches) (sym fresh) (are_last k (range_with_len 0 64));
 }
+
+-- it is run as before
+pub still_watched : (P : Public) (x y : Watched) → y.known.by ≡ x.known.by → (IsWatched P x → IsCaching P.cache y) → IsWatched P x → IsWatched P y
+still_watched P x y same caching is = record { caching = caching is; by = subst (IsRunBy P) (sym same) is.by }
+
+pub watched_still : (P : Public) (x y : Watched) → y.caches ≡ x.caches → y.known.by ≡ x.known.by → IsWatched P x → IsWatched P y
+watched_still P x y caches same is = still_watched P x y same (λ f. still_caching P.cache x y caches f.caching) is

@@ -8,6 +8,7 @@ use Rattle.fab_protocol.specs.Stores.{shelf_at_start}
 use Rattle.fab_protocol.specs.Versions.{Rows}
 use Rattle.fab_release.specs.Replay as replay
 use Rattle.fab_release.specs.Sights.{Public, Sight}
+use Rattle.fab_public.specs.Knowing.{IsRunBy}
 use Rattle.fab_public.specs.declared.states.Commitment.{Commitment}
 use Rattle.fab_public.specs.declared.states.Kept.{Kept}
 use Rattle.fab_public.specs.declared.states.Stage.{Stage}
@@ -29,8 +30,8 @@ worker_of w = record {
   number = w.number;
   request = w.request;
   stage = stage_of w.stage;
-  known = w.known;
-  given = w.given;
+  known = w.known.rows;
+  given = w.known.given;
   commits = map commitment_of w.commits;
   caches = w.caches.caches;
 }
@@ -68,8 +69,13 @@ pub record IsCaching (k : ℕ) (w : Watched) : Type 0 where
   pub limit : w.caches.k ≡ k
   pub last : AreLast k w.caches.caches
 
+-- and its request is run as everybody may know it
+pub record IsWatched (P : Public) (w : Watched) : Type 0 where
+  pub caching : IsCaching P.cache w
+  pub by : IsRunBy P w.known.by
+
 abbrev pub AreWatched : Public → List Watched → (ℕ → replay.WorkerSeen) → Type 0
-AreWatched P workers seen = Stands (λ n. unwatched) worker_of (IsCaching P.cache) workers seen
+AreWatched P workers seen = Stands (λ n. unwatched) worker_of (IsWatched P) workers seen
 
 abbrev pub AreStored : Sight → Public → List replay.StoreSeen → (ℕ → replay.StoreSeen) → Type 0
 AreStored sight P stores seen = Stands (unstored sight P) (λ x. x) (λ x. Unit {0}) stores seen

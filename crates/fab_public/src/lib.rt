@@ -2,6 +2,7 @@
 //! release record alone.
 #![tactic(auto)]
 
+mod known;
 mod laws;
 mod leaving;
 mod messages;

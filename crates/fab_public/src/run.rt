@@ -20,10 +20,10 @@ use fab_meaning::{Meant, meaning};
 use fab_tree::resolved::{Request, Resolved, Session};
 use std::alloc::Global;
 
-const FUEL: u32 = 1_000_000;
+pub(crate) const FUEL: u32 = 1_000_000;
 
 /// A worker's request of this number, from 1, if there is one.
-fn request_at(program: &Resolved, node: u16, number: u32) -> Option<&Request>
+pub(crate) fn request_at(program: &Resolved, node: u16, number: u32) -> Option<&Request>
     ensures { option_copied result ≡ request_of program.now node number }
 {
     if number == 0 {
@@ -65,7 +65,7 @@ fn asked_in(session: &Session, at: usize) -> Option<&Request>
 }
 
 /// The objects that are known, by name.
-fn map_of(alloc: Global, known: &[(Oid, u32, Object)]) -> Result<ObjectMap, NoMemory>
+pub(crate) fn map_of(alloc: Global, known: &[(Oid, u32, Object)]) -> Result<ObjectMap, NoMemory>
     ensures { IfOk result (λ m. m ≡ map_of (objects_of known.now)) }
 {
     let mut objects = ObjectMap::new(alloc);
@@ -76,7 +76,7 @@ fn map_of(alloc: Global, known: &[(Oid, u32, Object)]) -> Result<ObjectMap, NoMe
 }
 
 /// The attempt of a worker.
-pub(crate) fn tid_of(worker: u16, watched: &Watched) -> Tid
+pub(crate) fn tid_of(worker: u16, watched: &Watched<'_>) -> Tid
     ensures { (sight : Sight) (P : Public) → result ≡ tid_of sight P worker (worker_of watched.now) }
 {
     Tid {
@@ -87,15 +87,19 @@ pub(crate) fn tid_of(worker: u16, watched: &Watched) -> Tid
 }
 
 /// What a worker's request means over what is known and given, as far as the set can compute it.
-pub(crate) fn run(setting: &Setting<'_>, worker: u16, watched: &Watched) -> Result<Meant, NoMemory>
+pub(crate) fn run(
+    setting: &Setting<'_>,
+    worker: u16,
+    watched: &Watched<'_>,
+) -> Result<Meant, NoMemory>
     ensures { IfOk result (λ m. IsMeant m (run (sight_at setting.now) (public_at setting.now) worker (worker_of watched.now))) }
 {
     let alloc = setting.alloc;
-    let known = map_of(alloc, watched.known.as_slice())?;
+    let known = map_of(alloc, watched.known.rows())?;
     let tid = tid_of(worker, watched);
     match request_at(setting.part, worker, watched.request) {
         Some(request) => {
-            let given = watched.given.as_slice();
+            let given = watched.known.given();
             let seen = setting.seen;
             meaning(
                 alloc,

@@ -59,7 +59,7 @@ fn shown_roots(setting: &Setting<'_>) -> Result<ObjectMap, NoMemory>
 }
 
 /// What is kept before the first entry.
-pub(crate) fn at_start(setting: &Setting<'_>) -> Result<Kept, NoMemory>
+pub(crate) fn at_start<'a>(setting: &Setting<'a>) -> Result<Kept<'a>, NoMemory>
     ensures { IfOk result (λ kept. IsKept (sight_at setting.now) (public_at setting.now) kept (at_start (sight_at setting.now) (public_at setting.now))) }
 {
     let roots = shown_roots(setting)?;

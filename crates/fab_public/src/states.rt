@@ -1,7 +1,8 @@
 //! What is rebuilt of nodes outside the set.
 
+use crate::known::Known;
 use crate::table::Table;
-use fab_base::{Object, Oid, Seq, Tid, Value};
+use fab_base::{Object, Oid, Seq, Tid};
 use fab_cache::Caches;
 use fab_map::ObjectMap;
 use fab_protocol::Parts;
@@ -27,15 +28,14 @@ pub(crate) struct Commitment {
 }
 
 /// A worker outside the set: its boot, the number of its attempt, the request, what it is known to
-/// know, the values that were given, its commits in order, and the caches of the stores in the set.
+/// know and was given, its commits in order, and the caches of the stores in the set.
 #[derive(Drop)]
-pub(crate) struct Watched {
+pub(crate) struct Watched<'a> {
     pub(crate) boot: u32,
     pub(crate) number: u32,
     pub(crate) request: u32,
     pub(crate) stage: Stage,
-    pub(crate) known: Seq<(Oid, u32, Object)>,
-    pub(crate) given: Seq<Value>,
+    pub(crate) known: Known<'a>,
     pub(crate) commits: Seq<Commitment>,
     pub(crate) caches: Caches,
 }
@@ -43,9 +43,9 @@ pub(crate) struct Watched {
 /// What is rebuilt: the seen roots at stores outside the set, the workers and those stores by their
 /// numbers, as far as entries have spoken of them, and the seen objects there at each version.
 #[derive(Drop)]
-pub(crate) struct Kept {
+pub(crate) struct Kept<'a> {
     pub(crate) roots: ObjectMap,
-    pub(crate) workers: Vec<Watched>,
+    pub(crate) workers: Vec<Watched<'a>>,
     pub(crate) stores: Vec<Stored>,
     pub(crate) table: Table,
 }

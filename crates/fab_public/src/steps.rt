@@ -24,9 +24,9 @@ use fab_wire::{DecodeError, decode};
 use std::alloc::{AllocError, Global};
 
 /// What an entry makes of what is rebuilt; and what its node sends.
-pub(crate) fn step(
-    setting: &Setting<'_>,
-    kept: &mut Kept,
+pub(crate) fn step<'a>(
+    setting: &Setting<'a>,
+    kept: &mut Kept<'a>,
     release: &Release,
 ) -> Result<Sends, NoMemory>
     ensures kept { OnOk result ((k : Rebuilt) → IsKept (sight_at setting.now) (public_at setting.now) kept.old k
@@ -64,9 +64,9 @@ pub(crate) fn step(
 }
 
 /// A change of a worker.
-fn change_worker(
-    setting: &Setting<'_>,
-    kept: &mut Kept,
+fn change_worker<'a>(
+    setting: &Setting<'a>,
+    kept: &mut Kept<'a>,
     worker: u16,
     change: Change,
 ) -> Result<Sends, NoMemory>
@@ -80,7 +80,12 @@ fn change_worker(
 }
 
 /// A worker has read an object of a store outside the set in this version.
-fn get(setting: &Setting<'_>, kept: &mut Kept, worker: u16, version: u32) -> Result<Sends, NoMemory>
+fn get<'a>(
+    setting: &Setting<'a>,
+    kept: &mut Kept<'a>,
+    worker: u16,
+    version: u32,
+) -> Result<Sends, NoMemory>
     ensures kept { OnOk result ((k : Rebuilt) → IsKept (sight_at setting.now) (public_at setting.now) kept.old k
         → IsKept (sight_at setting.now) (public_at setting.now) kept.new (next (sight_at setting.now) (public_at setting.now) (Got worker version) k)) }
     ensures sent { IfOk result (λ sent. (k : Rebuilt) → IsKept (sight_at setting.now) (public_at setting.now) kept.old k
@@ -91,9 +96,9 @@ fn get(setting: &Setting<'_>, kept: &mut Kept, worker: u16, version: u32) -> Res
 }
 
 /// An attempt of a worker is over.
-fn decide(
-    setting: &Setting<'_>,
-    kept: &mut Kept,
+fn decide<'a>(
+    setting: &Setting<'a>,
+    kept: &mut Kept<'a>,
     worker: u16,
     commit: bool,
 ) -> Result<Sends, NoMemory>
@@ -108,7 +113,7 @@ fn decide(
 }
 
 /// The worker of this number, if anything is kept of it.
-fn watched_at(workers: &[Watched], worker: u16) -> Option<&Watched>
+fn watched_at<'a, 'b>(workers: &'b [Watched<'a>], worker: u16) -> Option<&'b Watched<'a>>
     ensures { option_copied result ≡ slice_get workers.now worker }
 {
     workers.get(usize::from(worker))
@@ -117,7 +122,7 @@ fn watched_at(workers: &[Watched], worker: u16) -> Option<&Watched>
 /// What the commits of a worker leave at a store in an attempt.
 fn left_at(
     setting: &Setting<'_>,
-    workers: &[Watched],
+    workers: &[Watched<'_>],
     store: u16,
     tid: Tid,
 ) -> Result<Seq<(Oid, u32, Object)>, NoMemory>
@@ -130,7 +135,12 @@ fn left_at(
 }
 
 /// A store applies what an attempt of a worker outside the set leaves there.
-fn apply(setting: &Setting<'_>, kept: &mut Kept, store: u16, tid: Tid) -> Result<Sends, NoMemory>
+fn apply(
+    setting: &Setting<'_>,
+    kept: &mut Kept<'_>,
+    store: u16,
+    tid: Tid,
+) -> Result<Sends, NoMemory>
     ensures kept { OnOk result ((k : Rebuilt) → IsKept (sight_at setting.now) (public_at setting.now) kept.old k
         → IsKept (sight_at setting.now) (public_at setting.now) kept.new (next (sight_at setting.now) (public_at setting.now) (Applied store tid) k)) }
     ensures sent { IfOk result (λ sent. (k : Rebuilt) → IsKept (sight_at setting.now) (public_at setting.now) kept.old k
@@ -144,7 +154,7 @@ fn apply(setting: &Setting<'_>, kept: &mut Kept, store: u16, tid: Tid) -> Result
 /// A store votes on a Prepare of a worker in the set.
 fn vote(
     setting: &Setting<'_>,
-    kept: &mut Kept,
+    kept: &mut Kept<'_>,
     store: u16,
     tid: Tid,
     answer: Answer,
@@ -159,7 +169,7 @@ fn vote(
 }
 
 /// A node comes back after a crash.
-fn recover(setting: &Setting<'_>, kept: &mut Kept, node: u16) -> Result<Sends, NoMemory>
+fn recover<'a>(setting: &Setting<'a>, kept: &mut Kept<'a>, node: u16) -> Result<Sends, NoMemory>
     ensures kept { OnOk result ((k : Rebuilt) → IsKept (sight_at setting.now) (public_at setting.now) kept.old k
         → IsKept (sight_at setting.now) (public_at setting.now) kept.new (next (sight_at setting.now) (public_at setting.now) (Recover node) k)) }
     ensures sent { IfOk result (λ sent. (k : Rebuilt) → IsKept (sight_at setting.now) (public_at setting.now) kept.old k
@@ -192,9 +202,9 @@ fn read(alloc: Global, bytes: &[u8]) -> Result<Option<Message>, NoMemory>
 }
 
 /// A node hears a message of a node in the set.
-fn hear(
-    setting: &Setting<'_>,
-    kept: &mut Kept,
+fn hear<'a>(
+    setting: &Setting<'a>,
+    kept: &mut Kept<'a>,
     node: u16,
     sender: u16,
     message: Message,
@@ -220,9 +230,9 @@ fn hear(
 }
 
 /// A node hears the message that bytes are read as.
-fn hear_bytes(
-    setting: &Setting<'_>,
-    kept: &mut Kept,
+fn hear_bytes<'a>(
+    setting: &Setting<'a>,
+    kept: &mut Kept<'a>,
     node: u16,
     sender: u16,
     bytes: &[u8],
@@ -240,9 +250,9 @@ fn hear_bytes(
 }
 
 /// Bytes of a node in the set reach a node.
-fn receive(
-    setting: &Setting<'_>,
-    kept: &mut Kept,
+fn receive<'a>(
+    setting: &Setting<'a>,
+    kept: &mut Kept<'a>,
     node: u16,
     sender: u16,
     bytes: &[u8],

@@ -17,6 +17,7 @@ ghost use Rattle.fab_language.specs.declared.ending.Ending.TheVariants.{Ended};
 ghost use Rattle.fab_language.specs.Meaning.{Meant as AnyMeant};
 ghost use Rattle.fab_meaning.specs.Ends.{IsMeant};
 ghost use Rattle.fab_public.specs.Changes.{begun, changed, told_by};
+ghost use Rattle.fab_public.specs.Knowing.{IsRunBy, Lacks};
 ghost use Rattle.fab_public.specs.Settings.{public_at, sight_at};
 ghost use Rattle.fab_public.specs.States.{IsCaching, commitment_of, stage_of, worker_of};
 ghost use Rattle.fab_public.specs.declared.workers.Change.TheVariants.{Ask, End, Wake};
@@ -86,7 +87,7 @@ fn closing(tid: Tid, commit: bool) -> Message
     }
 }
 
-fn is_one_name(one: Oid, other: Oid) -> bool
+pub(crate) fn is_one_name(one: Oid, other: Oid) -> bool
     ensures { result ≡ is_same one other }
 {
     one == other
@@ -107,7 +108,7 @@ fn suits(rights: &Rights, oid: Oid, object: &Object) -> bool
 }
 
 /// The attempt that made the object of this name.
-fn maker_of(oid: Oid) -> Tid
+pub(crate) fn maker_of(oid: Oid) -> Tid
     ensures { result ≡ maker_of oid }
 {
     Tid {
@@ -197,17 +198,17 @@ fn outcome(
     }
 }
 
-impl Watched {
+impl Watched<'_> {
     /// Another attempt is begun.
-    fn begin(&mut self, setting: &Setting<'_>, request: u32) -> Result<(), NoMemory>
+    fn begin(&mut self, request: u32) -> Result<(), NoMemory>
         ensures seen { OnOk result (worker_of self.new ≡ begun request (worker_of self.old)) }
         ensures caches { self.new.caches ≡ self.old.caches }
+        ensures by { self.new.known.by ≡ self.old.known.by }
     {
         self.number = next_number(self.number)?;
         self.request = request;
         self.stage = Stage::Runs;
-        self.known = Seq::new(setting.alloc);
-        self.given = Seq::new(setting.alloc);
+        self.known.clear();
         Ok(())
     }
 
@@ -215,11 +216,11 @@ impl Watched {
     fn reset(&mut self, setting: &Setting<'_>) -> Result<(), NoMemory>
         ensures seen { OnOk result (worker_of self.new ≡ over (sight_at setting.now) (public_at setting.now) (no_caches (sight_at setting.now) (public_at setting.now)) (worker_of self.old)) }
         ensures caching { OnOk result (IsCaching (public_at setting.now).cache self.new) }
+        ensures by { self.new.known.by ≡ self.old.known.by }
     {
         let caches = Caches::make(setting.alloc, setting.part.cache, STORES)?;
         self.stage = Stage::Rests;
-        self.known = Seq::new(setting.alloc);
-        self.given = Seq::new(setting.alloc);
+        self.known.clear();
         self.caches = caches;
         Ok(())
     }
@@ -229,6 +230,7 @@ impl Watched {
         ensures kept { OnOk result (worker_of self.new ≡ changed (sight_at setting.now) (public_at setting.now) 0 Wake (worker_of self.old)) }
         ensures sent { IfOk result (λ sent. sent ≡ all_spelled (told_by (sight_at setting.now) (public_at setting.now) 0 Wake (worker_of self.old))) }
         ensures caches { self.new.caches ≡ self.old.caches }
+        ensures by { self.new.known.by ≡ self.old.known.by }
     {
         let boot = next_number(self.boot)?;
         let sends = wakes(setting, self.commits.as_slice(), boot)?;
@@ -251,11 +253,12 @@ impl Watched {
         ensures sent { IfOk result (λ sent. sent ≡ all_spelled (unless_cached (sight_at setting.now) (public_at setting.now) (cached_row (worker_of self.old).caches oid)
             ((oid.store, Fetch (tid_of (sight_at setting.now) (public_at setting.now) worker (worker_of self.old)) oid) ∷ []))) }
         ensures caches { self.new.caches ≡ self.old.caches }
+        ensures by { self.new.known.by ≡ self.old.known.by }
     {
         match self.caches.peek(oid) {
             Some((version, object)) => {
                 let row = (oid, version, object.copy(setting.alloc)?);
-                self.known.push(row)?;
+                self.known.learn(row)?;
                 Ok(Seq::new(setting.alloc))
             }
             None => {
@@ -266,22 +269,33 @@ impl Watched {
         }
     }
 
+    /// The object that its evaluation lacks, if it lacks one.
+    fn lacks(&mut self, worker: u16) -> Result<Option<Oid>, NoMemory>
+        ensures lacks { IfOk result (λ o. (sight : Sight) (P : Public) → IsRunBy P self.old.known.by → Lacks o (run sight P worker (worker_of self.old)).ending) }
+        ensures same { self.new ≡ self.old }
+    {
+        let tid = tid_of(worker, self);
+        self.known.lacks(self.request, tid)
+    }
+
     /// What its evaluation lacks is asked for, if it is an object of a store in the set.
     fn ask(&mut self, setting: &Setting<'_>, worker: u16) -> Result<Sends, NoMemory>
-        ensures kept { OnOk result (worker_of self.new ≡ changed (sight_at setting.now) (public_at setting.now) worker Ask (worker_of self.old)) }
-        ensures sent { IfOk result (λ sent. sent ≡ all_spelled (told_by (sight_at setting.now) (public_at setting.now) worker Ask (worker_of self.old))) }
+        ensures kept { IsRunBy (public_at setting.now) self.old.known.by
+            → OnOk result (worker_of self.new ≡ changed (sight_at setting.now) (public_at setting.now) worker Ask (worker_of self.old)) }
+        ensures sent { IsRunBy (public_at setting.now) self.old.known.by
+            → IfOk result (λ sent. sent ≡ all_spelled (told_by (sight_at setting.now) (public_at setting.now) worker Ask (worker_of self.old))) }
         ensures caches { self.new.caches ≡ self.old.caches }
+        ensures by { self.new.known.by ≡ self.old.known.by }
     {
-        let meant = run(setting, worker, self)?;
-        match meant.ending {
-            Ending::Missing { oid, .. } => {
+        match self.lacks(worker)? {
+            Some(oid) => {
                 if is_in(setting.nodes, oid.store) {
                     self.ask_for(setting, worker, oid)
                 } else {
                     Ok(Seq::new(setting.alloc))
                 }
             }
-            _ => Ok(Seq::new(setting.alloc)),
+            None => Ok(Seq::new(setting.alloc)),
         }
     }
 
@@ -290,10 +304,11 @@ impl Watched {
         ensures seen { OnOk result (worker_of self.new ≡ ends_by (sight_at setting.now) (public_at setting.now) worker
             (run (sight_at setting.now) (public_at setting.now) worker (worker_of self.old)).ending (worker_of self.old)) }
         ensures caches { self.new.caches ≡ self.old.caches }
+        ensures by { self.new.known.by ≡ self.old.known.by }
     {
         let meant = run(setting, worker, self)?;
         if let Ending::Ended(value) = meant.ending {
-            let parts = parts_of(setting.alloc, self.known.as_slice(), value, &meant)?;
+            let parts = parts_of(setting.alloc, self.known.rows(), value, &meant)?;
             self.stage = Stage::Votes(parts);
         }
         Ok(())
@@ -318,6 +333,7 @@ impl Watched {
         ensures kept { OnOk result (worker_of self.new ≡ changed (sight_at setting.now) (public_at setting.now) worker End (worker_of self.old)) }
         ensures sent { IfOk result (λ sent. sent ≡ all_spelled (told_by (sight_at setting.now) (public_at setting.now) worker End (worker_of self.old))) }
         ensures caches { self.new.caches ≡ self.old.caches }
+        ensures by { self.new.known.by ≡ self.old.known.by }
     {
         self.come_to_vote(setting, worker)?;
         self.prepares(setting, worker)
@@ -330,13 +346,16 @@ impl Watched {
         worker: u16,
         change: Change,
     ) -> Result<Sends, NoMemory>
-        ensures kept { OnOk result (worker_of self.new ≡ changed (sight_at setting.now) (public_at setting.now) worker change (worker_of self.old)) }
-        ensures sent { IfOk result (λ sent. sent ≡ all_spelled (told_by (sight_at setting.now) (public_at setting.now) worker change (worker_of self.old))) }
+        ensures kept { IsRunBy (public_at setting.now) self.old.known.by
+            → OnOk result (worker_of self.new ≡ changed (sight_at setting.now) (public_at setting.now) worker change (worker_of self.old)) }
+        ensures sent { IsRunBy (public_at setting.now) self.old.known.by
+            → IfOk result (λ sent. sent ≡ all_spelled (told_by (sight_at setting.now) (public_at setting.now) worker change (worker_of self.old))) }
         ensures caching { IsCaching (public_at setting.now).cache self.old → OnOk result (IsCaching (public_at setting.now).cache self.new) }
+        ensures by { self.new.known.by ≡ self.old.known.by }
     {
         match change {
-            Change::Begin(request) => self.begin(setting, request)?,
-            Change::Give(value) => self.given.push(value)?,
+            Change::Begin(request) => self.begin(request)?,
+            Change::Give(value) => self.known.give(value)?,
             Change::Reset => self.reset(setting)?,
             Change::Ask => return self.ask(setting, worker),
             Change::End => return self.end(setting, worker),
@@ -353,20 +372,21 @@ impl Watched {
         version: u32,
         table: &Table,
     ) -> Result<(), NoMemory>
-        ensures seen { OnOk result (worker_of self.new ≡ got_by (sight_at setting.now) (public_at setting.now) table.now version
+        ensures seen { IsRunBy (public_at setting.now) self.old.known.by
+            → OnOk result (worker_of self.new ≡ got_by (sight_at setting.now) (public_at setting.now) table.now version
             (run (sight_at setting.now) (public_at setting.now) worker (worker_of self.old)).ending (worker_of self.old)) }
         ensures caches { self.new.caches ≡ self.old.caches }
+        ensures by { self.new.known.by ≡ self.old.known.by }
     {
-        let meant = run(setting, worker, self)?;
-        match meant.ending {
-            Ending::Missing { oid, .. } => {
+        match self.lacks(worker)? {
+            Some(oid) => {
                 if is_in(setting.nodes, oid.store) {
                     Ok(())
                 } else {
                     self.learn(setting, table, oid, version)
                 }
             }
-            _ => Ok(()),
+            None => Ok(()),
         }
     }
 
@@ -380,10 +400,11 @@ impl Watched {
     ) -> Result<(), NoMemory>
         ensures seen { OnOk result (worker_of self.new ≡ knows (sight_at setting.now) (public_at setting.now) (row_at table.now oid version) (worker_of self.old)) }
         ensures caches { self.new.caches ≡ self.old.caches }
+        ensures by { self.new.known.by ≡ self.old.known.by }
     {
         if let Some(object) = table.get(oid, version) {
             let object = object.copy(setting.alloc)?;
-            self.known.push((oid, version, object))?;
+            self.known.learn((oid, version, object))?;
         }
         Ok(())
     }
@@ -404,13 +425,13 @@ impl Watched {
     }
 
     /// It is at rest, and knows nothing.
-    fn rest(&mut self, setting: &Setting<'_>)
+    fn rest(&mut self)
         ensures seen { worker_of self.new ≡ record (worker_of self.old) { stage = Rests; known = []; given = [] } }
         ensures caches { self.new.caches ≡ self.old.caches }
+        ensures by { self.new.known.by ≡ self.old.known.by }
     {
         self.stage = Stage::Rests;
-        self.known = Seq::new(setting.alloc);
-        self.given = Seq::new(setting.alloc);
+        self.known.clear();
     }
 
     /// The attempt commits with these parts: what it leaves.
@@ -424,13 +445,14 @@ impl Watched {
             → OnOk result (worker_of self.new ≡ committed (sight_at setting.now) (public_at setting.now) worker (Votes parts.now) (worker_of self.old)) }
         ensures left { IfOk result (λ rows. rows ≡ leaves (sight_at setting.now) (public_at setting.now) parts.now) }
         ensures caching { IsCaching (public_at setting.now).cache self.old → OnOk result (IsCaching (public_at setting.now).cache self.new) }
+        ensures by { self.new.known.by ≡ self.old.known.by }
     {
         let left = leaves(setting, parts)?;
         let rows = left.as_slice();
         let copy = copies(setting.alloc, rows)?;
         let stores = sharers(setting, parts)?;
         let tid = tid_of(worker, self);
-        let known = self.known.as_slice();
+        let known = self.known.rows();
         let given = puts(setting, parts, known)?;
         let puts = given.as_slice();
         let renewed = self.caches.with_puts(puts)?;
@@ -440,7 +462,7 @@ impl Watched {
             leaves: copy,
         })?;
         self.caches.take_new(renewed);
-        self.rest(setting);
+        self.rest();
         Ok(left)
     }
 
@@ -454,6 +476,7 @@ impl Watched {
             → OnOk result (worker_of self.new ≡ committed (sight_at setting.now) (public_at setting.now) worker (stage_of self.old.stage) (worker_of self.old)) }
         ensures left { IfOk result (λ rows. rows ≡ enters (sight_at setting.now) (public_at setting.now) true (stage_of self.old.stage)) }
         ensures caching { IsCaching (public_at setting.now).cache self.old → OnOk result (IsCaching (public_at setting.now).cache self.new) }
+        ensures by { self.new.known.by ≡ self.old.known.by }
     {
         match mem::replace(&mut self.stage, Stage::Rests) {
             Stage::Votes(parts) => self.commit_parts(setting, worker, &parts),
@@ -476,6 +499,7 @@ impl Watched {
         ensures sent { IfOk result (λ told. told.sends ≡ all_spelled (closes (sight_at setting.now) (public_at setting.now) worker commit (stage_of self.old.stage) (worker_of self.old))) }
         ensures left { IfOk result (λ told. told.leaves ≡ enters (sight_at setting.now) (public_at setting.now) commit (stage_of self.old.stage)) }
         ensures caching { IsCaching (public_at setting.now).cache self.old → OnOk result (IsCaching (public_at setting.now).cache self.new) }
+        ensures by { self.new.known.by ≡ self.old.known.by }
     {
         let sends = self.closes(setting, worker, commit)?;
         if commit {
@@ -501,6 +525,7 @@ impl Watched {
         ensures seen { OnOk result (worker_of self.new
             ≡ answers (sight_at setting.now) (public_at setting.now) worker sender tid row.0 row.1 row.2 (stage_of self.old.stage) (worker_of self.old)) }
         ensures caches { self.new.caches ≡ self.old.caches }
+        ensures by { self.new.known.by ≡ self.old.known.by }
     {
         let Stage::Waits(wanted) = self.stage else {
             return Ok(());
@@ -508,7 +533,7 @@ impl Watched {
         let own = tid_of(worker, self);
         let is_answer = is_answer(setting.rights, own, wanted, sender, tid, &row);
         if is_answer {
-            self.known.push(row)?;
+            self.known.learn(row)?;
             self.stage = Stage::Runs;
         }
         Ok(())
@@ -572,6 +597,7 @@ impl Watched {
         ensures seen { OnOk result (worker_of self.new ≡ worker_hears (sight_at setting.now) (public_at setting.now) worker sender message (worker_of self.old)) }
         ensures sent { IfOk result (λ sent. sent ≡ all_spelled (worker_says (sight_at setting.now) (public_at setting.now) worker sender message (worker_of self.old))) }
         ensures caches { self.new.caches ≡ self.old.caches }
+        ensures by { self.new.known.by ≡ self.old.known.by }
     {
         match message {
             Message::Object {

@@ -56,9 +56,9 @@ fn replay(setting: &Setting<'_>, released: &[Released]) -> Result<Sent, NoMemory
 }
 
 /// One entry more.
-fn replay_one(
-    setting: &Setting<'_>,
-    kept: &mut Kept,
+fn replay_one<'a>(
+    setting: &Setting<'a>,
+    kept: &mut Kept<'a>,
     sent: &mut Sent,
     entry: &Released,
 ) -> Result<(), NoMemory>

@@ -6,9 +6,11 @@ ghost use Rattle.fab_protocol.specs.Versions.{Rows};
 ghost use Rattle.fab_world.specs.Machine.{with_at};
 ghost use Rattle.fab_sent.specs.Messages.{all_spelled};
 ghost use Rattle.fab_public.specs.Changes.{changed, told_by};
+ghost use Rattle.fab_public.specs.Knowing.{IsRunBy};
 ghost use Rattle.fab_public.specs.Settings.{public_at, sight_at};
 ghost use Rattle.fab_public.specs.States.{AreAlike, AreWatched, IsCaching, unwatched, worker_of};
 
+use crate::known::Known;
 use crate::setting::Setting;
 use crate::states::{Stage, Watched};
 use crate::table::Table;
@@ -37,9 +39,10 @@ pub(crate) enum Change {
 }
 
 /// A worker before the first entry.
-fn unwatched(setting: &Setting<'_>) -> Result<Watched, NoMemory>
+fn unwatched<'a>(setting: &Setting<'a>) -> Result<Watched<'a>, NoMemory>
     ensures seen { IfOk result (λ w. worker_of w ≡ unwatched) }
     ensures caching { IfOk result (IsCaching (public_at setting.now).cache) }
+    ensures by { IfOk result (λ w. IsRunBy (public_at setting.now) w.known.by) }
 {
     let alloc = setting.alloc;
     let caches = Caches::make(alloc, setting.part.cache, STORES)?;
@@ -48,15 +51,18 @@ fn unwatched(setting: &Setting<'_>) -> Result<Watched, NoMemory>
         number: 0,
         request: 0,
         stage: Stage::Rests,
-        known: Seq::new(alloc),
-        given: Seq::new(alloc),
+        known: Known::nothing(alloc, setting.part, setting.seen),
         commits: Seq::new(alloc),
         caches,
     })
 }
 
 /// Room for the worker of this number.
-fn make_room(setting: &Setting<'_>, workers: &mut Vec<Watched>, worker: u16) -> Result<(), NoMemory>
+fn make_room<'a>(
+    setting: &Setting<'a>,
+    workers: &mut Vec<Watched<'a>>,
+    worker: u16,
+) -> Result<(), NoMemory>
     ensures made { OnOk result (worker < length workers.new.items) }
     ensures kept { OnOk result ((k : ℕ → WorkerSeen) → AreWatched (public_at setting.now) workers.old.items k → AreWatched (public_at setting.now) workers.new.items k) }
 {
@@ -67,9 +73,9 @@ fn make_room(setting: &Setting<'_>, workers: &mut Vec<Watched>, worker: u16) -> 
 }
 
 /// What an entry makes of the worker of this number, and what it sends.
-pub(crate) fn make_change(
-    setting: &Setting<'_>,
-    workers: &mut Vec<Watched>,
+pub(crate) fn make_change<'a>(
+    setting: &Setting<'a>,
+    workers: &mut Vec<Watched<'a>>,
     worker: u16,
     change: Change,
 ) -> Result<Sends, NoMemory>
@@ -83,9 +89,9 @@ pub(crate) fn make_change(
 }
 
 /// The worker of this number has read an object of a store outside the set.
-pub(crate) fn get(
-    setting: &Setting<'_>,
-    workers: &mut Vec<Watched>,
+pub(crate) fn get<'a>(
+    setting: &Setting<'a>,
+    workers: &mut Vec<Watched<'a>>,
     worker: u16,
     version: u32,
     table: &Table,
@@ -99,9 +105,9 @@ pub(crate) fn get(
 }
 
 /// The attempt of the worker of this number is over, with a commit or without one.
-pub(crate) fn decide(
-    setting: &Setting<'_>,
-    workers: &mut Vec<Watched>,
+pub(crate) fn decide<'a>(
+    setting: &Setting<'a>,
+    workers: &mut Vec<Watched<'a>>,
     worker: u16,
     commit: bool,
 ) -> Result<Decided, NoMemory>
@@ -117,9 +123,9 @@ pub(crate) fn decide(
 }
 
 /// The worker of this number hears a message of a store in the set.
-pub(crate) fn hear(
-    setting: &Setting<'_>,
-    workers: &mut Vec<Watched>,
+pub(crate) fn hear<'a>(
+    setting: &Setting<'a>,
+    workers: &mut Vec<Watched<'a>>,
     worker: u16,
     sender: u16,
     message: Message,

@@ -1,16 +1,21 @@
--- A worker that evaluates is told its job.
-use Rattle.std.specs.Prelude.{◌≡◌, ℕ, Bool, true, false, IsTrue, IsFalse, List, Option, None}
+-- A worker that evaluates is told its job, and an event takes what that came to.
+use Rattle.std.specs.Prelude.{◌≡◌, ℕ, Bool, true, false, IsTrue, IsFalse, IfOk, List, Option, None, Result, Ok, Err}
 use Rattle.std.proofs.Common.{refl, sym, ap, ◌∙◌, true≢false, subst}
 use Rattle.std.proofs.lemmas.Bool.{and_from}
+use Rattle.fab_eval.specs.declared.done.Done.{Done}
 use Rattle.fab_eval.specs.declared.job.Job.{Job}
+use Rattle.fab_net.specs.declared.event.Event.TheVariants as e
+use Rattle.fab_net.specs.declared.event.Inner.TheVariants as i
+use Rattle.fab_pauses.specs.Evaluations.{EvaluatorsModel}
 use Rattle.fab_rights.specs.Computed.{is_worker}
 use Rattle.fab_world.specs.Machine.{Move, is_evaluating, is_running}
 use Rattle.fab_world.specs.Serial.{IsRun}
 use Rattle.fab_world.specs.Workers as workers
 use Rattle.fab_node.specs.Standing.{GivenModel}
-use Rattle.fab_core.specs.Cores.{setting, world_by}
+use Rattle.fab_core.specs.Cores.{HasDone, setting, world_by}
 use Rattle.fab_core.specs.Telling.{TellsJob, is_at_work}
 use Rattle.fab_core.proofs.Steady.{all_steady}
+use Rattle.fab_replay.specs.Running.{ComesWith, IsLastDone}
 
 -- behind a run none evaluates but a worker at work
 pub none_evaluates : (g : GivenModel) (moves : List Move) (n : ℕ) (told : Option Job) → IsRun (setting g) moves → TellsJob g (world_by g moves) n told → told ≡ None
@@ -23,3 +28,27 @@ none_evaluates g moves n told run tells none up busy = by (is_worker g.rights n)
     by : (b : Bool) → is_worker g.rights n ≡ b → ⊥
     by true h = true≢false (sym (and_from _ _ (and_from _ _ h up) (ap is_evaluating busy)) ∙ resting)
     by false h = true≢false (sym (ap is_evaluating busy) ∙ ap is_evaluating ((all_steady (setting g) moves run.enabled n).idle h))
+
+-- a Resume takes what the job came to, whole or cut
+module _ {E : Type 0} (g : GivenModel) (moves : List Move) (n : ℕ) (all : EvaluatorsModel) (result : Result (Option ℕ) E) where
+  abbrev HasCome : Type 0
+  HasCome = IfOk result (λ at. (done : Option Done) → IsLastDone all at done → IsTrue (is_running (setting g) (world_by g moves) n)
+      → ((world_by g moves).node n).attempt.phase ≡ workers.Evaluating → HasDone g (world_by g moves) n done)
+
+  pub resumes_with : HasCome → IfOk result (λ at. (done : Option Done) → IsLastDone all at done → ComesWith g moves (e.Resume n) done)
+  resumes_with h = by result h
+    where
+      by : (r : Result (Option ℕ) E) → IfOk r (λ at. (done : Option Done) → IsLastDone all at done → IsTrue (is_running (setting g) (world_by g moves) n)
+          → ((world_by g moves).node n).attempt.phase ≡ workers.Evaluating → HasDone g (world_by g moves) n done)
+          → IfOk r (λ at. (done : Option Done) → IsLastDone all at done → ComesWith g moves (e.Resume n) done)
+      by (Ok at) h = λ done is. record { done = h done is }
+      by (Err x) h = tt
+
+  pub crashes_with : (keep : ℕ) → HasCome → IfOk result (λ at. (done : Option Done) → IsLastDone all at done → ComesWith g moves (e.CrashIn keep (i.Resume n)) done)
+  crashes_with keep h = by result h
+    where
+      by : (r : Result (Option ℕ) E) → IfOk r (λ at. (done : Option Done) → IsLastDone all at done → IsTrue (is_running (setting g) (world_by g moves) n)
+          → ((world_by g moves).node n).attempt.phase ≡ workers.Evaluating → HasDone g (world_by g moves) n done)
+          → IfOk r (λ at. (done : Option Done) → IsLastDone all at done → ComesWith g moves (e.CrashIn keep (i.Resume n)) done)
+      by (Ok at) h = λ done is. record { done = h done is }
+      by (Err x) h = tt

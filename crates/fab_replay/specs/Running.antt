@@ -1,9 +1,11 @@
 -- Steps of a replay: how far it came, and what became of the journals on the way.
-use Rattle.std.specs.Prelude.{◌≡◌, ◌<◌, ◌==◌, ℕ, Bool, true, false, IsTrue, List, [], ◌∷◌, ◌++◌, length, Option, Some, None, Result, OnOk}
+use Rattle.std.specs.Prelude.{◌≡◌, ◌<◌, ◌==◌, ℕ, Bool, true, false, IsTrue, List, [], ◌∷◌, ◌++◌, length, Option, Some, None, IfSome, Result, OnOk}
+use Rattle.std.specs.Option.{option_map}
 use Rattle.fab_base.specs.Faults.{Rose}
 use Rattle.fab_device.specs.Kept.{CannotFail, Entry, Makers}
 use Rattle.fab_language.specs.Words.{node_text}
 use Rattle.fab_eval.specs.declared.done.Done.{Done}
+use Rattle.fab_pauses.specs.Evaluations.{EvaluatorsModel, IsOf, last_of}
 use Rattle.fab_net.specs.declared.event.Event.{Event}
 use Rattle.fab_tree.specs.declared.resolved.Resolved.{Resolved}
 use Rattle.fab_world.specs.Machine.{Move, Enabled, enabled, form_of}
@@ -61,6 +63,11 @@ pub record MayCome (g : GivenModel) (moves : List Move) (event : Event) : Type 0
 -- an evaluation that it takes came to this
 pub record ComesWith (g : GivenModel) (moves : List Move) (event : Event) (over : Option Done) : Type 0 where
   pub done : EventHasDone g (world_by g moves) event over
+
+-- of this evaluator it is what the last job came to, and of none there is nothing
+abbrev pub IsLastDone : EvaluatorsModel → Option ℕ → Option Done → Type 0
+IsLastDone all None done = done ≡ None
+IsLastDone all (Some worker) done = (option_map (λ (d : Done). d.job) done ≡ last_of all worker) × IfSome done (λ d. IsOf all.program d.job)
 
 -- it came, and the moves are one more
 pub record HasCome (g : GivenModel) (event : Event) (move : Move) (old new : List Move) : Type 0 where

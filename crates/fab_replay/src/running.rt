@@ -1,22 +1,24 @@
 //! The events of a schedule, one after the other.
 
-ghost use Rattle.std.specs.Prelude.{◌≡◌, ◌<◌, ◌≤◌, [], false, IsTrue, IfOk, OnErr, length};
+ghost use Rattle.std.specs.Prelude.{◌≡◌, ◌<◌, ◌≤◌, [], false, Option, IsTrue, IfOk, OnErr, length};
 ghost use Rattle.std.specs.Option.{option_copied};
 ghost use Rattle.fab_world.specs.Machine.{is_running};
 ghost use Rattle.fab_world.specs.Serial.{attempts};
 ghost use Rattle.fab_world.specs.Workers.{Evaluating};
 ghost use Rattle.fab_core.specs.Cores.{HasDone, setting, world};
+ghost use Rattle.fab_eval.specs.declared.done.Done.{Done as AnyDone};
 ghost use Rattle.fab_replay.specs.Kept.{IsFrontRun};
-ghost use Rattle.fab_replay.specs.Running.{AreBehind, ComesBy, ComesTo, ComesWith, MayCome, failed_by, fails_by};
+ghost use Rattle.fab_replay.specs.Running.{AreBehind, ComesBy, ComesTo, ComesWith, IsLastDone, MayCome, failed_by, fails_by};
 
 use crate::events::event_of;
 use fab_base::NoMemory;
 use fab_core::{Applied, Core};
 use fab_device::Journal;
-use fab_eval::{Done, evaluate};
+use fab_eval::Done;
 use fab_net::{Event, Inner, node_at};
+use fab_pauses::Evaluators;
 use fab_tree::resolved::Resolved;
-use std::alloc::{AllocError, Global};
+use std::alloc::Global;
 
 /// What became of one event: it came; it came up to its record, since the journal failed; or it may not
 /// come.
@@ -36,33 +38,52 @@ pub(crate) enum Ran {
     Cut { node: u16 },
 }
 
-/// What the job of a worker comes to, if it evaluates.
-fn done_of<J: Journal>(alloc: Global, core: &Core<J>, worker: u16) -> Result<Option<Done>, NoMemory>
-    ensures { IfOk result (λ done. IsTrue (is_running (setting core.now.given) (world core.now) worker)
+/// Evaluates the job of a worker, if there is one: by which evaluator.
+fn evaluated<J: Journal>(
+    core: &Core<J>,
+    evaluators: &mut Evaluators<'_>,
+    worker: u16,
+) -> Result<Option<u16>, NoMemory>
+    requires { evaluators.old.program ≡ core.now.given.program }
+    ensures program { evaluators.new.program ≡ evaluators.old.program }
+    ensures done { IfOk result (λ at. (done : Option AnyDone) → IsLastDone evaluators.new at done → IsTrue (is_running (setting core.now.given) (world core.now) worker)
         → ((world core.now).node worker).attempt.phase ≡ Evaluating → HasDone core.now.given (world core.now) worker done) }
 {
     core.is_a_run();
     match core.job(worker)? {
-        Some(job) => match evaluate(alloc, job) {
-            Ok(done) => Ok(Some(done)),
-            Err(_) => Err(AllocError),
-        },
+        Some(job) => {
+            evaluators.evaluate(worker, job)?;
+            Ok(Some(worker))
+        }
         None => Ok(None),
     }
 }
 
-/// What the evaluation comes to that an event takes, if it takes one.
-fn done_for<J: Journal>(
-    alloc: Global,
+/// Makes the evaluation that an event takes, if it takes one: by which evaluator.
+#[tactic(auto, using(crate::proofs::Resting::resumes_with, crate::proofs::Resting::crashes_with))]
+fn evaluated_for<J: Journal>(
     core: &Core<J>,
+    evaluators: &mut Evaluators<'_>,
     event: Event,
-) -> Result<Option<Done>, NoMemory>
-    ensures { IfOk result (ComesWith core.now.given core.now.moves event) }
+) -> Result<Option<u16>, NoMemory>
+    requires { evaluators.old.program ≡ core.now.given.program }
+    ensures program { evaluators.new.program ≡ evaluators.old.program }
+    ensures done { IfOk result (λ at. (done : Option AnyDone) → IsLastDone evaluators.new at done → ComesWith core.now.given core.now.moves event done) }
 {
     match event {
-        Event::Resume(worker) => done_of(alloc, core, worker),
-        Event::CrashIn(_, Inner::Resume(worker)) => done_of(alloc, core, worker),
+        Event::Resume(worker) => evaluated(core, evaluators, worker),
+        Event::CrashIn(_, Inner::Resume(worker)) => evaluated(core, evaluators, worker),
         _ => Ok(None),
+    }
+}
+
+/// What the last evaluation came to of an evaluator, if there is one.
+fn done_at<'e>(evaluators: &'e Evaluators<'_>, at: Option<u16>) -> Option<&'e Done>
+    ensures { IsLastDone evaluators.now at (option_copied result) }
+{
+    match at {
+        Some(worker) => evaluators.done(worker),
+        None => None,
     }
 }
 
@@ -87,25 +108,44 @@ fn enact<J: Journal>(
     }
 }
 
-/// One event comes, if it may.
-fn next<J: Journal>(alloc: Global, core: &mut Core<J>, event: Event) -> Result<Came, NoMemory>
-    requires { attempts core.old.moves < 4000000000 }
+/// One event comes, if it may, with the evaluation that it takes.
+fn come<J: Journal>(core: &mut Core<J>, event: Event, done: Option<&Done>) -> Result<Came, NoMemory>
+    requires done { ComesWith core.old.given core.old.moves event (option_copied done) }
+    requires few { attempts core.old.moves < 4000000000 }
     ensures given { core.new.given ≡ core.old.given }
     ensures came { IfOk result (ComesBy core.old.given event core.old.moves core.new.moves) }
     ensures journals { IfOk result (λ came. AreBehind (fails_by event came) core.old.journals core.new.journals) }
     ensures memory { OnErr result (core.new.moves ≡ core.old.moves) }
     ensures still { OnErr result (AreBehind (λ n. false) core.old.journals core.new.journals) }
 {
-    let done = done_for(alloc, core, event)?;
-    let over = done.as_ref();
-    let may = core.enabled(&event, over)?;
+    let may = core.enabled(&event, done)?;
     if !may {
         return Ok(Came::Barred);
     }
-    enact(core, event, over)
+    enact(core, event, done)
 }
 
-/// The events of the schedule come in order, up to the first that may not come or in which a journal fails.
+/// One event comes, if it may.
+fn next<J: Journal>(
+    core: &mut Core<J>,
+    evaluators: &mut Evaluators<'_>,
+    event: Event,
+) -> Result<Came, NoMemory>
+    requires few { attempts core.old.moves < 4000000000 }
+    requires program { evaluators.old.program ≡ core.old.given.program }
+    ensures program { evaluators.new.program ≡ evaluators.old.program }
+    ensures given { core.new.given ≡ core.old.given }
+    ensures came { IfOk result (ComesBy core.old.given event core.old.moves core.new.moves) }
+    ensures journals { IfOk result (λ came. AreBehind (fails_by event came) core.old.journals core.new.journals) }
+    ensures memory { OnErr result (core.new.moves ≡ core.old.moves) }
+    ensures still { OnErr result (AreBehind (λ n. false) core.old.journals core.new.journals) }
+{
+    let at = evaluated_for(core, evaluators, event)?;
+    come(core, event, done_at(evaluators, at))
+}
+
+/// The events of the schedule come in order, up to the first that may not come or in which a journal fails. A job that comes again with
+/// one answer more goes on where it paused.
 pub(crate) fn run<J: Journal>(
     alloc: Global,
     core: &mut Core<J>,
@@ -120,12 +160,13 @@ pub(crate) fn run<J: Journal>(
     ensures memory { OnErr result (IsFrontRun core.old.given core.new.moves) }
     ensures still { OnErr result (AreBehind (λ n. false) core.old.journals core.new.journals) }
 {
+    let mut evaluators = Evaluators::new(alloc, program)?;
     let mut number = 0;
     let mut rest = program.schedule.as_slice();
     'events: while let Some((scheduled, after)) = rest.split_first() {
         let event = event_of(*scheduled);
         number += 1;
-        match next(alloc, core, event)? {
+        match next(core, &mut evaluators, event)? {
             Came::Whole => {}
             Came::Cut => {
                 return Ok(Ran::Cut {

@@ -1,7 +1,6 @@
 -- What counts as an event, what a job has to be for who evaluates it, and what the answer that all is over asks for.
 use Rattle.std.specs.Prelude.{◌≡◌, Err}
 use Rattle.std.proofs.Common.{refl, sym, ◌∙◌, arith}
-use Rattle.fab_eval.specs.declared.done.Done.{Done}
 use Rattle.fab_eval.specs.declared.job.Job.{Job}
 use Rattle.fab_tree.specs.declared.resolved.Resolved.{Resolved}
 use Rattle.fab_exchange.specs.declared.turn.Turn.TheVariants as t
@@ -30,8 +29,8 @@ wanting E e = refl
 it_is_taken : taken_given given.Taken ≡ 1
 it_is_taken = refl
 
-not_given_back : (back : Done) → taken_given (given.Stale back) ≡ 1 → ⊥
-not_given_back back h = omega (arith, h)
+not_left : taken_given given.Stale ≡ 1 → ⊥
+not_left h = omega (arith, h)
 
 -- ---- jobs
 

@@ -24,7 +24,7 @@ acted (Err e) = 0
 
 abbrev pub taken_given : Given → ℕ
 taken_given given.Taken = 1
-taken_given (given.Stale back) = 0
+taken_given given.Stale = 0
 
 abbrev pub taken : {E : Type 0} → Result Given E → ℕ
 taken (Ok given) = taken_given given

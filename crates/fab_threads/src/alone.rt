@@ -2,12 +2,13 @@
 ghost use Rattle.std.specs.Prelude.{◌≡◌, ℕ, ◌+◌, IfOk, IfErr};
 ghost use Rattle.fab_threads.specs.Counts.{OnOver, acted_turn};
 
-use crate::evaluating::evaluate_at;
+use crate::evaluating::evaluate_among;
 use crate::turning::Turning;
 use fab_base::NoMemory;
 use fab_exchange::{Given, Turn};
 use fab_gates::Gate;
-use std::alloc::{AllocError, Global};
+use fab_pauses::Evaluators;
+use std::alloc::Global;
 use std::sync::Wait;
 
 /// Nodes have numbers below this.
@@ -15,11 +16,13 @@ const NUMBERS: u16 = 64;
 
 /// A turn of a node by the calling thread, with its evaluation.
 fn turn_alone<X: Turning, G: Gate>(
-    alloc: Global,
     held: &mut X,
+    evaluators: &mut Evaluators<'_>,
     gate: &G,
     node: u16,
 ) -> Result<Turn, NoMemory>
+    requires { evaluators.old.program ≡ (X.given held.old).program }
+    ensures program { evaluators.new.program ≡ evaluators.old.program }
     ensures given { X.given held.new ≡ X.given held.old }
     ensures sure { (n : ℕ) → X.sure held.new n ≡ X.sure held.old n }
     ensures counted { IfOk result (λ turn. X.events held.new ≡ X.events held.old + acted_turn turn) }
@@ -27,11 +30,13 @@ fn turn_alone<X: Turning, G: Gate>(
 {
     match held.next(node)? {
         Turn::Evaluate(job) => {
-            let done = evaluate_at(alloc, gate, node, job)?;
-            match held.give(node, done) {
-                Ok(Given::Taken) => Ok(Turn::Acted),
-                Ok(Given::Stale(_)) => Ok(Turn::Wait),
-                Err(_) => Err(AllocError),
+            evaluate_among(gate, node, evaluators, job)?;
+            let Some(done) = evaluators.done(node) else {
+                unreachable!()
+            };
+            match held.give(node, done)? {
+                Given::Taken => Ok(Turn::Acted),
+                Given::Stale => Ok(Turn::Wait),
             }
         }
         turn => Ok(turn),
@@ -53,11 +58,17 @@ pub(crate) fn finish<X: Turning, R: Wait, G: Gate>(
     ensures back_given { IfErr result (λ back. X.given back ≡ X.given held) }
     ensures back_sure { IfErr result (λ back. (n : ℕ) → X.sure back n ≡ X.sure held n) }
 {
+    let Ok(program) = held.program() else {
+        return Err(held);
+    };
+    let Ok(mut evaluators) = Evaluators::new(alloc, &program) else {
+        return Err(held);
+    };
     let mut held = held;
     let mut own = 0_u64;
     let mut node = 0;
     for _ in rt.forever() {
-        let Ok(turn) = turn_alone(alloc, &mut held, gate, node) else {
+        let Ok(turn) = turn_alone(&mut held, &mut evaluators, gate, node) else {
             return Err(held);
         };
         match turn {

@@ -15,6 +15,7 @@ use fab_device::Journal;
 use fab_eval::Job;
 use fab_exchange::{Exchange, Given, Turn};
 use fab_gates::Gate;
+use fab_pauses::Evaluator;
 use std::alloc::Global;
 use std::marker::Brand;
 use std::sync::ledger::{Blank, Share};
@@ -84,47 +85,58 @@ fn rests<R: Wait>(rt: &R, bells: &Bells, node: u16, rest: Rest, looks: u32) -> b
 /// runs out.
 fn bring<X: Turning, N: RunName, R: Wait, G: Gate>(
     rt: &R,
-    alloc: Global,
     shared: &Mutex<Shared<X, N>>,
     gate: &G,
     node: u16,
+    evaluator: &mut Evaluator<'_>,
     job: Job,
     mine: &mut Share<N>,
 ) -> Option<u64>
     requires job { IsReady N.given.program job }
+    requires program { evaluator.old.program ≡ N.given.program }
     requires part { 0 < mine.old.parts }
+    ensures program { evaluator.new.program ≡ evaluator.old.program }
     ensures none { IfNone result (mine.new.amount ≡ mine.old.amount) }
     ensures amount { IfSome result (λ came. mine.new.amount ≡ mine.old.amount + came) }
     ensures bound { IfSome result (λ came. mine.new.amount < 2 ^ 64) }
     ensures parts { mine.new.parts ≡ mine.old.parts }
 {
-    let Ok(done) = evaluate_at(alloc, gate, node, job) else {
+    if evaluate_at(gate, node, evaluator, job).is_err() {
         return None;
+    }
+    let Some(done) = evaluator.done() else {
+        unreachable!()
     };
     let given = shared.lock(rt).give(node, done, mine);
     match given {
         Ok(Given::Taken) => Some(1),
-        Ok(Given::Stale(_)) => Some(0),
+        Ok(Given::Stale) => Some(0),
         Err(_) => None,
     }
 }
 
-/// One node's thread. It takes turns of its node until all is over, nobody is left that would do what is due, or memory runs out; what it
-/// leaves undone is found due again by others. Each turn is bound before it is looked at, so that the lock is free while a job is
+/// The turns of one node's thread, until all is over, nobody is left that would do what is due, or memory runs out: how many events came.
+/// What it leaves undone is found due again by others. Each turn is bound before it is looked at, so that the lock is free while a job is
 /// evaluated. Where a thread leaves the lock for long, it first wakes one of those for whom it left something to do.
-fn work<X: Turning, N: RunName, R: Wait, G: Gate>(
+fn take_turns<X: Turning, N: RunName, R: Wait, G: Gate>(
     rt: &R,
-    alloc: Global,
     shared: &Mutex<Shared<X, N>>,
     bells: &Bells,
     gate: &G,
-    worker: Worker<N>,
-) -> Ran<N> {
-    let Worker { node, mut share } = worker;
+    node: u16,
+    evaluator: &mut Evaluator<'_>,
+    share: &mut Share<N>,
+) -> u64
+    requires program { evaluator.old.program ≡ N.given.program }
+    requires one_part { share.old.parts ≡ 1 }
+    requires nothing { share.old.amount ≡ 0 }
+    ensures one_part { share.new.parts ≡ 1 }
+    ensures counted { share.new.amount ≡ result }
+{
     let mut count = 0_u64;
     let mut looks = 0;
     for _ in rt.forever() {
-        let (turn, aside) = shared.lock(rt).turn(node, &mut share);
+        let (turn, aside) = shared.lock(rt).turn(node, share);
         bells.ring(aside.wakes);
         match turn {
             Ok(Turn::Acted) => {
@@ -132,7 +144,7 @@ fn work<X: Turning, N: RunName, R: Wait, G: Gate>(
                 looks = 0;
             }
             Ok(Turn::Evaluate(job)) => {
-                let Some(came) = bring(rt, alloc, shared, gate, node, job, &mut share) else {
+                let Some(came) = bring(rt, shared, gate, node, evaluator, job, share) else {
                     break;
                 };
                 count += came;
@@ -146,6 +158,28 @@ fn work<X: Turning, N: RunName, R: Wait, G: Gate>(
             Ok(Turn::Over) | Err(_) => break,
         }
     }
+    count
+}
+
+/// One node's thread. Its evaluator is its own, so a job goes on where the thread's last one paused. The program is had under the lock,
+/// once.
+fn work<X: Turning, N: RunName, R: Wait, G: Gate>(
+    rt: &R,
+    alloc: Global,
+    shared: &Mutex<Shared<X, N>>,
+    bells: &Bells,
+    gate: &G,
+    worker: Worker<N>,
+) -> Ran<N> {
+    let Worker { node, mut share } = worker;
+    let program = shared.lock(rt).program();
+    let count = match program {
+        Ok(program) => {
+            let mut evaluator = Evaluator::new(alloc, &program);
+            take_turns(rt, shared, bells, gate, node, &mut evaluator, &mut share)
+        }
+        Err(_) => 0,
+    };
     let woken = shared.lock(rt).leave(node);
     bells.ring(woken);
     ran_with(share, count)

@@ -9,7 +9,9 @@ use crate::turning::Turning;
 use crate::watch::{Rest, Watch};
 use fab_base::NoMemory;
 use fab_eval::Done;
-use fab_exchange::{GiveRefused, Given, Turn};
+use fab_exchange::{Given, Turn};
+use fab_tree::resolved::Resolved;
+use std::sync::Arc;
 use std::sync::ledger::{Book, Share};
 
 /// Nodes have numbers below this.
@@ -47,6 +49,13 @@ impl<X: Turning, N: RunName> Shared<X, N> {
         }
     }
 
+    /// The program of the named start.
+    pub fn program(&self) -> Result<Arc<Resolved>, NoMemory>
+        ensures { IfOk result (λ program. program.value ≡ N.given.program) }
+    {
+        self.held.program()
+    }
+
     /// A turn of a node, which a thread counts in its share.
     pub fn next(&mut self, node: u16, mine: &mut Share<N>) -> Result<Turn, NoMemory>
         requires part { 0 < mine.old.parts }
@@ -66,8 +75,8 @@ impl<X: Turning, N: RunName> Shared<X, N> {
     }
 
     /// What a node's job came to, brought back, which a thread counts in its share where it is taken.
-    pub fn give(&mut self, node: u16, done: Done, mine: &mut Share<N>) -> Result<Given, GiveRefused>
-        requires program { done.job.program.value ≡ N.given.program }
+    pub fn give(&mut self, node: u16, done: &Done, mine: &mut Share<N>) -> Result<Given, NoMemory>
+        requires program { done.now.job.program.value ≡ N.given.program }
         requires part { 0 < mine.old.parts }
         ensures amount { mine.new.amount ≡ mine.old.amount + taken result }
         ensures parts { mine.new.parts ≡ mine.old.parts }

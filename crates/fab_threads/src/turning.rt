@@ -9,8 +9,10 @@ ghost use Rattle.fab_threads.specs.Dones.{IsDone};
 use fab_base::NoMemory;
 use fab_device::Journal;
 use fab_eval::Done;
-use fab_exchange::{Exchange, GiveRefused, Given, Turn};
+use fab_exchange::{Exchange, Given, Turn};
 use fab_net::Event;
+use fab_tree::resolved::Resolved;
+use std::sync::Arc;
 
 /// What takes turns and counts its events, of nodes that were given something, some of whose journals never fail. It is what threads
 /// hand to each other, so nothing else of an exchange has to be said across threads.
@@ -30,6 +32,10 @@ pub trait Turning: Drop {
     fn len(&self) -> usize
         ensures { result ≡ events self.now };
 
+    /// The program that the nodes were given.
+    fn program(&self) -> Result<Arc<Resolved>, NoMemory>
+        ensures { IfOk result (λ program. program.value ≡ (given self.now).program) };
+
     /// A turn of a node.
     fn next(&mut self, node: u16) -> Result<Turn, NoMemory>
         ensures given { given self.new ≡ given self.old }
@@ -39,8 +45,8 @@ pub trait Turning: Drop {
         ensures over { IfOk result (λ turn. OnOver turn (over self.new)) };
 
     /// What a node's job came to, brought back.
-    fn give(&mut self, node: u16, done: Done) -> Result<Given, GiveRefused>
-        requires { done.job.program.value ≡ (given self.old).program }
+    fn give(&mut self, node: u16, done: &Done) -> Result<Given, NoMemory>
+        requires { done.now.job.program.value ≡ (given self.old).program }
         ensures given { given self.new ≡ given self.old }
         ensures sure { (n : ℕ) → sure self.new n ≡ sure self.old n }
         ensures counted { events self.new ≡ events self.old + taken result };
@@ -66,11 +72,15 @@ impl<J: Journal + Drop> Turning for Exchange<J> {
         self.core().log().len()
     }
 
+    fn program(&self) -> Result<Arc<Resolved>, NoMemory> {
+        self.core().start().clone()
+    }
+
     fn next(&mut self, node: u16) -> Result<Turn, NoMemory> {
         Exchange::next(self, node)
     }
 
-    fn give(&mut self, node: u16, done: Done) -> Result<Given, GiveRefused> {
+    fn give(&mut self, node: u16, done: &Done) -> Result<Given, NoMemory> {
         Exchange::give(self, node, done)
     }
 

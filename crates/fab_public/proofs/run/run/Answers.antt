@@ -25,9 +25,9 @@ returns-in-Some c =
     let q = c.in-Some.request.now in
     let asked : request_at s.part.now c.args.worker w.request ≡ Some q = sym c.request_at.ensures ∙ ap option_copied c.in-Some.is in
     subst (λ (x : Meant). IfOk c.meaning.result (λ m. IsMeant m x))
-    (ap (λ (known : FlatMap). erased sees shows s.part.now known q c.tid_of-tid.result 1000000 c.as_slice-given.result.now)
-    (c.in_ok-known.ensures ∙ ap (λ (rows : Rows). map_of (objects_of rows)) c.as_slice.ensures)
-    ∙ ap (λ (t : Tid). erased sees shows s.part.now (map_of (objects_of w.known)) q t 1000000 c.as_slice-given.result.now) (c.tid_of-tid.ensures (sight_at s) (public_at s))
-    ∙ ap (λ (given : List Value). erased sees shows s.part.now (map_of (objects_of w.known)) q (tid_of (sight_at s) (public_at s) c.args.worker (worker_of w)) 1000000 given) c.as_slice-given.ensures
-    ∙ ap (λ (o : Option Request). erased_of sees shows s.part.now o (tid_of (sight_at s) (public_at s) c.args.worker (worker_of w)) (map_of (objects_of w.known)) w.given) (sym asked))
+    (ap (λ (known : FlatMap). erased sees shows s.part.now known q c.tid_of-tid.result 1000000 c.given-given.result.now)
+    (c.in_ok-known.ensures ∙ ap (λ (rows : Rows). map_of (objects_of rows)) c.rows.ensures)
+    ∙ ap (λ (t : Tid). erased sees shows s.part.now (map_of (objects_of w.known.rows)) q t 1000000 c.given-given.result.now) (c.tid_of-tid.ensures (sight_at s) (public_at s))
+    ∙ ap (λ (given : List Value). erased sees shows s.part.now (map_of (objects_of w.known.rows)) q (tid_of (sight_at s) (public_at s) c.args.worker (worker_of w)) 1000000 given) c.given-given.ensures
+    ∙ ap (λ (o : Option Request). erased_of sees shows s.part.now o (tid_of (sight_at s) (public_at s) c.args.worker (worker_of w)) (map_of (objects_of w.known.rows)) w.known.given) (sym asked))
     c.meaning.ensures

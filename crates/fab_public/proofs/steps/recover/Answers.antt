@@ -26,3 +26,21 @@ returns-else-is_worker-clause-sent c =
     (λ sent h k is. h k.store is.roots is.stores
     ∙ ap (λ (b : Bool). all_spelled (if b then wakes sight P (k.worker c.args.node) else (asks (k.store c.args.node).shelf).sends)) (sym (sym c.is_worker.ensures.computed ∙ c.if-is_worker.false)))
     c.wake.ensures.sent
+
+pub returns-then-is_worker-clause-kept : goal.returns-then-is_worker-clause-kept
+returns-then-is_worker-clause-kept c =
+    let sight = sight_at c.args.setting.now in
+    let P = public_at c.args.setting.now in
+    on_ok_weaker c.change_worker.result
+    (λ h k is. subst (λ (b : Bool). IsKept sight P c.change_worker.new.kept (if b then at_worker sight P k c.args.node (λ (v : WorkerSeen). record v { boot = suc v.boot; number = 0 }) else k))
+    (sym (sym c.is_worker.ensures.computed ∙ c.if-is_worker.true)) (h k is))
+    c.change_worker.ensures.kept
+
+pub returns-then-is_worker-clause-sent : goal.returns-then-is_worker-clause-sent
+returns-then-is_worker-clause-sent c =
+    let sight = sight_at c.args.setting.now in
+    let P = public_at c.args.setting.now in
+    if_ok_weaker c.change_worker.result
+    (λ sent h k is. h k is
+    ∙ ap (λ (b : Bool). all_spelled (if b then wakes sight P (k.worker c.args.node) else (asks (k.store c.args.node).shelf).sends)) (sym (sym c.is_worker.ensures.computed ∙ c.if-is_worker.true)))
+    c.change_worker.ensures.sent

@@ -6,3 +6,4 @@ invariant-loop g l =
     (goal.iterator-loop g).can_next l.iterator' × (goal.iterator-loop g).is_finite l.iterator'
     × (l.node < 64) × (g.X.Turning.given l.held ≡ g.X.Turning.given l.fn.held) × ((n : ℕ) → g.X.Turning.sure l.held n ≡ g.X.Turning.sure l.fn.held n)
     × (g.X.Turning.events l.held ≡ g.X.Turning.events l.fn.held + l.own)
+    × (l.evaluators.program ≡ (g.X.Turning.given l.fn.held).program)

@@ -8,22 +8,24 @@ use Rattle.fab_exchange.proofs.exchange.Exchange.give.Goals as goal
 pub returns-then-not-is_current-clause-gives : goal.returns-then-not-is_current-clause-gives
 returns-then-not-is_current-clause-gives g c =
     let m = c.args.self.now in
-    let Told : CoreModel → Type 0 = λ k. TellsJob k.given (world k) c.args.node c.in-Ok.told in record {
-      stale = stale m.given m.moves c.args.node c.in-Ok.told c.args.done.job (subst Told c.self.view_is c.in-Ok.ensures.job) c.if-not-is_current.ensures;
-      back_is = refl;
+    let told = c.in_ok-told.told in
+    let Told : CoreModel → Type 0 = λ k. TellsJob k.given (world k) c.args.node told in record {
+      stale = stale m.given m.moves c.args.node told c.args.done.now.job (subst Told c.self.view_is c.in_ok-told.ensures.job) c.if-not-is_current.ensures;
       moves = refl;
     }
 
 pub does-requires : goal.does-requires
 does-requires g c =
     let m = c.args.self.now in
-    let Told : CoreModel → Type 0 = λ k. TellsJob k.given (world k) c.args.node c.in-Ok.told in
-    let it = current m.given m.moves c.args.node c.in-Ok.told c.args.done.job (subst Told c.self.view_is c.in-Ok.ensures.job) c.if-not-is_current.ensures c.requires.program in
+    let told = c.in_ok-told.told in
+    let Told : CoreModel → Type 0 = λ k. TellsJob k.given (world k) c.args.node told in
+    let it = current m.given m.moves c.args.node told c.args.done.now.job (subst Told c.self.view_is c.in_ok-told.ensures.job) c.if-not-is_current.ensures c.requires.program in
     record { goes = may_resume m.given m.moves c.args.node it.at_work; done = λ up busy. it.job_is }
 
-pub returns-in-Ok-does-clause-gives : goal.returns-in-Ok-does-clause-gives
-returns-in-Ok-does-clause-gives g c =
+pub returns-clause-gives : goal.returns-clause-gives
+returns-clause-gives g c =
     let m = c.args.self.now in
-    let Told : CoreModel → Type 0 = λ k. TellsJob k.given (world k) c.args.node c.in-Ok.told in
-    let it = current m.given m.moves c.args.node c.in-Ok.told c.args.done.job (subst Told c.self.view_is c.in-Ok.ensures.job) c.if-not-is_current.ensures c.requires.program in
-    takes m c.does.new.self c.args.node c.args.done it (may_resume m.given m.moves c.args.node it.at_work) c.in-Ok-does.ensures.came
+    let told = c.in_ok-told.told in
+    let Told : CoreModel → Type 0 = λ k. TellsJob k.given (world k) c.args.node told in
+    let it = current m.given m.moves c.args.node told c.args.done.now.job (subst Told c.self.view_is c.in_ok-told.ensures.job) c.if-not-is_current.ensures c.requires.program in
+    takes m c.does.new.self c.args.node c.args.done.now it (may_resume m.given m.moves c.args.node it.at_work) c.in_ok-does.ensures.came

@@ -1,6 +1,0 @@
-use Rattle.fab_replay.proofs.Resting.{none_evaluates}
-use Rattle.fab_replay.proofs.running.done_of.Goals as goal
-
-pub returns : goal.returns
-returns g c =
-    none_evaluates c.args.core.now.given c.args.core.now.moves c.args.worker c.in_ok-job.field-0 c.is_a_run.ensures.run c.in_ok-job.ensures.job c.in-None.is
