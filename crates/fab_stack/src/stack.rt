@@ -54,5 +54,6 @@ pub enum Call<'a> {
 pub(crate) struct Hand<'a> {
     pub(crate) method: &'a Method,
     pub(crate) statements: &'a [Statement],
+    pub(crate) behind: &'a [Statement],
     pub(crate) depth: u32,
 }

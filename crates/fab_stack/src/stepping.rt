@@ -185,12 +185,7 @@ fn advance<'a, A: Acts>(
             statements,
             depth,
         } => {
-            let hand = Hand {
-                method,
-                statements,
-                depth,
-            };
-            next(acts, program, stack, state, hand)
+            next(acts, program, stack, state, method, statements, depth)
         }
         Entry::Tried { .. } => Ok(state.merge()?),
         Entry::Returning {
@@ -222,7 +217,9 @@ fn next<'a, A: Acts>(
     program: &'a Resolved,
     stack: &mut Vec<Entry<'a>>,
     state: &mut State<'_>,
-    hand: Hand<'a>,
+    method: &'a Method,
+    statements: &'a [Statement],
+    depth: u32,
 ) -> Result<(), Fall>
     requires matched { IsMatched stack.old.items state.old }
     ensures steps { (first : Place) (known : FlatMap) → AllStem state.old.base.tid known (entries_of stack.old.items state.old.base.saved ++ in_hand hand.entry ∷ []) state.old.state → Steps (A.means acts.now program.now state.old.base.tid) first state.old.base.tid known result (entries_of stack.old.items state.old.base.saved ++ in_hand hand.entry ∷ []) state.old.state (entries_of stack.new.items state.new.base.saved) state.new.state }
@@ -230,11 +227,35 @@ fn next<'a, A: Acts>(
     ensures attempt { UnlessMemory result (IsSameAttempt state.new.base state.old.base) }
     ensures bound { Shortens result (1 + bound stack.old.items state.old) (bound stack.new.items state.new) }
 {
-    let mut hand = hand;
-    'on: while let Some((s, others)) = hand.statements.split_first() {
-        hand = through(acts, program, stack, state, hand, s, others)?;
+    let (_, none) = statements.split_at(statements.len());
+    let mut hand = Hand {
+        method,
+        statements,
+        behind: none,
+        depth,
+    };
+    'on: loop {
+        if let Some((s, others)) = hand.statements.split_first() {
+            hand = through(acts, program, stack, state, hand, s, others)?;
+        } else {
+            if hand.behind.is_empty() {
+                let Some(Entry::Rest { .. }) = stack.last() else {
+                    return Ok(());
+                };
+                let Some(Entry::Rest { method, statements, depth }) = stack.pop() else {
+                    return Ok(());
+                };
+                hand = Hand { method, statements, behind: hand.behind, depth };
+            } else {
+                hand = Hand {
+                    method: hand.method,
+                    statements: hand.behind,
+                    behind: hand.statements,
+                    depth: hand.depth,
+                };
+            }
+        }
     }
-    Ok(())
 }
 
 /// Through the first statement of what is in hand, to what is in hand then. The fuel and the touches
@@ -266,6 +287,7 @@ fn through<'a, A: Acts>(
             Err(Fall::Ended(Way::Over(Err(End::Stopped(stop)))))
         }
         Err(Halt::Ended(End::Missing { site, oid })) => {
+            put(stack, hand.method, hand.behind, hand.depth)?;
             put(stack, hand.method, hand.statements, hand.depth)?;
             Err(Fall::Ended(Way::Lacks {
                 site,
@@ -300,40 +322,47 @@ fn follow<'a, A: Acts>(
     let Hand {
         method,
         statements,
+        behind,
         depth,
     } = hand;
     match lead {
         Lead::Passed => Ok(Hand {
             method,
             statements: others,
+            behind,
             depth,
         }),
         Lead::Into(block) => {
-            put(stack, method, others, depth)?;
+            put(stack, method, behind, depth)?;
             Ok(Hand {
                 method,
                 statements: block,
+                behind: others,
                 depth,
             })
         }
         Lead::Again(block) => {
-            put(stack, method, statements, depth)?;
+            put(stack, method, behind, depth)?;
             Ok(Hand {
                 method,
                 statements: block,
+                behind: statements,
                 depth,
             })
         }
         Lead::Try(block, otherwise) => {
+            put(stack, method, behind, depth)?;
             attempt(stack, state, method, others, otherwise, depth)?;
+            let (_, none) = behind.split_at(behind.len());
             Ok(Hand {
                 method,
                 statements: block,
+                behind: none,
                 depth,
             })
         }
         Lead::Enter(number, args, target) => enter(
-            acts, program, stack, state, method, others, depth, number, args, target,
+            acts, program, stack, state, method, others, behind, depth, number, args, target,
         ),
     }
 }
@@ -376,6 +405,7 @@ fn enter<'a, A: Acts>(
     state: &mut State<'_>,
     caller: &'a Method,
     others: &'a [Statement],
+    behind: &'a [Statement],
     depth: u32,
     number: u16,
     args: Seq<Value>,
@@ -395,6 +425,7 @@ fn enter<'a, A: Acts>(
             Ok(Hand {
                 method: caller,
                 statements: others,
+                behind,
                 depth,
             })
         }
@@ -406,6 +437,7 @@ fn enter<'a, A: Acts>(
             Ok(Hand {
                 method: caller,
                 statements: others,
+                behind,
                 depth,
             })
         }
@@ -414,6 +446,7 @@ fn enter<'a, A: Acts>(
                 return Err(Fall::Ended(Way::Over(Err(End::Stopped(Stop::Depth)))));
             }
             let locals = state.exchange(locals);
+            put(stack, caller, behind, depth)?;
             put(stack, caller, others, depth)?;
             stack.push(Entry::Returning {
                 callee,
@@ -423,9 +456,11 @@ fn enter<'a, A: Acts>(
                 locals,
                 target,
             })?;
+            let (_, none) = others.split_at(others.len());
             Ok(Hand {
                 method: callee,
                 statements: callee.body.as_slice(),
+                behind: none,
                 depth: depth - 1,
             })
         }
