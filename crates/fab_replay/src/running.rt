@@ -74,7 +74,8 @@ fn evaluated<J: Journal>(
         → ((world core.now).node worker).attempt.phase ≡ Evaluating → HasDone core.now.given (world core.now) worker done) }
 {
     core.is_a_run();
-    if went_on(alloc, core, evaluators, worker)? {
+    let went = went_on(alloc, core, evaluators, worker)?;
+    if went {
         return Ok(Some(worker));
     }
     match core.job(worker)? {
