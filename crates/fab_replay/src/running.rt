@@ -54,11 +54,13 @@ fn went_on<J: Journal>(
     let Some(done) = evaluators.done(worker) else {
         return Ok(false);
     };
-    let Some(answer) = core.answer_behind(worker, &done.job) else {
-        return Ok(false);
-    };
-    let object = answer.2.copy(alloc)?;
-    evaluators.go_on(worker, answer.0, answer.1, object)
+    match core.answer_behind(worker, &done.job) {
+        Some(answer) => {
+            let object = answer.2.copy(alloc)?;
+            evaluators.go_on(worker, answer.0, answer.1, object)
+        }
+        None => Ok(false),
+    }
 }
 
 /// Evaluates the job of a worker, if there is one: by which evaluator. A job that doesn't go on is copied whole.
