@@ -67,7 +67,7 @@ pub tree_put : (o : Oid) (x : ℕ × Object) (leaves : List Leaf) → rows_in (i
 tree_put o x [] = refl
 tree_put o x (leaf ∷ leaves) =
     elim (derived_cmp o leaf.0) as (λ (r : Ordering). derived_cmp o leaf.0 ≡ r
-    → rows_in (match_ordering r ((o, x) ∷ leaf ∷ leaves) ((leaf.0, x) ∷ leaves) (leaf ∷ insert_entry derived_cmp leaves o x))
+    → rows_in (match_ordering {X = List Leaf} r ((o, x) ∷ leaf ∷ leaves) ((leaf.0, x) ∷ leaves) (leaf ∷ insert_entry derived_cmp leaves o x))
     ≡ placed name_of (row_in (o, x)) (rows_in (leaf ∷ leaves))) [
       | Less ↦ λ h. sym (placed_before name_of (row_in (o, x)) (rows_in (leaf ∷ leaves)) (before_from_less o leaf.0 (sym (derived_is o leaf.0) ∙ h)))
       | Equal ↦ λ h.

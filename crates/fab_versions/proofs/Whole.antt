@@ -13,7 +13,7 @@ use Rattle.fab_versions.specs.Holdings.{Leaf, rows_in, rows_of}
 use Rattle.fab_versions.proofs.Merged.{merged_row, put_beside, put_among}
 use Rattle.fab_versions.proofs.Trees.{row_found, tree_row}
 
-pub none_from : (found : Option Row) → is_some found ≡ false → found ≡ None
+none_from : (found : Option Row) → is_some found ≡ false → found ≡ None
 none_from None h = refl
 none_from (Some row) h = cc
 
@@ -31,9 +31,9 @@ module _ (leaves : List Leaf) (beside : Rows) (h : IsTrue (ascends name_of besid
       → row_of name_of (rows_of leaves beside) o ≡ row_found o found
   found_in_tree o found none e = past_beside o none ∙ tree_row leaves o ∙ ap (row_found o) (sym e)
 
-  pub not_there : (o : Oid) → row_of name_of beside o ≡ None → row_of name_of (rows_in leaves) o ≡ None
+  pub not_there : (o : Oid) → is_some (row_of name_of beside o) ≡ false → row_of name_of (rows_in leaves) o ≡ None
       → IsSome (row_of name_of (rows_of leaves beside) o) → ⊥
-  not_there o none missing there = false≢true (ap is_some (sym (past_beside o none ∙ missing)) ∙ there)
+  not_there o absent missing there = false≢true (ap is_some (sym (past_beside o (none_from (row_of name_of beside o) absent) ∙ missing)) ∙ there)
 
   -- ---- what is put
 
@@ -41,6 +41,8 @@ module _ (leaves : List Leaf) (beside : Rows) (h : IsTrue (ascends name_of besid
     pub goes_beside : (new : Rows) → new ≡ placed name_of row beside → rows_of leaves new ≡ placed name_of row (rows_of leaves beside)
     goes_beside new e = ap (rows_of leaves) e ∙ put_beside name_of row beside (rows_in leaves) h g
 
-    pub goes_in_tree : (new : List Leaf) → row_of name_of beside (name_of row) ≡ None → rows_in new ≡ placed name_of row (rows_in leaves)
+    pub goes_in_tree : (new : List Leaf) → is_some (row_of name_of beside (name_of row)) ≡ false → rows_in new ≡ placed name_of row (rows_in leaves)
         → rows_of new beside ≡ placed name_of row (rows_of leaves beside)
-    goes_in_tree new none e = ap (placed_all name_of beside) e ∙ put_among name_of row beside (rows_in leaves) h g none
+    goes_in_tree new absent e =
+        ap (placed_all name_of beside) e
+        ∙ put_among name_of row beside (rows_in leaves) h g (none_from (row_of name_of beside (name_of row)) absent)
