@@ -52,18 +52,6 @@ fn store_at<J: Journal>(nodes: &[Option<Node<J>>], number: usize) -> Option<&Sto
 
 // ---- all that a store holds
 
-/// Copies of rows are put into a table.
-fn put_rows(alloc: Global, table: &mut Table, rows: &[(Oid, u32, Object)]) -> Result<(), NoMemory>
-    ensures { OnOk result (table.new.rows ≡ placed_all name_of rows.now table.old.rows) }
-{
-    let mut rest = rows;
-    'rows: while let Some((row, after)) = rest.split_first() {
-        table.put(row.0, row.1, row.2.copy(alloc)?)?;
-        rest = after;
-    }
-    Ok(())
-}
-
 /// Copies of writes are put into a table, each at the version behind the one that was read.
 fn put_writes(
     alloc: Global,
@@ -119,19 +107,7 @@ fn put_decided<J: Journal>(
     Ok(())
 }
 
-/// The same rows again.
-fn copies(alloc: Global, rows: &[(Oid, u32, Object)]) -> Result<Seq<(Oid, u32, Object)>, NoMemory>
-    ensures { IfOk result (λ copies. copies ≡ rows.now) }
-{
-    let mut copies = Seq::new(alloc);
-    for row in rows {
-        copies.push((row.0, row.1, row.2.copy(alloc)?))?;
-    }
-    Ok(copies)
-}
-
 /// What the node of this number holds: nothing, where it is no honest store.
-#[tactic(auto, using(crate::proofs::Placing::placed_again))]
 pub(crate) fn rows_held<J: Journal>(
     alloc: Global,
     nodes: &[Option<Node<J>>],
@@ -142,10 +118,9 @@ pub(crate) fn rows_held<J: Journal>(
     let Some(store) = store_at(nodes, number) else {
         return Ok(Seq::new(alloc));
     };
-    let mut table = Table::new(alloc);
-    put_rows(alloc, &mut table, store.rows())?;
+    let mut table = store.objects(alloc)?;
     put_decided(alloc, &mut table, nodes, store.prepared())?;
-    copies(alloc, table.rows())
+    table.into_rows(alloc)
 }
 
 // ---- one object
@@ -212,12 +187,12 @@ fn decided_under<'a, J: Journal>(
     None
 }
 
-/// What stands under a name among rows.
-fn row_under(rows: &[(Oid, u32, Object)], oid: Oid) -> Option<(u32, &Object)>
-    ensures { option_map (λ found. (found.0, found.1.now)) result ≡ under rows.now oid }
+/// What stands under a name in a store.
+fn row_under(store: &Store, oid: Oid) -> Option<(u32, &Object)>
+    ensures { option_map (λ found. (found.0, found.1.now)) result ≡ under store.now.shelf.rows oid }
 {
-    let row = rows.iter().find(|row| row.0 == oid)?;
-    Some((row.1, &row.2))
+    let (version, object) = store.get(oid)?;
+    Some((version, object))
 }
 
 /// What an honest store holds under a name.
@@ -228,7 +203,7 @@ fn held_at<J: Journal>(nodes: &[Option<Node<J>>], oid: Oid) -> Option<(u32, &Obj
     let store = store_at(nodes, usize::from(oid.store))?;
     match decided_under(nodes, store.prepared(), oid) {
         Some(found) => Some(found),
-        None => row_under(store.rows(), oid),
+        None => row_under(store, oid),
     }
 }
 

@@ -123,19 +123,19 @@ fn replies(store: &mut Store, sender: u16, bytes: &[u8], reply: &[u8]) -> Result
     Ok(sent(&store.handle(sender, bytes)?) == reply)
 }
 
-/// The version of the row at a place, 0 where there is none.
-fn version_at(store: &Store, at: usize) -> u32 {
-    match store.rows().get(at) {
-        Some(row) => row.1,
+/// The version of the object of a name, 0 where there is none.
+fn version_of(store: &Store, oid: Oid) -> u32 {
+    match store.get(oid) {
+        Some((version, _)) => version,
         None => 0,
     }
 }
 
 fn versions(store: &Store) -> (u32, u32, u32) {
     (
-        version_at(store, 0),
-        version_at(store, 1),
-        version_at(store, 2),
+        version_of(store, FIRST),
+        version_of(store, SECOND),
+        version_of(store, BOX),
     )
 }
 
@@ -419,7 +419,7 @@ fn recovery(rt: HostRuntime) -> Result<(), Fail> {
     let alloc = rt.alloc();
     let rights = rights(alloc)?;
     let (store, step) = Store::recover(alloc, 1, &rights, &[], &[])?;
-    assert_eq!(rt; store.rows().len(), 0);
+    assert_eq!(rt; store.objects(alloc)?.into_rows(alloc)?.len(), 0);
     assert!(rt; sent(&step).is_empty());
     Ok(())
 }

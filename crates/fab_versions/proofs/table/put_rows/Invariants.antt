@@ -1,7 +1,7 @@
 use Rattle.std.proofs.Common.{◌≡◌, length}
 use Rattle.fab_protocol.specs.Tables.{placed_all}
 use Rattle.fab_protocol.specs.Versions.{name_of}
-use Rattle.fab_core.proofs.holding.put_rows.Given as goal
+use Rattle.fab_versions.proofs.table.put_rows.Given as goal
 
 -- what is left is put behind what was put
 abbrev pub invariant-rows : goal.invariant-rows

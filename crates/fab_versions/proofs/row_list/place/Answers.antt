@@ -2,7 +2,7 @@ use Rattle.std.proofs.Common.{rules}
 use Rattle.std.proofs.lemmas.List.Sorted.{answers_always}
 use Rattle.fab_protocol.specs.Versions.{name_of}
 use Rattle.fab_versions.proofs.Found.{searched_by_derived}
-use Rattle.fab_versions.proofs.table.place.Goals as goal
+use Rattle.fab_versions.proofs.row_list.place.Goals as goal
 
 -- the closure gives a row's name
 pub returns : goal.returns
