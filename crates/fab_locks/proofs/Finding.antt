@@ -5,7 +5,9 @@ use Rattle.std.specs.List.{All, AllByRecursion, filter, find, list_any}
 use Rattle.std.specs.List.Sorted.{IsStrictlySortedBy}
 use Rattle.std.specs.Map.{keys_of, values_of, lookup, remove_entry}
 use Rattle.std.specs.Option.{SomeIff, option_map}
-use Rattle.std.specs.Ordering.{Ordering, Less, Equal, Greater, nat_cmp, is_eq, is_gt, is_lt, match_ordering}
+use Rattle.std.specs.declared.cmp.Ordering.{Ordering}
+use Rattle.std.specs.declared.cmp.Ordering.TheVariants.{Less, Equal, Greater}
+use Rattle.std.specs.Ordering.{nat_cmp, is_eq, is_gt, is_lt, match_ordering}
 use Rattle.std.specs.BTreeMap.{BTreeMap, IsOrdered, btree_map_len, get, insert_entry, is_at, keys}
 use Rattle.std.proofs.lemmas.Bool.{true≢false, false≢true, eqb-true, false_from_ne_true, or_left, or_right}
 use Rattle.std.proofs.lemmas.Bool.Decides.{nat_tests}
@@ -81,8 +83,8 @@ all_stay look (e ∷ es) w found none = step (e.1.0.worker == w) refl
 pub find_least : (look : ℕ → Option Prepared) (test : Prepared → Bool) (n : ℕ) (p : Prepared) (es : Numbered) → Found look es
     → IsStrictlySortedBy nat_cmp (keys_of es) → under n es ≡ Some p → test p ≡ true
     → ((m : ℕ) (q : Prepared) → look m ≡ Some q → test q ≡ true → n ≤ m) → find test (values_of es) ≡ Some p
-find_least look test n p [] found sorted at passes least = absurd (some_none p (sym at))
-find_least look test n p (e ∷ es) found sorted at passes least = by_test (test e.1) refl
+find_least look test n p [] found sorted at good_one least = absurd (some_none p (sym at))
+find_least look test n p (e ∷ es) found sorted at good_one least = by_test (test e.1) refl
   where
     -- the first one passes, so no number below its own is the least
     by_order : (r : Ordering) → nat_cmp n e.0 ≡ r → test e.1 ≡ true → find test (e.1 ∷ values_of es) ≡ Some p
@@ -97,14 +99,14 @@ find_least look test n p (e ∷ es) found sorted at passes least = by_test (test
     past : (b : Bool) → is_at (nat_cmp n) e.0 ≡ b → test e.1 ≡ false → under n es ≡ Some p
     past true is bad =
         let same : e.1 ≡ p = some_once e.1 p (sym (ap (λ b. cond b (Some e.1) (under n es)) is) ∙ at) in
-        absurd (true≢false (sym passes ∙ sym (ap test same) ∙ bad))
+        absurd (true≢false (sym good_one ∙ sym (ap test same) ∙ bad))
     past false is bad = sym (ap (λ b. cond b (Some e.1) (under n es)) is) ∙ at
 
     by_test : (b : Bool) → test e.1 ≡ b → find test (e.1 ∷ values_of es) ≡ Some p
     by_test true good = by_order (nat_cmp n e.0) refl good
     by_test false bad =
         ap (λ b. cond b (Some e.1) (find test (values_of es))) bad
-        ∙ find_least look test n p es found.1 (sorted_tail nat_cmp e.0 (keys_of es) sorted) (past (is_at (nat_cmp n) e.0) refl bad) passes least
+        ∙ find_least look test n p es found.1 (sorted_tail nat_cmp e.0 (keys_of es) sorted) (past (is_at (nat_cmp n) e.0) refl bad) good_one least
 
 pub find_none : (look : ℕ → Option Prepared) (test : Prepared → Bool) (es : Numbered) → Found look es
     → ((m : ℕ) (q : Prepared) → look m ≡ Some q → test q ≡ false) → find test (values_of es) ≡ None
@@ -233,9 +235,9 @@ module _ (es : Numbered) (index : Index) (is : IsIndexed es index) (found : Foun
     pub least_bars : (n : ℕ) (p : Prepared) → IsLeast (has (names_for writing index) o) n → under n es ≡ Some p → first_barring o writing (values_of es) ≡ Some p.0
     least_bars n p h at =
         ap (option_map (λ q. q.0))
-        (find_least (λ m. under m es) (λ q. bars o writing q.1) n p es found is.ordered at (sym (bars_under n p at) ∙ h.passes)
+        (find_least (λ m. under m es) (λ q. bars o writing q.1) n p es found is.ordered at (sym (bars_under n p at) ∙ h.holds)
         (λ m q there good. h.least m (bars_under m q there ∙ good)))
 
     -- and is held
     pub least_is_held : (n : ℕ) → IsLeast (has (names_for writing index) o) n → under n es ≡ None → ⊥
-    least_is_held n h none = true≢false (sym h.passes ∙ barring_is n ∙ ap (passes (λ items. bars o writing items)) none)
+    least_is_held n h none = true≢false (sym h.holds ∙ barring_is n ∙ ap (passes (λ items. bars o writing items)) none)

@@ -28,7 +28,7 @@ module _ (o : Oid) (names : BTreeSet Key) (walk : List Key) (range : IsKeyRangeO
     -- the walk begins at the name
     pub least_number : is_same k.0 o ≡ true → IsLeast (has names o) k.1
     least_number same = record {
-      passes = ap (λ p. contains key_cmp names (p, k.1)) (sym (one_name k.0 o same)) ∙ first.1;
+      holds = ap (λ p. contains key_cmp names (p, k.1)) (sym (one_name k.0 o same)) ∙ first.1;
       least = λ m h. name_in_order o k.0 k.1 m same (not_below m h);
     }
 

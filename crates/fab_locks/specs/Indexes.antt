@@ -1,7 +1,8 @@
 -- What finds held transactions without a walk over them: the number of each tid, and the numbers of those that have a name.
 use Rattle.std.specs.Prelude.{◌≡◌, ℕ, ◌≤◌, Bool, true, false, not, ◌&&◌, ◌||◌, ◌==◌, cond, if◌then◌else◌, List, Option, Some, None}
 use Rattle.std.specs.List.{list_any}
-use Rattle.std.specs.Ordering.{Ordering, nat_cmp, ordering_then}
+use Rattle.std.specs.declared.cmp.Ordering.{Ordering}
+use Rattle.std.specs.Ordering.{nat_cmp, ordering_then}
 use Rattle.std.specs.List.Sorted.{IsStrictlySortedBy}
 use Rattle.std.specs.Map.{keys_of, lookup, values_of}
 use Rattle.std.specs.BTreeMap.{get, is_at}
@@ -56,7 +57,7 @@ pub record Keeps (test : Oid → Bool) (n : ℕ) (old new : BTreeSet Key) : Type
 
 -- the least number that passes a test
 pub record IsLeast (test : ℕ → Bool) (n : ℕ) : Type 0 where
-  pub passes : test n ≡ true
+  pub holds : test n ≡ true
   pub least : (m : ℕ) → test m ≡ true → n ≤ m
 
 -- ---- a transaction in the indexes

@@ -5,7 +5,6 @@ ghost use Rattle.std.specs.Map.Iter.{TakesFirst, TakesLast, deref};
 
 use fab_base::{Items, Tid};
 use std::collections::btree_map::Values;
-use std::iter::{DoubleEndedIterator, Iterator};
 use std::marker::Model;
 
 /// The held transactions that are left of a walk, in the order of holding. Contracts see them as a list.
