@@ -14,6 +14,7 @@ ghost use Rattle.fab_nodes.specs.Under.{last_under, under};
 use crate::core_state::Core;
 use fab_base::{Items, NoMemory, Object, Oid, Seq, Tid};
 use fab_device::Journal;
+use fab_locks::Held;
 use fab_node::{Node, Role};
 use fab_nodes::node_at;
 use fab_store::Store;
@@ -93,16 +94,15 @@ fn put_decided<J: Journal>(
     alloc: Global,
     table: &mut Table,
     nodes: &[Option<Node<J>>],
-    prepared: &[(Tid, Items)],
+    prepared: Held<'_>,
 ) -> Result<(), NoMemory>
-    ensures { OnOk result (table.new.rows ≡ behind (only_decided nodes.now prepared.now) table.old.rows) }
+    ensures { OnOk result (table.new.rows ≡ behind (only_decided nodes.now prepared.entry) table.old.rows) }
 {
     let mut rest = prepared;
-    'transactions: while let Some((transaction, after)) = rest.split_first() {
+    'transactions: while let Some(transaction) = rest.next() {
         if is_decided(nodes, transaction.0) {
             put_left(alloc, table, &transaction.1)?;
         }
-        rest = after;
     }
     Ok(())
 }
@@ -172,17 +172,16 @@ fn decided_left<'a, J: Journal>(
 #[tactic(auto, using(crate::proofs::Placing::decided_last))]
 fn decided_under<'a, J: Journal>(
     nodes: &[Option<Node<J>>],
-    prepared: &'a [(Tid, Items)],
+    prepared: Held<'a>,
     oid: Oid,
 ) -> Option<(u32, &'a Object)>
-    ensures { option_map (λ found. (found.0, found.1.now)) result ≡ last_under (flat_map (λ p. left_by p.1) (only_decided nodes.now prepared.now)) oid }
+    ensures { option_map (λ found. (found.0, found.1.now)) result ≡ last_under (flat_map (λ p. left_by p.1) (only_decided nodes.now prepared.entry)) oid }
 {
     let mut rest = prepared;
-    'transactions: while let Some((last, before)) = rest.split_last() {
+    'transactions: while let Some(last) = rest.next_back() {
         if let Some(found) = decided_left(nodes, last, oid) {
             return Some(found);
         }
-        rest = before;
     }
     None
 }

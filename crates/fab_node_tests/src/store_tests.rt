@@ -158,7 +158,7 @@ fn a_transfer(rt: HostRuntime) -> Result<(), Fail> {
             b"\x01\x05\x00\x00\x00\x00\x00\x01\x00\x00\x00\x01\x00"
         )?
     );
-    assert_eq!(rt; store.prepared().len(), 1);
+    assert_eq!(rt; store.prepared().count(), 1);
     // Another worker can't commit it, and its own does so once.
     assert!(rt;
         store
@@ -179,7 +179,7 @@ fn a_transfer(rt: HostRuntime) -> Result<(), Fail> {
             .is_none()
     );
     assert_eq!(rt; versions(&store), (2, 2, 1));
-    assert_eq!(rt; store.prepared().len(), 0);
+    assert_eq!(rt; store.prepared().count(), 0);
     Ok(())
 }
 
@@ -401,7 +401,7 @@ fn boots_and_last_tids(rt: HostRuntime) -> Result<(), Fail> {
             .entry
             .is_none()
     );
-    assert_eq!(rt; store.prepared().len(), 1);
+    assert_eq!(rt; store.prepared().count(), 1);
     // An attempt of the boot before is old, and the greatest tid is new once.
     assert!(rt; !is_taken(&mut store, alloc, tid(0, 2), &[])?);
     let greatest = Tid {

@@ -16,8 +16,8 @@ use crate::plan::StorePlan;
 use crate::senders::none_heard;
 use crate::start::table_at_start;
 use crate::steps::plan_of;
-use fab_base::{Entry, Items, NoMemory, Object, Oid, Tid};
-use fab_locks::Locks;
+use fab_base::{Entry, NoMemory, Object, Oid};
+use fab_locks::{Held, Locks};
 use fab_net::Step;
 use fab_protocol::Sender;
 use fab_rights::Rights;
@@ -114,8 +114,8 @@ impl Store {
     }
 
     /// The transactions that are prepared, in the order of preparing. Each store has a shelf.
-    pub fn prepared(&self) -> &[(Tid, Items)]
-        ensures all { result.now ≡ self.now.shelf.prepared }
+    pub fn prepared(&self) -> Held<'_>
+        ensures all { result ≡ self.now.shelf.prepared }
         ensures shelf { IsShelf self.now.rights self.now.node self.now.shelf }
     {
         self.locks.held()

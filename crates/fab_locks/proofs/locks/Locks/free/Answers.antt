@@ -1,37 +1,50 @@
-use Rattle.std.proofs.Common.{not, sym, subst, ap, ◌∙◌}
-use Rattle.fab_protocol.specs.Versions.{is_tid}
+use Rattle.std.proofs.Common.{◌++◌, ◌∷◌, [], sym, subst, ap, ◌∙◌}
+use Rattle.std.specs.Option.{MatchOption}
 use Rattle.fab_protocol.specs.Stores.{prepared_as, without}
-use Rattle.fab_locks.specs.Conflicts.{AreDistinct, IsHeldAt, holds_tid}
-use Rattle.fab_locks.proofs.Tids.{distinct_filter, removed_at, taken_at, without_absent, prepared_absent}
+use Rattle.fab_locks.proofs.Joining.{distinct_behind, distinct_left, freed_along, freed_behind, freed_first, left_first, without_either}
 use Rattle.fab_locks.proofs.locks.Locks.free.Goals as goal
 
--- the tid stands at the place that is taken out
+-- it is among the indexed ones
 pub invariant_of-self : goal.invariant_of-self
 invariant_of-self c =
-    let at = subst (λ l. IsHeldAt c.args.tid l c.in-Some.at) c.deref.ensures.value c.in-Some.ensures in
-    let held = c.self.inside.held.items in
-    subst AreDistinct (removed_at c.args.tid held c.in-Some.at c.self.invariant at ∙ sym c.remove.ensures.items) (distinct_filter (λ p. not (is_tid p.0 c.args.tid)) held c.self.invariant)
+    let xs = c.self.inside.indexed in
+    let ys = c.self.inside.beside.items in
+    distinct_left c.args.tid (xs ++ ys) (c.free.new.self ++ ys) c.self.invariant
+    (ap (λ l. l ++ ys) c.free.ensures.held ∙ left_first c.args.tid xs ys (c.args.tid, c.in-Some.items) c.self.invariant c.in-Some.ensures.items)
 
 pub returns-in-Some-clause-items : goal.returns-in-Some-clause-items
 returns-in-Some-clause-items c =
-    let at = subst (λ l. IsHeldAt c.args.tid l c.in-Some.at) c.deref.ensures.value c.in-Some.ensures in
     ap (λ h. prepared_as c.args.tid h.held) (sym c.self.view_is)
-    ∙ taken_at c.args.tid c.self.inside.held.items c.in-Some.at c.self.invariant at c.remove.result c.remove.ensures.value
+    ∙ freed_first c.args.tid c.self.inside.indexed c.self.inside.beside.items (c.args.tid, c.in-Some.items) c.self.invariant c.in-Some.ensures.items
 
 pub returns-in-Some-clause-held : goal.returns-in-Some-clause-held
 returns-in-Some-clause-held c =
-    let at = subst (λ l. IsHeldAt c.args.tid l c.in-Some.at) c.deref.ensures.value c.in-Some.ensures in
-    c.remove.ensures.items
-    ∙ sym (removed_at c.args.tid c.self.inside.held.items c.in-Some.at c.self.invariant at)
+    let xs = c.self.inside.indexed in
+    let ys = c.self.inside.beside.items in
+    ap (λ l. l ++ ys) c.free.ensures.held
+    ∙ left_first c.args.tid xs ys (c.args.tid, c.in-Some.items) c.self.invariant c.in-Some.ensures.items
     ∙ ap (λ h. without c.args.tid h.held) c.self.view_is
 
--- it isn't held
+-- or beside them
+pub free_beside-requires : goal.free_beside-requires
+free_beside-requires c = distinct_behind c.self.inside.indexed c.self.inside.beside.items c.self.invariant
+
+pub invariant_of-self-2 : goal.invariant_of-self-2
+invariant_of-self-2 c =
+    let xs = c.self.inside.indexed in
+    let ys = c.self.inside.beside.items in
+    distinct_left c.args.tid (xs ++ ys) (c.free.new.self ++ c.free_beside.new.held.items) c.self.invariant
+    ((λ i. c.free.ensures.held i ++ c.free_beside.ensures.held i) ∙ without_either c.args.tid xs ys)
+
 pub returns-in-None-clause-items : goal.returns-in-None-clause-items
 returns-in-None-clause-items c =
-    let absent = ap (λ h. holds_tid c.args.tid h.held) (sym c.self.view_is) ∙ ap (holds_tid c.args.tid) (sym c.deref.ensures.value) ∙ c.in-None.ensures in
-    prepared_absent c.args.tid c.args.self.now.held absent
+    let xs = c.self.inside.indexed in
+    let ys = c.self.inside.beside.items in
+    freed_along c.args.tid (xs ++ ys) c.args.self.now.held (ap (λ h. h.held) c.self.view_is) c.free_beside.result
+    (freed_behind c.args.tid xs ys c.free_beside.result c.in-None.ensures.items c.free_beside.ensures.items)
 
 pub returns-in-None-clause-held : goal.returns-in-None-clause-held
 returns-in-None-clause-held c =
-    let absent = ap (λ h. holds_tid c.args.tid h.held) (sym c.self.view_is) ∙ ap (holds_tid c.args.tid) (sym c.deref.ensures.value) ∙ c.in-None.ensures in
-    sym (without_absent c.args.tid c.args.self.now.held absent)
+    (λ i. c.free.ensures.held i ++ c.free_beside.ensures.held i)
+    ∙ without_either c.args.tid c.self.inside.indexed c.self.inside.beside.items
+    ∙ ap (λ h. without c.args.tid h.held) c.self.view_is
