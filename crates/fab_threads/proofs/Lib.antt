@@ -1,4 +1,5 @@
 mod CountsExamples
 pub mod Crossing
+pub mod Keeping
 pub mod Logs
 pub mod Told
