@@ -1,5 +1,5 @@
 -- A worker whose Resume may come is at work, and the other way round; and what is its job.
-use Rattle.std.proofs.Common.{◌≡◌, ℕ, List, Bool, true, false, ◌&&◌, IsTrue, Option, Some, None, refl, sym, ap, ◌∙◌, true≢false}
+use Rattle.std.proofs.Common.{◌≡◌, ℕ, List, Bool, true, false, ◌&&◌, IsTrue, Some, None, refl, sym, ap, ◌∙◌, true≢false}
 use Rattle.std.proofs.lemmas.Bool.{and_from, and_parts}
 use Rattle.fab_eval.specs.declared.job.Job.{Job}
 use Rattle.fab_net.specs.declared.event.Inner.TheVariants as i

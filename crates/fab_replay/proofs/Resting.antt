@@ -72,9 +72,11 @@ pub went_told : {E : Type 0} (g : GivenModel) (moves : List Move) (n : ℕ) (all
 went_told g moves n all new job o version x (Ok true) is tells h = λ went.
     subst (IsLastTold g moves n) (sym (subst (λ (l : Option Job). GoesOnOrStays true l o version x (last_of new n)) (sym is) h)) tells
 went_told g moves n all new job o version x (Ok false) is tells h = λ went. absurd (true≢false (sym went))
-went_told g moves n all new job o version x (Err e) is tells h = tt
+went_told g moves n all new job o version x (Err refused) is tells h = tt
 
+-- and so is what that came to
 pub told_done : (g : GivenModel) (moves : List Move) (n : ℕ) (all : EvaluatorsModel) (done : Option Done) → IsLastTold g moves n (last_of all n)
     → IsLastDone all (Some n) done → HasDone g (world_by g moves) n done
 told_done g moves n all None h is = subst (IsLastTold g moves n) (sym is.0) h
-told_done g moves n all (Some d) h is = (subst (IsLastTold g moves n) (sym is.0) h).1
+told_done g moves n all (Some d) h is =
+    let told : TellsJob g (world_by g moves) n (Some d.job) = subst (IsLastTold g moves n) (sym is.0) h in told.1

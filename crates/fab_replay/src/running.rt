@@ -40,7 +40,7 @@ pub(crate) enum Ran {
 }
 
 /// Goes on with the last answer of a worker, where its job is the last one with this answer more, and that one paused for it; and says
-/// whether it did. This answer alone is copied.
+/// whether it did. This answer alone is copied. Without memory the last job stays.
 fn went_on<J: Journal>(
     alloc: Global,
     core: &Core<J>,
@@ -54,11 +54,13 @@ fn went_on<J: Journal>(
     let Some(done) = evaluators.done(worker) else {
         return Ok(false);
     };
-    let Some(answer) = core.answer_behind(worker, &done.job) else {
-        return Ok(false);
-    };
-    let object = answer.2.copy(alloc)?;
-    evaluators.go_on(worker, answer.0, answer.1, object)
+    match core.answer_behind(worker, &done.job) {
+        Some(answer) => {
+            let object = answer.2.copy(alloc)?;
+            evaluators.go_on(worker, answer.0, answer.1, object)
+        }
+        None => Ok(false),
+    }
 }
 
 /// Evaluates the job of a worker, if there is one: by which evaluator. A job that doesn't go on is copied whole.
@@ -175,7 +177,7 @@ fn next<J: Journal>(
 }
 
 /// The events of the schedule come in order, up to the first that may not come or in which a journal fails. A job that comes again with
-/// one answer more goes on where it paused.
+/// one answer more goes on where it paused. Without memory a front of them has come.
 pub(crate) fn run<J: Journal>(
     alloc: Global,
     core: &mut Core<J>,

@@ -1,9 +1,12 @@
-use Rattle.std.proofs.Common.{Some, refl, subst}
+use Rattle.std.proofs.Common.{Some, refl, sym, ap, ◌∙◌, subst}
 use Rattle.fab_core.specs.Cores.{CoreModel, world}
 use Rattle.fab_core.specs.Telling.{TellsJob}
 use Rattle.fab_exchange.proofs.Turning.{takes}
 use Rattle.fab_exchange.proofs.Working.{current, may_resume, stale}
 use Rattle.fab_exchange.proofs.exchange.Exchange.give.Goals as goal
+
+pub is_current-requires : goal.is_current-requires
+is_current-requires g c = c.requires.program ∙ ap (λ (k : CoreModel). k.given.program) (sym c.self.view_is)
 
 pub returns-then-not-is_current-clause-gives : goal.returns-then-not-is_current-clause-gives
 returns-then-not-is_current-clause-gives g c =
