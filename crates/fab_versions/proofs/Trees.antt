@@ -61,6 +61,9 @@ tree_row (leaf ∷ leaves) o =
           ∙ sym (ap (λ b. row_found o (cond b (Some leaf.1) (lookup (is_at (derived_cmp o)) leaves))) (sym (at_is o leaf.0) ∙ h))
     ] refl
 
+pub no_row : (leaves : List Leaf) (o : Oid) → lookup (is_at (derived_cmp o)) leaves ≡ None → row_of name_of (rows_in leaves) o ≡ None
+no_row leaves o missing = tree_row leaves o ∙ ap (row_found o) missing
+
 -- ---- what is put
 
 pub tree_put : (o : Oid) (x : ℕ × Object) (leaves : List Leaf) → rows_in (insert_entry derived_cmp leaves o x) ≡ placed name_of (row_in (o, x)) (rows_in leaves)
