@@ -74,11 +74,11 @@ module _ {R : Type 0} (name : R → Oid) where
       (ascends_placed_all name (placed name r beside) rows g)
       (ascends_placed name r (placed_all name beside rows) (ascends_placed_all name beside rows g))
       (λ o.
-        merged_row (placed name r beside) rows o (ascends_placed name r beside h)
-        ∙ ap (λ s. option_or s (row_of name rows o)) (row_of_placed name r beside o)
-        ∙ over (is_same (name r) o) (row_of name beside o) (row_of name rows o)
-        ∙ ap (λ s. if is_same (name r) o then Some r else s) (sym (merged_row beside rows o h))
-        ∙ sym (row_of_placed name r (placed_all name beside rows) o))
+      merged_row (placed name r beside) rows o (ascends_placed name r beside h)
+      ∙ ap (λ s. option_or s (row_of name rows o)) (row_of_placed name r beside o)
+      ∙ over (is_same (name r) o) (row_of name beside o) (row_of name rows o)
+      ∙ ap (λ s. if is_same (name r) o then Some r else s) (sym (merged_row beside rows o h))
+      ∙ sym (row_of_placed name r (placed_all name beside rows) o))
     where
       over : (b : Bool) (x y : Option R) → option_or (if b then Some r else x) y ≡ (if b then Some r else option_or x y)
       over true x y = refl
@@ -92,11 +92,11 @@ module _ {R : Type 0} (name : R → Oid) where
       (ascends_placed_all name beside (placed name r rows) (ascends_placed name r rows g))
       (ascends_placed name r (placed_all name beside rows) (ascends_placed_all name beside rows g))
       (λ o.
-        merged_row beside (placed name r rows) o h
-        ∙ ap (option_or (row_of name beside o)) (row_of_placed name r rows o)
-        ∙ over o (is_same (name r) o) refl
-        ∙ ap (λ s. if is_same (name r) o then Some r else s) (sym (merged_row beside rows o h))
-        ∙ sym (row_of_placed name r (placed_all name beside rows) o))
+      merged_row beside (placed name r rows) o h
+      ∙ ap (option_or (row_of name beside o)) (row_of_placed name r rows o)
+      ∙ over o (is_same (name r) o) refl
+      ∙ ap (λ s. if is_same (name r) o then Some r else s) (sym (merged_row beside rows o h))
+      ∙ sym (row_of_placed name r (placed_all name beside rows) o))
     where
       over : (o : Oid) (b : Bool) → is_same (name r) o ≡ b → option_or (row_of name beside o) (if b then Some r else row_of name rows o)
           ≡ (if b then Some r else option_or (row_of name beside o) (row_of name rows o))

@@ -12,10 +12,10 @@ use Rattle.fab_base.specs.declared.object.Oid.{Oid}
 use Rattle.fab_base.specs.declared.object.Object.{Object}
 use Rattle.fab_base.specs.FlatMap.{is_same}
 use Rattle.fab_base.proofs.Names.{same_flips}
-use Rattle.fab_base.proofs.NameOrder.{name_cmp, same_is, one_name, before_from_less, before_from_greater, derived_cmp, derived_is, derived_equal}
+use Rattle.fab_base.proofs.NameOrder.{same_is, one_name, before_from_less, before_from_greater, derived_cmp, derived_is, derived_equal}
 use Rattle.fab_protocol.specs.Tables.{row_of, placed, ascends}
 use Rattle.fab_protocol.specs.Versions.{Row, Rows, name_of}
-use Rattle.fab_protocol.proofs.TableLaws.{leads, headed, ascends_map, row_here, row_past, placed_before, placed_behind, placed_over}
+use Rattle.fab_protocol.proofs.TableLaws.{leads, headed, ascends_map, placed_before, placed_behind, placed_over}
 use Rattle.fab_versions.specs.Holdings.{Leaf, row_in, rows_in}
 
 -- ---- the order
@@ -60,6 +60,9 @@ tree_row (leaf ∷ leaves) o =
           tree_row leaves o
           ∙ sym (ap (λ b. row_found o (cond b (Some leaf.1) (lookup (is_at (derived_cmp o)) leaves))) (sym (at_is o leaf.0) ∙ h))
     ] refl
+
+pub no_row : (leaves : List Leaf) (o : Oid) → lookup (is_at (derived_cmp o)) leaves ≡ None → row_of name_of (rows_in leaves) o ≡ None
+no_row leaves o missing = tree_row leaves o ∙ ap (row_found o) missing
 
 -- ---- what is put
 

@@ -162,6 +162,7 @@ fn walks_in_order(tree: &BTreeMap<Oid, (u32, Object)>)
 
 /// Puts an object into a tree. Where there is no memory for its name, the tree stays as it was, and
 /// the object comes back.
+#[tactic(auto, using(crate::proofs::Trees::no_row))]
 fn put_in_tree(
     tree: &mut BTreeMap<Oid, (u32, Object)>,
     oid: Oid,

@@ -6,10 +6,14 @@ use Rattle.fab_versions.proofs.Merged.{placed_again}
 use Rattle.fab_versions.proofs.table.Table.copy.Goals as goal
 
 -- the rows of the tree are put into an empty table, and those beside it into that
-pub returns-in_ok-put_rows : goal.returns-in_ok-put_rows
-returns-in_ok-put_rows c =
+pub returns : goal.returns
+returns c =
     let leaves = rows_in c.self.inside.tree.entries in
-    c.in_ok-put_rows.ensures
-    ∙ ap (placed_all name_of c.as_slice.result.now) (c.in_ok-put_leaves.ensures ∙ ap (λ t. placed_all name_of leaves t.rows) c.new-copy.ensures ∙ placed_again name_of leaves c.walks_in_order.ensures)
-    ∙ ap (λ rows. placed_all name_of rows leaves) c.as_slice.ensures
-    ∙ ap (λ h. h.rows) c.self.view_is
+    record {
+      rows =
+          c.in_ok-put_rows.ensures
+          ∙ ap (placed_all name_of c.as_slice.result.now)
+          (c.in_ok-put_leaves.ensures ∙ ap (λ t. placed_all name_of leaves t.rows) c.new-copy.ensures ∙ placed_again name_of leaves c.walks_in_order.ensures)
+          ∙ ap (λ rows. placed_all name_of rows leaves) c.as_slice.ensures
+          ∙ ap (λ h. h.rows) c.self.view_is;
+    }

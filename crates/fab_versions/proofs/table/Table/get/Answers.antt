@@ -11,13 +11,13 @@ returns-in-Some c =
     ∙ found_beside c.self.inside.tree.entries c.self.inside.beside.rows c.get.ensures.ascending c.args.oid (c.args.oid, c.in-Some.version, c.in-Some.object.now) c.in-Some.ensures.found
 
 -- in the tree
-pub returns-in-Some-in-None : goal.returns-in-Some-in-None
-returns-in-Some-in-None c =
+pub returns-in-Some-get : goal.returns-in-Some-get
+returns-in-Some-get c =
     ap (λ h. row_of name_of h.rows c.args.oid) (sym c.self.view_is)
-    ∙ found_in_tree c.self.inside.tree.entries c.self.inside.beside.rows c.get.ensures.ascending c.args.oid (Some c.in-Some.leaf.now) c.in-None.ensures.found c.in-Some.ensures.value
+    ∙ found_in_tree c.self.inside.tree.entries c.self.inside.beside.rows c.get.ensures.ascending c.args.oid (Some c.in-Some-get.leaf.now) c.in-None.ensures.found c.in-Some-get.ensures.value
 
 -- nowhere
-pub returns-in-None-in-None : goal.returns-in-None-in-None
-returns-in-None-in-None c =
+pub returns-in-None-get : goal.returns-in-None-get
+returns-in-None-get c =
     ap (λ h. row_of name_of h.rows c.args.oid) (sym c.self.view_is)
-    ∙ found_in_tree c.self.inside.tree.entries c.self.inside.beside.rows c.get.ensures.ascending c.args.oid None c.in-None.ensures.found c.in-None-2.ensures.value
+    ∙ found_in_tree c.self.inside.tree.entries c.self.inside.beside.rows c.get.ensures.ascending c.args.oid None c.in-None.ensures.found c.in-None-get.ensures.value

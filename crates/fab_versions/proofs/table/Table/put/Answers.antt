@@ -6,10 +6,10 @@ use Rattle.fab_versions.proofs.Whole.{not_there, goes_beside, goes_in_tree}
 use Rattle.fab_versions.proofs.table.Table.put.Goals as goal
 
 -- over the row beside the tree
-pub returns-in_ok-put-then-has-clause-ok : goal.returns-in_ok-put-then-has-clause-ok
-returns-in_ok-put-then-has-clause-ok c =
+pub returns-then-has-clause-ok : goal.returns-then-has-clause-ok
+returns-then-has-clause-ok c =
     let row : Row = (c.args.oid, c.args.version, c.args.object) in
-    goes_beside c.self.inside.tree.entries c.self.inside.beside.rows c.has.ensures.ascending c.walks_in_order.ensures row _ c.in_ok-put-then-has.ensures.ok
+    goes_beside c.self.inside.tree.entries c.self.inside.beside.rows c.has.ensures.ascending c.walks_in_order.ensures row _ c.in_ok-put.ensures.ok
     ∙ ap (λ h. placed name_of row h.rows) c.self.view_is
 
 -- into the tree
