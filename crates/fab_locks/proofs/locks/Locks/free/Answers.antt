@@ -27,10 +27,10 @@ returns-in-Some-clause-held c =
 
 -- or beside them
 pub free_beside-requires : goal.free_beside-requires
-free_beside-requires c = distinct_behind c.self.inside.indexed c.self.inside.beside.items c.self.invariant
+free_beside-requires c = record { distinct = distinct_behind c.self.inside.indexed c.self.inside.beside.items c.self.invariant }
 
-pub invariant_of-self-2 : goal.invariant_of-self-2
-invariant_of-self-2 c =
+pub invariant_of-self-in-None : goal.invariant_of-self-in-None
+invariant_of-self-in-None c =
     let xs = c.self.inside.indexed in
     let ys = c.self.inside.beside.items in
     distinct_left c.args.tid (xs ++ ys) (c.free.new.self ++ c.free_beside.new.held.items) c.self.invariant
