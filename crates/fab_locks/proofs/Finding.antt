@@ -1,9 +1,9 @@
 -- Transactions by their numbers, as a list: which of them a look-up finds, which is the first that passes a test, and what is
 -- left when one is put or taken out.
-use Rattle.std.proofs.Common.{◌≡◌, ◌↔◌, ℕ, ◌+◌, ◌^◌, ◌≤◌, ◌<◌, ◌==◌, IfSome, IsSome, is_some, Bool, true, false, not, ◌||◌, cond, List, [], ◌∷◌, ◌++◌, Option, Some, None, refl, sym, subst, ap, ◌∙◌, arith}
-use Rattle.std.specs.List.{All, AllByRecursion, filter, find, list_any}
+use Rattle.std.proofs.Common.{◌≡◌, ◌↔◌, ℕ, ◌+◌, ◌^◌, ◌≤◌, ◌<◌, ◌==◌, IfSome, IsSome, is_some, Bool, true, false, not, ◌||◌, cond, List, [], ◌∷◌, ◌++◌, Option, Some, None, refl, sym, ap, ◌∙◌, arith}
+use Rattle.std.specs.List.{All, AllByRecursion, filter, find}
 use Rattle.std.specs.List.Sorted.{IsStrictlySortedBy}
-use Rattle.std.specs.Map.{keys_of, values_of, lookup, remove_entry}
+use Rattle.std.specs.Map.{keys_of, values_of, remove_entry}
 use Rattle.std.specs.Option.{SomeIff, option_map}
 use Rattle.std.specs.declared.cmp.Ordering.{Ordering}
 use Rattle.std.specs.declared.cmp.Ordering.TheVariants.{Less, Equal, Greater}
@@ -19,14 +19,13 @@ use Rattle.std.proofs.lemmas.Map.Entries.{length-keys_of, none_below_head}
 use Rattle.std.proofs.lemmas.Map.Keys.{ge_from_not_lt, sorted_tail}
 use Rattle.std.proofs.lemmas.Map.Views.{All-found}
 use Rattle.fab_base.specs.declared.object.Tid.{Tid}
-use Rattle.fab_base.specs.declared.message.Items.{Items}
 use Rattle.fab_protocol.specs.Versions.{is_tid}
 use Rattle.fab_protocol.specs.Stores.{Prepared, prepared_as, without}
 use Rattle.fab_locks.specs.Conflicts.{AreDistinct, bars, first_barring, holds_tid}
 use Rattle.fab_locks.specs.declared.index.Index.{Index}
-use Rattle.fab_locks.specs.Indexes.{Agrees, IsIndexed, IsLeast, Numbered, has, is_of, names_for, passes, tid_cmp, under}
+use Rattle.fab_locks.specs.Indexes.{IsIndexed, IsLeast, Numbered, has, is_of, names_for, passes, tid_cmp, under}
 use Rattle.fab_base.specs.declared.object.Oid.{Oid}
-use Rattle.fab_locks.proofs.Keys.{not_above, num_at}
+use Rattle.fab_locks.proofs.Keys.{not_above}
 use Rattle.fab_locks.proofs.Tids.{absent_tail, kept_here, kept_past, one_tid, prepared_absent, tid_self, without_absent}
 
 -- each entry is what its number finds

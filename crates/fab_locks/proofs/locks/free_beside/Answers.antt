@@ -1,5 +1,4 @@
-use Rattle.std.proofs.Common.{not, sym, subst, ap, ◌∙◌}
-use Rattle.fab_protocol.specs.Stores.{prepared_as, without}
+use Rattle.std.proofs.Common.{sym, subst, ap, ◌∙◌}
 use Rattle.fab_locks.specs.Conflicts.{IsHeldAt, holds_tid}
 use Rattle.fab_locks.proofs.Tids.{removed_at, taken_at, without_absent, prepared_absent}
 use Rattle.fab_locks.proofs.locks.free_beside.Goals as goal

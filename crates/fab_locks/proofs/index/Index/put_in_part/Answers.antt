@@ -1,8 +1,7 @@
-use Rattle.std.proofs.Common.{◌≡◌, refl, ap, ◌∙◌}
+use Rattle.std.proofs.Common.{refl, ap}
 use Rattle.std.specs.Map.{lookup}
 use Rattle.std.specs.BTreeMap.{is_at}
-use Rattle.fab_base.specs.declared.object.Tid.{Tid}
-use Rattle.fab_locks.specs.Indexes.{MayPut, is_changed, is_named, tid_cmp}
+use Rattle.fab_locks.specs.Indexes.{is_changed, is_named, tid_cmp}
 use Rattle.fab_locks.proofs.Putting.{keep_same, put_place, puts_keep, where_none}
 use Rattle.fab_locks.proofs.index.Index.put_in_part.Goals as goal
 

@@ -2,7 +2,6 @@ use Rattle.std.proofs.Common.{◌≡◌, ◌++◌, ◌∷◌, [], None, false, s
 use Rattle.std.specs.Map.{keys_of, values_of}
 use Rattle.std.specs.BTreeMap.{get}
 use Rattle.fab_base.specs.declared.message.Items.{Items}
-use Rattle.fab_protocol.specs.Stores.{Prepared}
 use Rattle.fab_locks.specs.Conflicts.{AreDistinct, holds_tid}
 use Rattle.fab_locks.specs.Indexes.{IsIndexed, Numbered, Taken, tid_cmp, under}
 use Rattle.fab_locks.proofs.Agreeing.{agrees_more, agrees_same, taken_behind_put}

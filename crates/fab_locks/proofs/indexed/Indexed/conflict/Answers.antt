@@ -1,4 +1,4 @@
-use Rattle.std.proofs.Common.{◌≡◌, Some, None, sym, ap, ◌∙◌}
+use Rattle.std.proofs.Common.{sym, ap, ◌∙◌}
 use Rattle.fab_locks.specs.Conflicts.{first_barring}
 use Rattle.fab_locks.proofs.Finding.{all_found, least_bars, least_is_held, none_bars}
 use Rattle.fab_locks.proofs.indexed.Indexed.conflict.Goals as goal

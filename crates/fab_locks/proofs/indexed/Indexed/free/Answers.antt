@@ -1,10 +1,9 @@
-use Rattle.std.proofs.Common.{◌≡◌, true, false, Some, None, is_some, sym, subst, ap, ◌∙◌}
+use Rattle.std.proofs.Common.{◌≡◌, true, false, Some, is_some, sym, ap, ◌∙◌}
 use Rattle.std.specs.Map.{values_of}
 use Rattle.std.proofs.lemmas.Bool.{false≢true}
-use Rattle.fab_base.specs.declared.message.Items.{Items}
 use Rattle.fab_protocol.specs.Versions.{is_tid}
 use Rattle.fab_protocol.specs.Stores.{Prepared, prepared_as, without}
-use Rattle.fab_locks.specs.Conflicts.{AreDistinct, holds_tid}
+use Rattle.fab_locks.specs.Conflicts.{holds_tid}
 use Rattle.fab_locks.specs.Indexes.{is_of, under}
 use Rattle.fab_locks.proofs.Agreeing.{agrees_less}
 use Rattle.fab_locks.proofs.Finding.{all_found, given_back, held_if_numbered, held_less}

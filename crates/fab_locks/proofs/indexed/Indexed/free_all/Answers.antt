@@ -3,16 +3,7 @@ use Rattle.std.specs.List.{filter}
 use Rattle.fab_locks.proofs.Going.{others_stay, shorter}
 use Rattle.fab_locks.proofs.indexed.Indexed.free_all.Goals as goal
 
--- one more went, whose items are dropped
-pub loop-tid-preserved-in-Some : goal.loop-tid-preserved-in-Some
-loop-tid-preserved-in-Some c =
-    ap (filter (λ p. not (p.0.worker == c.args.worker))) c.free.ensures.held
-    ∙ others_stay c.args.worker c.in-Some.tid c.loop-tid.self c.in-Some.ensures.worker
-    ∙ c.loop-tid.invariant
-
-pub loop-tid-smaller-in-Some : goal.loop-tid-smaller-in-Some
-loop-tid-smaller-in-Some c = rw c.free.ensures.held (shorter c.in-Some.tid c.loop-tid.self c.in-Some.ensures.held)
-
+-- one more of the worker's transactions went
 pub loop-tid-preserved : goal.loop-tid-preserved
 loop-tid-preserved c =
     ap (filter (λ p. not (p.0.worker == c.args.worker))) c.free.ensures.held

@@ -1,5 +1,4 @@
-use Rattle.std.proofs.Common.{◌++◌, ◌∷◌, [], sym, subst, ap, ◌∙◌}
-use Rattle.std.specs.Option.{MatchOption}
+use Rattle.std.proofs.Common.{◌++◌, sym, ap, ◌∙◌}
 use Rattle.fab_protocol.specs.Stores.{prepared_as, without}
 use Rattle.fab_locks.proofs.Joining.{distinct_behind, distinct_left, freed_along, freed_behind, freed_first, left_first, without_either}
 use Rattle.fab_locks.proofs.locks.Locks.free.Goals as goal

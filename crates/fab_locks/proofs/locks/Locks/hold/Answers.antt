@@ -1,6 +1,6 @@
-use Rattle.std.proofs.Common.{◌≡◌, ◌++◌, ◌∷◌, [], refl, sym, subst, ap, ◌∙◌}
+use Rattle.std.proofs.Common.{◌++◌, ◌∷◌, [], refl, ap, ◌∙◌}
 use Rattle.fab_protocol.specs.Stores.{Prepared}
-use Rattle.fab_locks.specs.Conflicts.{AreDistinct, holds_tid}
+use Rattle.fab_locks.specs.Conflicts.{holds_tid}
 use Rattle.fab_locks.proofs.Joining.{distinct_more, more_beside, more_indexed, none_beside}
 use Rattle.fab_locks.proofs.locks.Locks.hold.Goals as goal
 
