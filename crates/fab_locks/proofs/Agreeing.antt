@@ -1,8 +1,7 @@
 -- The indexes say what is held, behind a transaction that was put or taken out.
-use Rattle.std.proofs.Common.{◌≡◌, ℕ, ◌==◌, Bool, true, false, not, ◌&&◌, ◌||◌, cond, List, [], Option, IsSome, Some, None, refl, sym, subst, ap, ◌∙◌}
+use Rattle.std.proofs.Common.{◌≡◌, ℕ, ◌==◌, Bool, true, false, not, ◌&&◌, ◌||◌, cond, [], Option, Some, None, refl, sym, subst, ap, ◌∙◌}
 use Rattle.std.specs.Ordering.{nat_cmp}
-use Rattle.std.specs.Map.{keys_of, lookup, values_of}
-use Rattle.std.specs.Option.{is_some}
+use Rattle.std.specs.Map.{lookup}
 use Rattle.std.specs.List.{list_any}
 use Rattle.std.specs.BTreeMap.{get, is_at}
 use Rattle.std.specs.BTreeSet.{BTreeSet}
@@ -13,7 +12,7 @@ use Rattle.fab_base.specs.declared.message.Items.{Items}
 use Rattle.fab_protocol.specs.Versions.{is_tid}
 use Rattle.fab_protocol.specs.Stores.{Prepared}
 use Rattle.fab_locks.specs.declared.index.Index.{Index}
-use Rattle.fab_locks.specs.Indexes.{Agrees, IsIndexed, Key, MayPut, Numbered, Put, Puts, Taken, Takes, has, is_changed, is_named, is_of, key_cmp, names_for, passes, tid_cmp, under}
+use Rattle.fab_locks.specs.Indexes.{Agrees, Key, MayPut, Numbered, Put, Puts, Taken, Takes, has, is_changed, is_named, is_of, key_cmp, passes, tid_cmp, under}
 use Rattle.fab_locks.proofs.Keys.{num_at}
 use Rattle.fab_locks.proofs.Putting.{keeps_taken, puts_keep}
 use Rattle.fab_locks.proofs.Tids.{one_tid}

@@ -1,9 +1,9 @@
 -- Transactions by their numbers, as a list: which of them a look-up finds, which is the first that passes a test, and what is
 -- left when one is put or taken out.
-use Rattle.std.proofs.Common.{◌≡◌, ◌↔◌, ℕ, ◌+◌, ◌^◌, ◌≤◌, ◌<◌, ◌==◌, IfSome, IsSome, is_some, Bool, true, false, not, ◌||◌, cond, List, [], ◌∷◌, ◌++◌, Option, Some, None, refl, sym, subst, ap, ◌∙◌, arith}
-use Rattle.std.specs.List.{All, AllByRecursion, filter, find, list_any}
+use Rattle.std.proofs.Common.{◌≡◌, ◌↔◌, ℕ, ◌+◌, ◌^◌, ◌≤◌, ◌<◌, ◌==◌, IfSome, IsSome, is_some, Bool, true, false, not, ◌||◌, cond, List, [], ◌∷◌, ◌++◌, Option, Some, None, refl, sym, ap, ◌∙◌, arith}
+use Rattle.std.specs.List.{All, AllByRecursion, filter, find}
 use Rattle.std.specs.List.Sorted.{IsStrictlySortedBy}
-use Rattle.std.specs.Map.{keys_of, values_of, lookup, remove_entry}
+use Rattle.std.specs.Map.{keys_of, values_of, remove_entry}
 use Rattle.std.specs.Option.{SomeIff, option_map}
 use Rattle.std.specs.declared.cmp.Ordering.{Ordering}
 use Rattle.std.specs.declared.cmp.Ordering.TheVariants.{Less, Equal, Greater}
@@ -19,14 +19,13 @@ use Rattle.std.proofs.lemmas.Map.Entries.{length-keys_of, none_below_head}
 use Rattle.std.proofs.lemmas.Map.Keys.{ge_from_not_lt, sorted_tail}
 use Rattle.std.proofs.lemmas.Map.Views.{All-found}
 use Rattle.fab_base.specs.declared.object.Tid.{Tid}
-use Rattle.fab_base.specs.declared.message.Items.{Items}
 use Rattle.fab_protocol.specs.Versions.{is_tid}
 use Rattle.fab_protocol.specs.Stores.{Prepared, prepared_as, without}
 use Rattle.fab_locks.specs.Conflicts.{AreDistinct, bars, first_barring, holds_tid}
 use Rattle.fab_locks.specs.declared.index.Index.{Index}
-use Rattle.fab_locks.specs.Indexes.{Agrees, IsIndexed, IsLeast, Numbered, has, is_of, names_for, passes, tid_cmp, under}
+use Rattle.fab_locks.specs.Indexes.{IsIndexed, IsLeast, Numbered, has, is_of, names_for, passes, tid_cmp, under}
 use Rattle.fab_base.specs.declared.object.Oid.{Oid}
-use Rattle.fab_locks.proofs.Keys.{not_above, num_at}
+use Rattle.fab_locks.proofs.Keys.{not_above}
 use Rattle.fab_locks.proofs.Tids.{absent_tail, kept_here, kept_past, one_tid, prepared_absent, tid_self, without_absent}
 
 -- each entry is what its number finds
@@ -50,11 +49,12 @@ some_once p q e = cc
 -- a transaction that a look-up finds is held
 pub held_where : (es : Numbered) (n : ℕ) (t : Tid) → is_of t (under n es) ≡ true → holds_tid t (values_of es) ≡ true
 held_where [] n t h = h
-held_where (e ∷ es) n t h = step (is_at (nat_cmp n) e.0) h
+held_where (e ∷ es) n t h = step (λ k. held_where es n t k) (is_at (nat_cmp n) e.0) h
   where
-    step : (b : Bool) → is_of t (cond b (Some e.1) (under n es)) ≡ true → (is_tid e.1.0 t || holds_tid t (values_of es)) ≡ true
-    step true k = or_left (is_tid e.1.0 t) (holds_tid t (values_of es)) k
-    step false k = or_right (is_tid e.1.0 t) (holds_tid t (values_of es)) (held_where es n t k)
+    step : (is_of t (under n es) ≡ true → holds_tid t (values_of es) ≡ true) → (b : Bool) → is_of t (cond b (Some e.1) (under n es)) ≡ true
+        → (is_tid e.1.0 t || holds_tid t (values_of es)) ≡ true
+    step rest true k = or_left (is_tid e.1.0 t) (holds_tid t (values_of es)) k
+    step rest false k = or_right (is_tid e.1.0 t) (holds_tid t (values_of es)) (rest k)
 
 -- a tid of which no number is isn't held
 pub none_where : (look : ℕ → Option Prepared) (es : Numbered) (t : Tid) → Found look es → ((n : ℕ) → is_of t (look n) ≡ false)
@@ -69,13 +69,14 @@ pub all_stay : (look : ℕ → Option Prepared) (es : Numbered) (w : ℕ) → Fo
     → ((t : Tid) (n : ℕ) → t.worker ≡ w → is_of t (look n) ≡ false)
     → filter (λ p. not (p.0.worker == w)) (values_of es) ≡ values_of es
 all_stay look [] w found none = refl
-all_stay look (e ∷ es) w found none = step (e.1.0.worker == w) refl
+all_stay look (e ∷ es) w found none = step (all_stay look es w found.1 none) (e.1.0.worker == w) refl
   where
-    step : (b : Bool) → (e.1.0.worker == w) ≡ b → filter (λ p. not (p.0.worker == w)) (e.1 ∷ values_of es) ≡ e.1 ∷ values_of es
-    step true is =
+    step : filter (λ p. not (p.0.worker == w)) (values_of es) ≡ values_of es → (b : Bool) → (e.1.0.worker == w) ≡ b
+        → filter (λ p. not (p.0.worker == w)) (e.1 ∷ values_of es) ≡ e.1 ∷ values_of es
+    step rest true is =
         let it : is_of e.1.0 (look e.0) ≡ true = ap (is_of e.1.0) found.0 ∙ tid_self e.1.0 in
         absurd (true≢false (sym it ∙ none e.1.0 e.0 (eqb-true e.1.0.worker w is)))
-    step false is = kept_here (λ p. not (p.0.worker == w)) e.1 (values_of es) (ap not is) ∙ ap (λ l. e.1 ∷ l) (all_stay look es w found.1 none)
+    step rest false is = kept_here (λ p. not (p.0.worker == w)) e.1 (values_of es) (ap not is) ∙ ap (λ l. e.1 ∷ l) rest
 
 -- ---- the first that passes a test
 
@@ -84,7 +85,8 @@ pub find_least : (look : ℕ → Option Prepared) (test : Prepared → Bool) (n 
     → IsStrictlySortedBy nat_cmp (keys_of es) → under n es ≡ Some p → test p ≡ true
     → ((m : ℕ) (q : Prepared) → look m ≡ Some q → test q ≡ true → n ≤ m) → find test (values_of es) ≡ Some p
 find_least look test n p [] found sorted at good_one least = absurd (some_none p (sym at))
-find_least look test n p (e ∷ es) found sorted at good_one least = by_test (test e.1) refl
+find_least look test n p (e ∷ es) found sorted at good_one least =
+    by_test (λ k. find_least look test n p es found.1 (sorted_tail nat_cmp e.0 (keys_of es) sorted) k good_one least) (test e.1) refl
   where
     -- the first one passes, so no number below its own is the least
     by_order : (r : Ordering) → nat_cmp n e.0 ≡ r → test e.1 ≡ true → find test (e.1 ∷ values_of es) ≡ Some p
@@ -102,11 +104,10 @@ find_least look test n p (e ∷ es) found sorted at good_one least = by_test (te
         absurd (true≢false (sym good_one ∙ sym (ap test same) ∙ bad))
     past false is bad = sym (ap (λ b. cond b (Some e.1) (under n es)) is) ∙ at
 
-    by_test : (b : Bool) → test e.1 ≡ b → find test (e.1 ∷ values_of es) ≡ Some p
-    by_test true good = by_order (nat_cmp n e.0) refl good
-    by_test false bad =
-        ap (λ b. cond b (Some e.1) (find test (values_of es))) bad
-        ∙ find_least look test n p es found.1 (sorted_tail nat_cmp e.0 (keys_of es) sorted) (past (is_at (nat_cmp n) e.0) refl bad) good_one least
+    by_test : (under n es ≡ Some p → find test (values_of es) ≡ Some p) → (b : Bool) → test e.1 ≡ b → find test (e.1 ∷ values_of es) ≡ Some p
+    by_test rest true good = by_order (nat_cmp n e.0) refl good
+    by_test rest false bad =
+        ap (λ b. cond b (Some e.1) (find test (values_of es))) bad ∙ rest (past (is_at (nat_cmp n) e.0) refl bad)
 
 pub find_none : (look : ℕ → Option Prepared) (test : Prepared → Bool) (es : Numbered) → Found look es
     → ((m : ℕ) (q : Prepared) → look m ≡ Some q → test q ≡ false) → find test (values_of es) ≡ None
@@ -164,33 +165,33 @@ module _ (n : ℕ) (t : Tid) (p : Prepared) (tid_is : is_tid p.0 t ≡ true) whe
   pub held_less : (es : Numbered) → AreDistinct (values_of es) → under n es ≡ Some p
       → values_of (remove_entry (is_at (nat_cmp n)) es) ≡ without t (values_of es)
   held_less [] distinct at = refl
-  held_less (e ∷ es) distinct at = step (is_at (nat_cmp n) e.0) at
+  held_less (e ∷ es) distinct at = step (λ k. held_less es distinct.1 k) (is_at (nat_cmp n) e.0) at
     where
-      step : (b : Bool) → cond b (Some e.1) (under n es) ≡ Some p
+      step : (under n es ≡ Some p → values_of (remove_entry (is_at (nat_cmp n)) es) ≡ without t (values_of es)) → (b : Bool) → cond b (Some e.1) (under n es) ≡ Some p
           → values_of (cond b es (e ∷ remove_entry (is_at (nat_cmp n)) es)) ≡ without t (e.1 ∷ values_of es)
-      step true it =
+      step rest true it =
           let same : e.1 ≡ p = some_once e.1 p it in
           let is : is_tid e.1.0 t ≡ true = ap (λ q. is_tid q.0 t) same ∙ tid_is in
           sym (kept_past (λ q. not (is_tid q.0 t)) e.1 (values_of es) (ap not is) ∙ without_absent t (values_of es) (absent_tail e.1 (values_of es) t distinct.0 is))
-      step false it =
+      step rest false it =
           let isnt : is_tid e.1.0 t ≡ false = apart_here e es distinct.0 it (is_tid e.1.0 t) refl in
-          ap (λ l. e.1 ∷ l) (held_less es distinct.1 it) ∙ sym (kept_here (λ q. not (is_tid q.0 t)) e.1 (values_of es) (ap not isnt))
+          ap (λ l. e.1 ∷ l) (rest it) ∙ sym (kept_here (λ q. not (is_tid q.0 t)) e.1 (values_of es) (ap not isnt))
 
   pub given_back : (es : Numbered) → AreDistinct (values_of es) → under n es ≡ Some p
       → prepared_as t (values_of es) ≡ (t, p.1) ∷ []
   given_back [] distinct at = absurd (some_none p (sym at))
-  given_back (e ∷ es) distinct at = step (is_at (nat_cmp n) e.0) at
+  given_back (e ∷ es) distinct at = step (λ k. given_back es distinct.1 k) (is_at (nat_cmp n) e.0) at
     where
-      step : (b : Bool) → cond b (Some e.1) (under n es) ≡ Some p → prepared_as t (e.1 ∷ values_of es) ≡ (t, p.1) ∷ []
-      step true it =
+      step : (under n es ≡ Some p → prepared_as t (values_of es) ≡ (t, p.1) ∷ []) → (b : Bool) → cond b (Some e.1) (under n es) ≡ Some p → prepared_as t (e.1 ∷ values_of es) ≡ (t, p.1) ∷ []
+      step rest true it =
           let same : e.1 ≡ p = some_once e.1 p it in
           let is : is_tid e.1.0 t ≡ true = ap (λ q. is_tid q.0 t) same ∙ tid_is in
           kept_here (λ q. is_tid q.0 t) e.1 (values_of es) is
           ∙ ap (λ l. e.1 ∷ l) (prepared_absent t (values_of es) (absent_tail e.1 (values_of es) t distinct.0 is))
           ∙ ap (λ q. q ∷ []) same
           ∙ ap (λ u. (u, p.1) ∷ []) (one_tid p.0 t tid_is)
-      step false it =
-          kept_past (λ q. is_tid q.0 t) e.1 (values_of es) (apart_here e es distinct.0 it (is_tid e.1.0 t) refl) ∙ given_back es distinct.1 it
+      step rest false it =
+          kept_past (λ q. is_tid q.0 t) e.1 (values_of es) (apart_here e es distinct.0 it (is_tid e.1.0 t) refl) ∙ rest it
 
 -- ---- by the indexes
 

@@ -1,8 +1,8 @@
 -- Transactions in two lists, one behind the other: what a look-up in both finds, and what is left when one goes.
-use Rattle.std.proofs.Common.{◌≡◌, ◌==◌, Bool, true, false, not, ◌||◌, List, [], ◌∷◌, ◌++◌, length, Option, Some, None, MatchOption, refl, sym, subst, ap, ◌∙◌, arith, append_assoc, append-nil}
-use Rattle.std.specs.List.{filter, find, list_any}
+use Rattle.std.proofs.Common.{◌≡◌, ℕ, ◌==◌, Bool, true, false, not, ◌||◌, List, [], ◌∷◌, ◌++◌, length, Option, Some, None, MatchOption, refl, sym, subst, ap, ◌∙◌, append_assoc, append-nil}
+use Rattle.std.specs.List.{find}
 use Rattle.std.specs.Option.{option_map, option_or}
-use Rattle.std.proofs.lemmas.Bool.{true≢false, eqb-true, not-false, or_parts}
+use Rattle.std.proofs.lemmas.Bool.{true≢false, eqb-true, or_parts}
 use Rattle.std.proofs.lemmas.List.Elements.{filter-append}
 use Rattle.std.proofs.lemmas.List.Folds.{find-append, list_any-append}
 use Rattle.fab_base.specs.declared.object.Oid.{Oid}
@@ -44,12 +44,12 @@ distinct_behind (x ∷ xs) ys h = distinct_behind xs ys h.1
 -- who is held in the first isn't in the second
 absent_behind_held : (t : Tid) (xs ys : List Prepared) → AreDistinct (xs ++ ys) → holds_tid t xs ≡ true → holds_tid t ys ≡ false
 absent_behind_held t [] ys h held = absurd (true≢false (sym held))
-absent_behind_held t (x ∷ xs) ys h held = step (is_tid x.0 t) refl held
+absent_behind_held t (x ∷ xs) ys h held = step (λ k. absent_behind_held t xs ys h.1 k) (is_tid x.0 t) refl held
   where
-    step : (b : Bool) → is_tid x.0 t ≡ b → (b || holds_tid t xs) ≡ true → holds_tid t ys ≡ false
-    step true is k =
+    step : (holds_tid t xs ≡ true → holds_tid t ys ≡ false) → (b : Bool) → is_tid x.0 t ≡ b → (b || holds_tid t xs) ≡ true → holds_tid t ys ≡ false
+    step rest true is k =
         (or_parts (holds_tid t xs) (holds_tid t ys) (sym (held_either t xs ys) ∙ subst (λ u. holds_tid u (xs ++ ys) ≡ false) (one_tid x.0 t is) h.0)).1
-    step false is k = absent_behind_held t xs ys h.1 k
+    step rest false is k = rest k
 
 -- ---- one goes
 
@@ -108,5 +108,5 @@ pub distinct_more : (xs ys now : List Prepared) (t : Tid) (items : Items) → Ar
     → now ≡ (xs ++ ys) ++ (t, items) ∷ [] → AreDistinct now
 distinct_more xs ys now t items h absent is = subst AreDistinct (sym is) (distinct_push (xs ++ ys) t items h absent)
 
-pub none_beside : (ys : List Prepared) (b : Bool) → b ≡ (length ys == 0) → not b ≡ false → ys ≡ []
-none_beside ys b is no = none_left ys (eqb-true (length ys) 0 (sym is ∙ not-false b no))
+pub none_beside : (ys : List Prepared) (n : ℕ) (b : Bool) → b ≡ (n == 0) → n ≡ length ys → b ≡ true → ys ≡ []
+none_beside ys n b is long none = none_left ys (sym long ∙ eqb-true n 0 (sym is ∙ none))

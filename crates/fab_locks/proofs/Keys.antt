@@ -1,6 +1,5 @@
 -- The orders of tids and of names with numbers: which keys are alike, and which lie in a walk from a key on.
-use Rattle.std.proofs.Common.{◌≡◌, ℕ, ◌≤◌, ◌<◌, ◌==◌, Bool, true, false, ◌&&◌, refl, sym, subst, ap, ◌∙◌, arith}
-use Rattle.std.specs.Cmp.{IsTotalOrder}
+use Rattle.std.proofs.Common.{◌≡◌, ℕ, ◌≤◌, ◌==◌, true, false, ◌&&◌, refl, sym, subst, ap, ◌∙◌, arith}
 use Rattle.std.specs.declared.cmp.Ordering.{Ordering}
 use Rattle.std.specs.declared.cmp.Ordering.TheVariants.{Less, Equal, Greater}
 use Rattle.std.specs.Ordering.{nat_cmp, is_eq, is_gt, ordering_then, ordering_reverse}
@@ -12,9 +11,9 @@ use Rattle.fab_base.specs.declared.object.Oid.{Oid}
 use Rattle.fab_base.specs.declared.object.Tid.{Tid}
 use Rattle.fab_base.specs.FlatMap.{is_same}
 use Rattle.fab_base.proofs.Names.{same_flips}
-use Rattle.fab_base.proofs.NameOrder.{name_cmp, name_cmp_total, same_is, one_name, derived_is, derived_itself}
+use Rattle.fab_base.proofs.NameOrder.{name_cmp_total, same_is, one_name, derived_is, derived_itself}
 use Rattle.fab_protocol.specs.Versions.{is_tid}
-use Rattle.fab_locks.specs.Indexes.{Key, key_cmp, oid_cmp, tid_cmp}
+use Rattle.fab_locks.specs.Indexes.{key_cmp, oid_cmp, tid_cmp}
 
 -- ---- keys that are alike
 

@@ -103,7 +103,7 @@ impl Indexed {
         ensures { self.new ≡ filter (λ p. not (p.0.worker == worker)) self.old }
     {
         while let Some(tid) = self.one_of(worker) {
-            let _ = self.free(tid);
+            drop(self.free(tid));
         }
     }
 

@@ -2,7 +2,7 @@ use Rattle.std.proofs.Common.{◌||◌, sym}
 use Rattle.std.proofs.lemmas.Result.{on_ok_weaker}
 use Rattle.fab_locks.specs.Indexes.{is_changed}
 use Rattle.fab_locks.proofs.Barring.{changed_are, creates_name, writes_name}
-use Rattle.fab_locks.proofs.Putting.{keeps_as, keeps_both, keeps_first, puts_as, puts_both, puts_keep}
+use Rattle.fab_locks.proofs.Putting.{keeps_as, keeps_both, keeps_first, puts_as, puts_both}
 use Rattle.fab_locks.proofs.names.put_changed.Goals as goal
 
 pub returns-in_err-put_each-clause-kept : goal.returns-in_err-put_each-clause-kept

@@ -8,7 +8,7 @@ use Rattle.fab_locks.proofs.names.put_each.Goals as goal
 pub each-init : goal.each-init
 each-init g c =
     let all = any_named g.T.Named.name_of c.args.list.now in
-    subst (λ (xs : List g.T.Denot). PutsAll (any_named g.T.Named.name_of xs) all c.args.number c.args.names.now c.args.names.now) (sym c.as_slice.ensures)
+    subst (λ (xs : List g.row.T.Denot). PutsAll (any_named g.T.Named.name_of xs) all c.args.number c.args.names.now c.args.names.now) (sym c.as_slice-rest.ensures)
     (puts_at_first all c.args.number c.args.names.now)
 
 pub each-preserved : goal.each-preserved
@@ -28,10 +28,10 @@ returns-in_err-put_name-clause-kept g c =
 pub returns-clause-ok : goal.returns-clause-ok
 returns-clause-ok g c =
     puts_end g.T.Named.name_of c.each.rest.now (any_named g.T.Named.name_of c.args.list.now) c.args.number c.args.names.now c.each.names
-    (none_left c.each.rest.now c.in-None.ensures.cases) c.each.invariant
+    (none_left c.each.rest.now c.in_default.ensures.cases) c.each.invariant
 
 pub returns-clause-kept : goal.returns-clause-kept
 returns-clause-kept g c =
     puts_keep (any_named g.T.Named.name_of c.args.list.now) c.args.number c.args.names.now c.each.names
     (puts_end g.T.Named.name_of c.each.rest.now (any_named g.T.Named.name_of c.args.list.now) c.args.number c.args.names.now c.each.names
-    (none_left c.each.rest.now c.in-None.ensures.cases) c.each.invariant)
+    (none_left c.each.rest.now c.in_default.ensures.cases) c.each.invariant)

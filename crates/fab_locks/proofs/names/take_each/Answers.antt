@@ -8,7 +8,7 @@ use Rattle.fab_locks.proofs.names.take_each.Goals as goal
 pub each-init : goal.each-init
 each-init g c =
     let all = any_named g.T.Named.name_of c.args.list.now in
-    subst (λ (xs : List g.T.Denot). TakesAll (any_named g.T.Named.name_of xs) all c.args.number c.args.names.now c.args.names.now) (sym c.as_slice.ensures)
+    subst (λ (xs : List g.row.T.Denot). TakesAll (any_named g.T.Named.name_of xs) all c.args.number c.args.names.now c.args.names.now) (sym c.as_slice-rest.ensures)
     (takes_at_first all c.args.number c.args.names.now)
 
 pub each-preserved : goal.each-preserved
@@ -21,4 +21,4 @@ each-preserved g c =
 pub returns : goal.returns
 returns g c =
     takes_end g.T.Named.name_of c.each.rest.now (any_named g.T.Named.name_of c.args.list.now) c.args.number c.args.names.now c.each.names
-    (none_left c.each.rest.now c.in-None.ensures.cases) c.each.invariant
+    (none_left c.each.rest.now c.in_default.ensures.cases) c.each.invariant

@@ -3,7 +3,7 @@ use Rattle.fab_locks.proofs.index.Index.take.Goals as goal
 
 pub returns : goal.returns
 returns c = record {
-  places = take_place c.args.tid c.args.self.now.places c.remove.new.places c.remove.ensures.updates.0;
+  places = take_place c.args.tid c.args.self.now.places c.remove.new.self c.remove.ensures.updates.0;
   named = c.take_named.ensures;
   changed = c.take_changed.ensures;
 }

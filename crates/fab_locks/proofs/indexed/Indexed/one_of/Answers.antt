@@ -1,4 +1,4 @@
-use Rattle.std.proofs.Common.{◌==◌, not, sym, subst, ap, ◌∙◌}
+use Rattle.std.proofs.Common.{◌==◌, not, sym, ap, ◌∙◌}
 use Rattle.std.specs.List.{filter}
 use Rattle.fab_locks.specs.Conflicts.{holds_tid}
 use Rattle.fab_locks.proofs.Finding.{all_found, all_others, held_if_numbered}

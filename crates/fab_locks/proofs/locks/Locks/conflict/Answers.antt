@@ -1,4 +1,4 @@
-use Rattle.std.proofs.Common.{sym, ap, ◌∙◌}
+use Rattle.std.proofs.Common.{ap, ◌∙◌}
 use Rattle.fab_locks.specs.Conflicts.{first_barring}
 use Rattle.fab_locks.proofs.Joining.{barring_behind, barring_first}
 use Rattle.fab_locks.proofs.locks.Locks.conflict.Goals as goal

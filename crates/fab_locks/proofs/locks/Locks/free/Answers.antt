@@ -1,5 +1,4 @@
-use Rattle.std.proofs.Common.{◌++◌, ◌∷◌, [], sym, subst, ap, ◌∙◌}
-use Rattle.std.specs.Option.{MatchOption}
+use Rattle.std.proofs.Common.{◌++◌, sym, ap, ◌∙◌}
 use Rattle.fab_protocol.specs.Stores.{prepared_as, without}
 use Rattle.fab_locks.proofs.Joining.{distinct_behind, distinct_left, freed_along, freed_behind, freed_first, left_first, without_either}
 use Rattle.fab_locks.proofs.locks.Locks.free.Goals as goal
@@ -27,10 +26,10 @@ returns-in-Some-clause-held c =
 
 -- or beside them
 pub free_beside-requires : goal.free_beside-requires
-free_beside-requires c = distinct_behind c.self.inside.indexed c.self.inside.beside.items c.self.invariant
+free_beside-requires c = record { distinct = distinct_behind c.self.inside.indexed c.self.inside.beside.items c.self.invariant }
 
-pub invariant_of-self-2 : goal.invariant_of-self-2
-invariant_of-self-2 c =
+pub invariant_of-self-in-None : goal.invariant_of-self-in-None
+invariant_of-self-in-None c =
     let xs = c.self.inside.indexed in
     let ys = c.self.inside.beside.items in
     distinct_left c.args.tid (xs ++ ys) (c.free.new.self ++ c.free_beside.new.held.items) c.self.invariant
