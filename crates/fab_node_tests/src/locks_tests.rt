@@ -90,7 +90,11 @@ fn made_up(alloc: Global, number: u64) -> Result<Items, NoMemory> {
 
 fn changes(items: &Items, oid: Oid) -> bool {
     items.writes.as_slice().iter().any(|write| write.0 == oid)
-        || items.creates.as_slice().iter().any(|create| create.0 == oid)
+        || items
+            .creates
+            .as_slice()
+            .iter()
+            .any(|create| create.0 == oid)
 }
 
 fn names(items: &Items, oid: Oid) -> bool {

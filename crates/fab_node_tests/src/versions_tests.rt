@@ -50,12 +50,7 @@ fn named(number: u32) -> Oid {
 
 /// A write of a name, or its first object, in a table and in a plain list: which name and which class,
 /// a number tells.
-fn write(
-    alloc: Global,
-    table: &mut Table,
-    plain: &mut Plain,
-    told: u32,
-) -> Result<(), NoMemory> {
+fn write(alloc: Global, table: &mut Table, plain: &mut Plain, told: u32) -> Result<(), NoMemory> {
     let number = told / 65536 % 32;
     let class = (told / 1024 % 1000) as u16;
     let oid = named(number);

@@ -38,11 +38,7 @@ fn is_taken<X: Turning>(held: &mut X, node: u16, done: &Done) -> Result<bool, No
 }
 
 /// The same of what the pool made of its last job, if that is here. Nothing is copied to see whether the node has that job still.
-fn kept_is_taken<X: Turning>(
-    held: &mut X,
-    bench: &Bench<'_>,
-    node: u16,
-) -> Result<bool, NoMemory>
+fn kept_is_taken<X: Turning>(held: &mut X, bench: &Bench<'_>, node: u16) -> Result<bool, NoMemory>
     requires { bench.now ≡ (X.given held.old).program }
     ensures given { X.given held.new ≡ X.given held.old }
     ensures sure { (n : ℕ) → X.sure held.new n ≡ X.sure held.old n }
