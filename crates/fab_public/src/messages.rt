@@ -35,11 +35,7 @@ fn stores_of_set(setting: &Setting<'_>) -> Result<Vec<u16>, NoMemory>
 }
 
 /// Each Commit again, in order, and then the boot to every store of the set.
-pub(crate) fn wakes(
-    setting: &Setting<'_>,
-    commits: &Commits,
-    boot: u32,
-) -> Result<Sends, NoMemory>
+pub(crate) fn wakes(setting: &Setting<'_>, commits: &Commits, boot: u32) -> Result<Sends, NoMemory>
     ensures { IfOk result (λ sent. sent ≡ all_spelled (flat_map (λ c. to_all c.stores (Commit c.tid)) commits.now
         ++ to_all (filter (has_bit setting.now.nodes) (stores_in setting.now.rights.now)) (Boot boot))) }
 {
