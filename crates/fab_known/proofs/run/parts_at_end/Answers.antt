@@ -12,10 +12,10 @@ returns-in-Ended c =
     let rows = c.args.rows.now in
     let what : Meant = ran_by (record { program = c.args.part.now; seen = c.args.seen }) c.args.tid.worker c.args.number c.args.tid (map_of (objects_of rows)) c.args.given.now in
     let ended : what.ending ≡ Ended c.in-Ended.value = sym c.in_ok-meant.ensures.ending ∙ c.in-Ended.is in
-    ap Some (c.in_ok-parts_of.ensures what c.in_ok-meant.ensures ended) ∙ sym (ap (parts_behind rows what) ended)
+    ap Some (c.in_ok-parts_of-in-Ended.ensures what c.in_ok-meant.ensures ended) ∙ sym (ap (parts_behind rows what) ended)
 
-pub returns-in_default : goal.returns-in_default
-returns-in_default c =
+pub returns : goal.returns
+returns c =
     let rows = c.args.rows.now in
     let what : Meant = ran_by (record { program = c.args.part.now; seen = c.args.seen }) c.args.tid.worker c.args.number c.args.tid (map_of (objects_of rows)) c.args.given.now in
     subst (λ (e : Ending). None ≡ parts_behind rows what e) c.in_ok-meant.ensures.ending (search rules)
