@@ -72,7 +72,34 @@ fn evaluated_is_taken<X: Turning, G: Gate>(
     }
 }
 
-/// A due event of a node, or its job where the pool is to evaluate that.
+/// What a turn is that asks for a node's job: an event that came of it by its own evaluator, or the job for the pool.
+fn evaluated_or_left<X: Turning, G: Gate>(
+    held: &mut X,
+    bench: &mut Bench<'_>,
+    gate: &G,
+    node: u16,
+    job: Job,
+) -> Result<Turn, NoMemory>
+    requires program { bench.old ≡ (X.given held.old).program }
+    requires job { IsReady bench.old job }
+    ensures program { bench.new ≡ bench.old }
+    ensures given { X.given held.new ≡ X.given held.old }
+    ensures sure { (n : ℕ) → X.sure held.new n ≡ X.sure held.old n }
+    ensures grown { X.events held.old ≤ X.events held.new }
+    ensures job { IfOk result (JobIsReady bench.old) }
+    ensures over { IfOk result (λ turn. OnOver turn (X.over held.new)) }
+{
+    if !bench.is_own(node, &job) {
+        return Ok(Turn::Evaluate(job));
+    }
+    if evaluated_is_taken(held, bench, gate, node, job)? {
+        Ok(Turn::Acted)
+    } else {
+        Ok(Turn::Wait)
+    }
+}
+
+/// A due event of a node, or its job for the pool.
 fn due_turn<X: Turning, G: Gate>(
     held: &mut X,
     bench: &mut Bench<'_>,
@@ -88,13 +115,7 @@ fn due_turn<X: Turning, G: Gate>(
     ensures over { IfOk result (λ turn. OnOver turn (X.over held.new)) }
 {
     match held.next(node)? {
-        Turn::Evaluate(job) if bench.is_own(node, &job) => {
-            if evaluated_is_taken(held, bench, gate, node, job)? {
-                Ok(Turn::Acted)
-            } else {
-                Ok(Turn::Wait)
-            }
-        }
+        Turn::Evaluate(job) => evaluated_or_left(held, bench, gate, node, job),
         turn => Ok(turn),
     }
 }
@@ -144,7 +165,8 @@ fn walk<X: Turning, R: Wait, G: Gate>(
 {
     let mut jobs = Seq::new(alloc);
     for node in 0..NUMBERS {
-        match turns_of(rt, held, bench, gate, node)? {
+        let turn = turns_of(rt, held, bench, gate, node)?;
+        match turn {
             Turn::Evaluate(job) => jobs.push(job)?,
             Turn::Over => return Ok(Left::Nothing),
             Turn::Acted | Turn::Wait => {}

@@ -149,7 +149,7 @@ impl<'a> Bench<'a> {
         jobs: Seq<Job>,
         gate: &G,
     ) -> Result<(), NoMemory>
-        requires { All (IsReady self.old) jobs }
+        requires ready { All (IsReady self.old) jobs }
         ensures { self.new ≡ self.old }
     {
         let dones = Pool::evaluate_all(rt, alloc, jobs, WIDTH, gate)?;

@@ -1,4 +1,3 @@
-use Rattle.std.specs.Prelude.{IfOk}
 use Rattle.std.proofs.Common.{subst}
 use Rattle.fab_tree.specs.declared.resolved.Resolved.{Resolved}
 use Rattle.fab_threads.specs.Rounds.{IsLeft}

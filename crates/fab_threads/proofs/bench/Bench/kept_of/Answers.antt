@@ -1,7 +1,5 @@
-use Rattle.std.specs.Prelude.{List, Option}
 use Rattle.std.specs.Option.{option_copied}
 use Rattle.std.proofs.Common.{sym, subst}
-use Rattle.fab_eval.specs.declared.done.Done.{Done}
 use Rattle.fab_tree.specs.declared.resolved.Resolved.{Resolved}
 use Rattle.fab_threads.specs.Rounds.{AreKept}
 use Rattle.fab_threads.proofs.Keeping.{IsKept, kept_at}
