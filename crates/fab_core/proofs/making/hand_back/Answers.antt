@@ -21,6 +21,6 @@ returns g c =
     let J = g.J.Journal in
     let last = c.in_default.ensures in
     let none : c.made.made.items ≡ [] =
-        last.items ∙ ap (λ items. items ++ []) (last.rest ∙ ap (λ len. take (len - 1) c.made.made.items) last.cases.0) in
+    last.items ∙ ap (λ items. items ++ []) (last.rest ∙ ap (λ len. take (len - 1) c.made.made.items) last.cases.0) in
     all_back (λ journal. record { content = J.content journal; synced = J.synced journal; room = J.room journal; faults = J.faults journal; sure = J.sure journal })
     c.made.journals.items c.reverse.new.self.items c.made.made.items _ c.reverse.ensures.items none c.made.invariant.taken
