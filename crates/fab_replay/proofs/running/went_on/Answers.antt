@@ -13,8 +13,8 @@ pub go_on-requires : goal.go_on-requires
 go_on-requires g c =
     last_unmade c.args.evaluators.now c.args.worker c.in-Some.done.now.job c.in-Some-answer_behind.answer.now.0 c.in-Some.ensures.job c.in-Some-answer_behind.ensures.1
 
-pub returns-in-Some-answer_behind-clause-last : goal.returns-in-Some-answer_behind-clause-last
-returns-in-Some-answer_behind-clause-last g c =
+pub returns-in_ok-object-in-Some-answer_behind-clause-last : goal.returns-in_ok-object-in-Some-answer_behind-clause-last
+returns-in_ok-object-in-Some-answer_behind-clause-last g c =
     let core = c.args.core.now in
     let job = c.in-Some.done.now.job in
     let a = c.in-Some-answer_behind.answer.now in
