@@ -4,4 +4,6 @@
 #[cfg(test)]
 mod gate_tests;
 #[cfg(test)]
+mod left_tests;
+#[cfg(test)]
 mod pool_tests;

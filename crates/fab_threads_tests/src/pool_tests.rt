@@ -1,5 +1,5 @@
 //! A pool: jobs are evaluated beside each other, and what they come to stands in their order.
-ghost use Rattle.std.specs.Prelude.{◌<◌, ◌≤◌, All, IfOk};
+ghost use Rattle.std.specs.Prelude.{◌≡◌, ◌<◌, ◌≤◌, All, IfOk};
 ghost use Rattle.fab_pool.specs.Jobs.{IsReady};
 
 use fab_base::{NoMemory, Seq, Tid};
@@ -13,7 +13,7 @@ use std::test::Fail;
 use std::thread::Threads;
 
 /// A program without a method.
-fn program(alloc: Global) -> Resolved {
+pub(crate) fn program(alloc: Global) -> Resolved {
     Resolved {
         nodes: Seq::new(alloc),
         pairs: Seq::new(alloc),
@@ -29,8 +29,14 @@ fn program(alloc: Global) -> Resolved {
     }
 }
 
-fn job_of(alloc: Global, program: &Arc<Resolved>, worker: u16, number: u32) -> Result<Job, NoMemory>
-    ensures { IfOk result IsReady }
+pub(crate) fn job_of(
+    alloc: Global,
+    program: &Arc<Resolved>,
+    worker: u16,
+    number: u32,
+) -> Result<Job, NoMemory>
+    ensures ready { IfOk result IsReady }
+    ensures program { IfOk result (λ job. job.program.value ≡ program.now.value) }
 {
     let program = program.clone()?;
     Ok(Job {

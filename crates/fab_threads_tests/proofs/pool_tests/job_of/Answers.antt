@@ -10,5 +10,5 @@ no_answers : (job : Job) → job.answers ≡ [] → IsReady job
 unfolding IsDistinct
 no_answers job is = record { distinct = rw is tt; made_before = rw is refl }
 
-pub returns : goal.returns
-returns c = no_answers _ c.new-2.ensures
+pub returns-clause-ready : goal.returns-clause-ready
+returns-clause-ready c = no_answers _ c.new-2.ensures
