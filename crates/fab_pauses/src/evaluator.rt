@@ -58,7 +58,7 @@ impl<'a> Evaluator<'a> {
     }
 
     /// Evaluates a job: from where the last one paused, if it is that one with the answer that was needed, and else from its start. Without
-    /// memory it has the last job still where that one was to go on, and else none.
+    /// memory it has the last job still, or none.
     pub fn evaluate(&mut self, job: Job) -> Result<(), NoMemory>
         requires program { IsOf self.old.program job }
         requires distinct { IsDistinct is_same (names_of job.answers) }
