@@ -79,8 +79,8 @@ impl<'a> Evaluator<'a> {
         }
     }
 
-    /// Goes on with an answer where the last job paused for it, and says whether it did. So who knows that the next job is this one needs
-    /// none.
+    /// Goes on with an answer where the last job paused for it, and says whether it did. So whoever knows that the next job is the last one
+    /// with this answer more needs no copy of it.
     pub fn go_on(&mut self, oid: Oid, version: u32, object: Object) -> Result<bool, NoMemory>
         requires { IfSome self.old.last (λ job. is_made_in job.tid oid ≡ false) }
         ensures program { self.new.program ≡ self.old.program }
