@@ -1,7 +1,6 @@
 -- A worker's request is run on: what is kept of its last run, and what comes of it.
 use Rattle.std.proofs.Common.{◌≡◌, ℕ, ◌==◌, Bool, true, false, not, ◌&&◌, List, [], ◌∷◌, ◌++◌, length, take, Option, Some, None, refl, sym, ap, ◌∙◌, subst, arith}
-use Rattle.std.proofs.lemmas.Bool.{false≢true}
-use Rattle.std.proofs.lemmas.Bool.Decides.{nat_tests}
+use Rattle.std.proofs.lemmas.Bool.{and_parts, eqb-true, not-true}
 use Rattle.std.proofs.lemmas.List.{map-append, take_at}
 use Rattle.fab_base.specs.declared.object.Object.{Object}
 use Rattle.fab_base.specs.declared.object.Oid.{Oid}
@@ -9,6 +8,7 @@ use Rattle.fab_base.specs.declared.object.Tid.{Tid}
 use Rattle.fab_base.specs.declared.object.Value.{Value}
 use Rattle.fab_base.specs.FlatMap.{FlatMap, is_same, map_of, put}
 use Rattle.fab_base.proofs.NameOrder.{one_name}
+use Rattle.fab_integrity.proofs.Tids.{tid_is as one_tid}
 use Rattle.fab_map.proofs.Rows.{put_more}
 use Rattle.fab_language.specs.Meaning.{Meant}
 use Rattle.fab_meaning.specs.declared.paused.Paused.{Paused}
@@ -24,26 +24,6 @@ use Rattle.fab_known.specs.declared.known.Last.{Last}
 use Rattle.fab_known.specs.Knowing.{Lacks, Runner, ran_by}
 use Rattle.fab_known.specs.Lasts.{IsAnswer, IsLast, IsRun, IsTurned, PausesSo, job_over}
 
--- ---- tests
-
-both : (a b : Bool) → (a && b) ≡ true → (a ≡ true) × (b ≡ true)
-both true true e = (refl, refl)
-both true false e = absurd (false≢true e)
-both false b e = absurd (false≢true e)
-
-not_so : (b : Bool) → not b ≡ true → b ≡ false
-not_so true e = absurd (false≢true e)
-not_so false e = refl
-
-number_is : (m n : ℕ) → (m == n) ≡ true → m ≡ n
-number_is m n e = grind (arith, nat_tests)
-
-one_tid : (t u : Tid) → is_tid t u ≡ true → t ≡ u
-one_tid t u e =
-    let first = both (t.worker == u.worker) ((t.boot == u.boot) && (t.number == u.number)) e in
-    let rest = both (t.boot == u.boot) (t.number == u.number) first.1 in
-    λ i. record { worker = number_is t.worker u.worker first.0 i; boot = number_is t.boot u.boot rest.0 i; number = number_is t.number u.number rest.1 i }
-
 -- ---- the object that lacked is known behind the rows of the last run
 
 abbrev pub is_next : Last → Rows → Oid → ℕ → Tid → Bool
@@ -57,17 +37,17 @@ is_answer rows before row last number t x split e copy =
     let b = is_tid last.tid t in
     let c = length before == last.rows in
     let d = is_same row.0 last.pause.oid in
-    let one = both (a && b && c && d) (not (is_made_in t last.pause.oid)) e in
-    let two = both (a && b && c) d one.0 in
-    let three = both (a && b) c two.0 in
-    let four = both a b three.0 in
-    let front : take last.rows rows ≡ before = ap (take last.rows) split ∙ take_at before (row ∷ []) last.rows (number_is (length before) last.rows three.1) in
+    let one = and_parts (a && b && c && d) (not (is_made_in t last.pause.oid)) e in
+    let two = and_parts (a && b && c) d one.0 in
+    let three = and_parts (a && b) c two.0 in
+    let four = and_parts a b three.0 in
+    let front : take last.rows rows ≡ before = ap (take last.rows) split ∙ take_at before (row ∷ []) last.rows (eqb-true (length before) last.rows three.1) in
     record {
       version = row.1;
-      number_is = number_is last.number number four.0;
+      number_is = eqb-true last.number number four.0;
       tid_is = one_tid last.tid t four.1;
       rows_are = split ∙ (λ i. sym front i ++ (one_name row.0 last.pause.oid two.1 i, row.1, sym copy i) ∷ []);
-      unmade = not_so (is_made_in t last.pause.oid) one.1;
+      unmade = not-true (is_made_in t last.pause.oid) one.1;
     }
 
 -- ---- what comes of a run
