@@ -2,16 +2,21 @@
 use Rattle.std.specs.Prelude.{◌≡◌, ℕ, ◌+◌, ◌≤◌, Bool, true, false, not, ◌&&◌, IsTrue, IsFalse, List, [], ◌∷◌, ◌++◌, map, length, count_by, is_some, if◌then◌else◌, Option, Some, None, option_map}
 use Rattle.std.specs.List.{range_with_len, flat_map}
 use Rattle.fab_base.specs.JournalSpelling.{record_bytes, journal_version}
+use Rattle.fab_eval.specs.Answered.{answered}
+use Rattle.fab_eval.specs.Attempts.{is_made_in}
 use Rattle.fab_eval.specs.declared.job.Job.{Job}
 use Rattle.fab_net.specs.declared.event.Event.{Event}
 use Rattle.fab_net.specs.declared.event.Inner.{Inner}
 use Rattle.fab_net.specs.declared.outcome.ReqOutcome.{ReqOutcome}
 use Rattle.fab_tree.specs.declared.resolved.Resolved.{Resolved}
 use Rattle.fab_rights.specs.Computed.{is_store, is_worker}
-use Rattle.fab_protocol.specs.Versions.{Rows}
+use Rattle.fab_protocol.specs.Versions.{Row, Rows}
 use Rattle.fab_attempts.specs.Sessions.{requests_of}
-use Rattle.fab_world.specs.Workers.{Act}
+use Rattle.fab_worker.specs.Models.{IsJobIn, WorkerModel}
+use Rattle.fab_world.specs.Workers.{Act, Evaluating}
 use Rattle.fab_world.specs.Machine.{Setting, Node, World, Form, Does, Cuts, Fails, Posts, Crashes, Never, form_of, is_running, is_evaluating, outcome, held_at, may}
+use Rattle.fab_node.specs.declared.role.Role.{Role}
+use Rattle.fab_node.specs.declared.role.Role.TheVariants as roles
 use Rattle.fab_node.specs.Standing.{GivenModel, IsJournalOf, JournalModel, NodeModel, OnlyGainsRoom}
 use Rattle.fab_core.specs.Cores.{setting, slot, unmarked, is_honest, IsJobAt}
 
@@ -47,6 +52,36 @@ is_at_work g w n = is_worker g.rights n && is_running (setting g) w n && is_eval
 abbrev pub TellsJob : GivenModel → World → ℕ → Option Job → Type 0
 TellsJob g w n None = IsFalse (is_at_work g w n)
 TellsJob g w n (Some job) = IsTrue (is_at_work g w n) × IsJobAt g w n job
+
+-- the answer behind those of a job, where who has a job has this one with it, and then the attempt didn't make its object; nothing exactly where
+-- there is none
+abbrev pub HasAnswer : (Job → Type 0) → Job → Option Row → Type 0
+HasAnswer Has job None = (a : Row) → Has (answered a.0 a.1 a.2 job) → ⊥
+HasAnswer Has job (Some a) = Has (answered a.0 a.1 a.2 job) × (is_made_in job.tid a.0 ≡ false)
+
+-- the same of what a worker has to evaluate
+abbrev pub TellsAnswer : GivenModel → World → ℕ → Job → Option Row → Type 0
+TellsAnswer g w n job told = HasAnswer (λ j. TellsJob g w n (Some j)) job told
+
+-- ---- the same of a node, and but for programs, which nobody compares
+
+-- a worker that evaluates has this job
+pub record HasJob (x : WorkerModel) (job : Job) : Type 0 where
+  pub evaluating : x.attempt.phase ≡ Evaluating
+  pub is : IsJobIn job x
+
+abbrev pub HasJobOf : Role → Job → Type 0
+HasJobOf (roles.Worker x) job = HasJob x job
+HasJobOf (roles.Store s) job = ⊥
+
+-- of a node that is up
+abbrev pub HasJobWhere : Bool → Role → Job → Type 0
+HasJobWhere true role job = HasJobOf role job
+HasJobWhere false role job = ⊥
+
+abbrev pub HasJobAt : Option NodeModel → Job → Type 0
+HasJobAt None job = ⊥
+HasJobAt (Some x) job = HasJobWhere x.up x.role job
 
 -- ---- outcomes
 

@@ -1,17 +1,19 @@
 //! What a core tells of its run.
 
 ghost use Rattle.std.specs.Prelude.{◌≡◌, ◌≤◌, ◌+◌, ◌++◌, ◌∷◌, [], false, IsTrue, IfOk, IfSome, Some, length, map, vec_capacity};
+ghost use Rattle.std.specs.Bool.{MatchBool};
 ghost use Rattle.std.specs.List.{IsDistinct, list_any};
+ghost use Rattle.std.specs.Option.{option_copied};
 ghost use Rattle.fab_base.specs.FlatMap.{is_same};
 ghost use Rattle.fab_eval.specs.Attempts.{is_made_in};
 ghost use Rattle.fab_protocol.specs.Versions.{names_of};
 ghost use Rattle.fab_world.specs.Machine.{at_start, logs, outcome};
 ghost use Rattle.fab_core.specs.Cores.{HasPlaces, count_in, is_honest, setting, slot, world};
 ghost use Rattle.fab_nodes.specs.Seen.{TellsJobAt, TellsJobOf, ended_as, outcome_in};
-ghost use Rattle.fab_core.specs.Telling.{TellsJob, those_in};
+ghost use Rattle.fab_core.specs.Telling.{HasAnswer, HasJobAt, HasJobOf, TellsAnswer, TellsJob, those_in};
 
 use crate::core_state::Core;
-use fab_base::{NoMemory, Seq};
+use fab_base::{NoMemory, Object, Oid, Seq};
 use fab_device::Journal;
 use fab_eval::Job;
 use fab_net::{Logged, ReqOutcome};
@@ -74,6 +76,56 @@ fn job_at<J: Journal>(nodes: &[Option<Node<J>>], worker: usize) -> Result<Option
     match node_at(nodes, worker) {
         Some(node) if node.is_up() => job_of(node.role()),
         _ => Ok(None),
+    }
+}
+
+/// Whether this is the job of a worker that evaluates.
+fn is_job_of(role: &Role, job: &Job) -> bool
+    ensures { MatchBool result (HasJobOf role.now job.now) (HasJobOf role.now job.now → ⊥) }
+{
+    match role {
+        Role::Worker(worker) => match worker.state() {
+            WorkerState::Evaluating => worker.is_job(job),
+            _ => false,
+        },
+        Role::Store(_) => false,
+    }
+}
+
+/// The same of the worker of this number, if it is up.
+fn is_job_at<J: Journal>(nodes: &[Option<Node<J>>], worker: usize, job: &Job) -> bool
+    ensures { MatchBool result (HasJobAt (slot nodes.now worker) job.now) (HasJobAt (slot nodes.now worker) job.now → ⊥) }
+{
+    match node_at(nodes, worker) {
+        Some(node) if node.is_up() => is_job_of(node.role(), job),
+        _ => false,
+    }
+}
+
+/// The last answer of a worker that evaluates, where its job is this one with this answer more.
+fn answer_of<'a>(role: &'a Role, job: &Job) -> Option<&'a (Oid, u32, Object)>
+    ensures { HasAnswer (HasJobOf role.now) job.now (option_copied result) }
+{
+    match role {
+        Role::Worker(worker) => match worker.state() {
+            WorkerState::Evaluating => worker.answer_behind(job),
+            _ => None,
+        },
+        Role::Store(_) => None,
+    }
+}
+
+/// The same of the worker of this number, if it is up.
+fn answer_at<'a, J: Journal>(
+    nodes: &'a [Option<Node<J>>],
+    worker: usize,
+    job: &Job,
+) -> Option<&'a (Oid, u32, Object)>
+    ensures { HasAnswer (HasJobAt (slot nodes.now worker)) job.now (option_copied result) }
+{
+    match node_at(nodes, worker) {
+        Some(node) if node.is_up() => answer_of(node.role(), job),
+        _ => None,
     }
 }
 
@@ -154,6 +206,23 @@ impl<J: Journal> Core<J> {
         ensures made_before { IfOk result (λ told. IfSome told (λ job. list_any (λ a. is_made_in job.tid a.0) job.answers ≡ false)) }
     {
         job_at(&self.nodes, usize::from(worker))
+    }
+
+    /// Whether a job is what a worker has to evaluate. Nothing is copied: who has the job of an evaluation that is over asks this and not
+    /// for the job.
+    pub fn is_current(&self, worker: u16, job: &Job) -> bool
+        requires { job.now.program.value ≡ self.now.given.program }
+        ensures { MatchBool result (TellsJob self.now.given (world self.now) worker (Some job.now)) (TellsJob self.now.given (world self.now) worker (Some job.now) → ⊥) }
+    {
+        is_job_at(&self.nodes, usize::from(worker), job)
+    }
+
+    /// The last answer of a worker, where what it has to evaluate is this job with this answer more. It is lent, and nothing is copied.
+    pub fn answer_behind(&self, worker: u16, job: &Job) -> Option<&(Oid, u32, Object)>
+        requires { job.now.program.value ≡ self.now.given.program }
+        ensures { TellsAnswer self.now.given (world self.now) worker job.now (option_copied result) }
+    {
+        answer_at(&self.nodes, usize::from(worker), job)
     }
 
     /// The journal of an honest node.

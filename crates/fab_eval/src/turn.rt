@@ -131,6 +131,7 @@ impl<'a> Paused<'a> {
     /// The job so far, where nobody goes on with it.
     pub fn into_done(self) -> Done
         ensures job { result.job ≡ self.entry.job }
+        ensures outcome { result.outcome ≡ Need self.entry.site self.entry.oid }
     {
         let Paused {
             alloc: _,

@@ -1,3 +1,4 @@
+pub mod Asking
 pub mod RootObjects
 pub mod Running
 pub mod Turning

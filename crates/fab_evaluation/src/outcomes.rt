@@ -2,6 +2,7 @@
 ghost use Rattle.std.specs.Prelude.{◌≡◌, ◌++◌, OnOk};
 ghost use Rattle.fab_language.specs.Evaluation.{ending_words, outcome_line, outcomes_text};
 ghost use Rattle.fab_language.specs.Words.{spaced};
+ghost use Rattle.fab_evaluation.specs.Asking.{asked};
 ghost use Rattle.fab_lines.specs.Numbered.{AreNumbered};
 
 use fab_base::{NoMemory, Seq};
@@ -60,20 +61,18 @@ pub(crate) fn put_outcomes(
     alloc: Global,
     out: &mut Seq<u8>,
     start: &Resolved,
-    requests: &[Request],
+    requests: &[&Request],
     endings: &[Ending],
 ) -> Result<(), NoMemory>
     requires { AreNumbered start.now.roots }
-    ensures { OnOk result (out.new ≡ out.old ++ outcomes_text start.now requests.now endings.now) }
+    ensures { OnOk result (out.new ≡ out.old ++ outcomes_text start.now (asked requests.now) endings.now) }
 {
-    let mut rest = requests;
     let mut others = endings;
-    'requests: while let Some((request, after)) = rest.split_first() {
+    for request in requests {
         let Some((ending, left)) = others.split_first() else {
             return Ok(());
         };
-        put_outcome(alloc, out, start, request, *ending)?;
-        rest = after;
+        put_outcome(alloc, out, start, *request, *ending)?;
         others = left;
     }
     Ok(())

@@ -2,10 +2,10 @@
 ghost use Rattle.std.specs.Prelude.{◌≡◌, ◌++◌, IfOk, OnOk, flat_map, map};
 ghost use Rattle.fab_base.specs.FlatMap.{put_all};
 ghost use Rattle.fab_language.specs.Evaluation.{asked_at, in_turn, requests_of};
+ghost use Rattle.fab_evaluation.specs.Asking.{asked};
 
 use crate::single::{Single, run_one};
 use fab_base::{NoMemory, Object, Oid, Seq};
-use fab_eval::copy_of_request;
 use fab_language::Ending;
 use fab_map::ObjectMap;
 use fab_tree::resolved::{Asked, Request, Resolved, Session};
@@ -24,19 +24,17 @@ pub(crate) fn run(
     alloc: Global,
     program: &Arc<Resolved>,
     objects: ObjectMap,
-    requests: &[Request],
+    requests: &[&Request],
 ) -> Result<Ran, NoMemory>
-    ensures endings { IfOk result (λ r. r.endings ≡ (in_turn program.now.value objects requests.now).endings) }
-    ensures map { IfOk result (λ r. r.map ≡ (in_turn program.now.value objects requests.now).map) }
+    ensures endings { IfOk result (λ r. r.endings ≡ (in_turn program.now.value objects (asked requests.now)).endings) }
+    ensures map { IfOk result (λ r. r.map ≡ (in_turn program.now.value objects (asked requests.now)).map) }
 {
     let mut map = objects;
     let mut endings = Seq::new(alloc);
-    let mut rest = requests;
-    'requests: while let Some((request, after)) = rest.split_first() {
-        let Single { ending, changed } = run_one(alloc, program, &map, request)?;
+    for request in requests {
+        let Single { ending, changed } = run_one(alloc, program, &map, *request)?;
         put_changed(&mut map, changed)?;
         endings.push(ending)?;
-        rest = after;
     }
     Ok(Ran { endings, map })
 }
@@ -51,15 +49,15 @@ fn put_changed(map: &mut ObjectMap, changed: Seq<(Oid, Object)>) -> Result<(), N
     Ok(())
 }
 
-/// The requests of all sessions, in the order of their workers' numbers.
-pub(crate) fn in_order(alloc: Global, start: &Resolved) -> Result<Seq<Request>, NoMemory>
-    ensures { IfOk result (λ requests. requests ≡ requests_of start.now) }
+/// The requests of all sessions, in the order of their workers' numbers. None is copied.
+pub(crate) fn in_order<'a>(alloc: Global, start: &'a Resolved) -> Result<Seq<&'a Request>, NoMemory>
+    ensures { IfOk result (λ requests. asked requests ≡ requests_of start.now) }
 {
     let mut requests = Seq::new(alloc);
     let mut rest = start.nodes.as_slice();
     'nodes: while let Some((principal, after)) = rest.split_first() {
         if let Some(node) = principal.node {
-            add_sessions(alloc, &mut requests, start.sessions.as_slice(), node)?;
+            add_sessions(&mut requests, start.sessions.as_slice(), node)?;
         }
         rest = after;
     }
@@ -67,45 +65,43 @@ pub(crate) fn in_order(alloc: Global, start: &Resolved) -> Result<Seq<Request>, 
 }
 
 /// The requests of this node at the end of others.
-fn add_sessions(
-    alloc: Global,
-    requests: &mut Seq<Request>,
-    sessions: &[Session],
+fn add_sessions<'a>(
+    requests: &mut Seq<&'a Request>,
+    sessions: &'a [Session],
     node: u16,
 ) -> Result<(), NoMemory>
-    ensures { OnOk result (requests.new ≡ requests.old ++ flat_map (asked_at node) sessions.now) }
+    ensures { OnOk result (asked requests.new ≡ asked requests.old ++ flat_map (asked_at node) sessions.now) }
 {
     let mut rest = sessions;
     'sessions: while let Some((session, after)) = rest.split_first() {
-        add_session(alloc, requests, session, node)?;
+        add_session(requests, session, node)?;
         rest = after;
     }
     Ok(())
 }
 
 /// The requests of a session at the end of others, if it is this node's.
-fn add_session(
-    alloc: Global,
-    requests: &mut Seq<Request>,
-    session: &Session,
+fn add_session<'a>(
+    requests: &mut Seq<&'a Request>,
+    session: &'a Session,
     node: u16,
 ) -> Result<(), NoMemory>
-    ensures { OnOk result (requests.new ≡ requests.old ++ asked_at node session.now) }
+    ensures { OnOk result (asked requests.new ≡ asked requests.old ++ asked_at node session.now) }
 {
     if session.worker.number == node {
-        add_all(alloc, requests, session.requests.as_slice())?;
+        add_all(requests, session.requests.as_slice())?;
     }
     Ok(())
 }
 
 /// These requests at the end of others.
-fn add_all(alloc: Global, requests: &mut Seq<Request>, more: &[Asked]) -> Result<(), NoMemory>
-    ensures { OnOk result (requests.new ≡ requests.old ++ map (λ a. a.request) more.now) }
+#[tactic(auto, using(crate::proofs::Asking::asked_push))]
+fn add_all<'a>(requests: &mut Seq<&'a Request>, more: &'a [Asked]) -> Result<(), NoMemory>
+    ensures { OnOk result (asked requests.new ≡ asked requests.old ++ map (λ a. a.request) more.now) }
 {
     let mut rest = more;
-    'more: while let Some((asked, after)) = rest.split_first() {
-        let request = copy_of_request(alloc, &asked.request)?;
-        requests.push(request)?;
+    'more: while let Some((one, after)) = rest.split_first() {
+        requests.push(&one.request)?;
         rest = after;
     }
     Ok(())

@@ -1,7 +1,5 @@
 //! Whose turn it is, and what comes of it.
 ghost use Rattle.std.specs.Prelude.{◌≡◌, IfOk, OnErr};
-ghost use Rattle.std.specs.Bool.{MatchBool};
-ghost use Rattle.fab_pauses.specs.Jobs.{IsThere};
 ghost use Rattle.fab_exchange.specs.Turns.{AreAsSure, Gives, IsStale, IsStill, NoneCame, Turns};
 
 use crate::exchange::Exchange;
@@ -9,9 +7,8 @@ use crate::found::Found;
 use crate::turn::{Given, Turn};
 use fab_base::NoMemory;
 use fab_device::Journal;
-use fab_eval::{Done, Job};
+use fab_eval::Done;
 use fab_net::{Event, Inner};
-use fab_pauses::is_same_job;
 
 impl<J: Journal> Exchange<J> {
     /// An event of a node comes that is due; or its evaluation is asked for, whose end is due; or it is to wait, exactly where none
@@ -51,7 +48,7 @@ impl<J: Journal> Exchange<J> {
     }
 
     /// What a worker's job came to is taken, and the worker goes on. It isn't exactly where it isn't what the worker has to evaluate, and
-    /// then nothing changes.
+    /// then nothing changes. The job is compared under the lock and not copied.
     pub fn give(&mut self, node: u16, done: &Done) -> Result<Given, NoMemory>
         requires program { done.now.job.program.value ≡ self.old.given.program }
         ensures given { self.new.given ≡ self.old.given }
@@ -60,21 +57,10 @@ impl<J: Journal> Exchange<J> {
         ensures memory { OnErr result (NoneCame node self.old self.new) }
         ensures sure { AreAsSure self.old.journals self.new.journals }
     {
-        let told = self.core.job(node)?;
-        if !is_current(told, &done.job) {
+        if !self.core.is_current(node, &done.job) {
             return Ok(Given::Stale);
         }
         self.does(Inner::Resume(node), Some(done))?;
         Ok(Given::Taken)
-    }
-}
-
-/// Whether a job is the one that was told.
-fn is_current(told: Option<Job>, job: &Job) -> bool
-    ensures { MatchBool result (IsThere told job.now) (IsThere told job.now → ⊥) }
-{
-    match told {
-        Some(current) => is_same_job(&current, job),
-        None => false,
     }
 }

@@ -1,5 +1,6 @@
 pub mod Answering
 pub mod Calling
+pub mod Holding
 pub mod Naming
 pub mod Noting
 pub mod Over

@@ -35,11 +35,6 @@ among_push o p (x ∷ os) = elim (is_same x o) as (λ b. (b || is_among o (os ++
 pub but_last-push : (os : List Oid) (o : Oid) → but_last (os ++ o ∷ []) ≡ os
 but_last-push os o = take_at os (o ∷ []) (length (os ++ o ∷ []) - 1) (omega (arith, length_push os o))
 
--- what an insertion that succeeded leaves in a set, of a name that wasn't in it
-pub joins : {E : Type 0} (o : Oid) (old new : List Oid) (r : Result Bool E) → IfOk r (λ _. new ≡ (if list_any (λ (p : Oid). oids.TheImpl.ghosts.eq o p) old then old else old ++ o ∷ [])) → is_err r ≡ false → is_among o old ≡ false → new ≡ old ++ o ∷ []
-joins o old new (Ok b) h e absent = h ∙ rw (among_by o old ∙ absent) refl
-joins o old new (Err x) h e absent = absurd (true≢false e)
-
 pub first_of_two : (a b : Bool) → (a || b) ≡ false → a ≡ false
 first_of_two true b h = absurd (true≢false h)
 first_of_two false b h = refl

@@ -94,6 +94,10 @@ module _ (site : ℕ) (o : Oid) (b : Bool) (ts now new : List (ℕ × Oid)) (os 
   pub objects_stay : ObjectTold → b ≡ true → PairPut → os ≡ touched new
   objects_stay h t e = i ∙ sym (noted_known site o ts (object_told h ∙ t)) ∙ ap touched (sym (e ∙ rw (noted_by site o ts) refl))
 
-  pub objects_grow : (all : List Oid) → ObjectTold → b ≡ false → all ≡ (if list_any (λ (p : Oid). oids.TheImpl.ghosts.eq o p) os then os else os ++ o ∷ []) → PairPut → all ≡ touched new
+  -- a pair that isn't there goes last
+  pub pair_pushed : PairTold → b ≡ false → new ≡ ts ++ (site, o) ∷ [] → PairPut
+  pair_pushed h t e = e ∙ rw (sym h ∙ t) refl
+
+  pub objects_grow : (all : List Oid) → ObjectTold → b ≡ false → all ≡ os ++ o ∷ [] → PairPut → all ≡ touched new
   objects_grow all h t a e =
-      a ∙ rw (sym h ∙ t) refl ∙ ap (λ l. l ++ o ∷ []) i ∙ sym (noted_new site o ts (object_told h ∙ t)) ∙ ap touched (sym (e ∙ rw (noted_by site o ts) refl))
+      a ∙ ap (λ l. l ++ o ∷ []) i ∙ sym (noted_new site o ts (object_told h ∙ t)) ∙ ap touched (sym (e ∙ rw (noted_by site o ts) refl))

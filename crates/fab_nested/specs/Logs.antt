@@ -11,7 +11,7 @@ use Rattle.fab_nested.specs.declared.objects.Objects.{Objects}
 
 -- the objects that were changed, as a heap
 abbrev pub heap_of : Objects → Heap
-heap_of objects = record { rows = objects.changed; written = objects.written.keys; made = objects.made.keys }
+heap_of objects = record { rows = objects.changed; written = objects.written; made = objects.made }
 
 -- all names but the last
 abbrev pub but_last : List Oid → List Oid

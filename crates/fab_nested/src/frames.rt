@@ -13,12 +13,13 @@ use crate::answers::{copies, version_of, versions_of, with_field};
 use crate::copies::{map_copy, put_all_found, put_rows};
 use crate::frame_error::FrameError;
 use crate::known::{Known, field_at};
-use crate::log::{Change, note, undo_to};
+use crate::log::{Change, make_room, note, undo_to};
+use crate::names::Names;
 use crate::objects::{Objects, is_in};
 use crate::touches::Touches;
 use fab_base::{NoMemory, Object, Oid, Seq, Stop, Value};
 use fab_map::ObjectMap;
-use indexmap::{IndexMap, IndexSet};
+use indexmap::IndexMap;
 use std::alloc::Global;
 use std::marker::Model;
 
@@ -156,7 +157,7 @@ impl<'a> Frames<'a> {
         requires { is_changed oid self.old.now ≡ true }
         ensures { Gives result self.old self.new (write site oid field value self.old) }
     {
-        self.log.reserve(1)?;
+        make_room(&mut self.log, self.marks.as_slice())?;
         if !touch(&self.objects.made, &mut self.touches, site, oid)? {
             return Err(FrameError::Full(Stop::Reads));
         }
@@ -182,7 +183,7 @@ impl<'a> Frames<'a> {
             return Err(FrameError::Need(oid));
         };
         let object = with_field(object.copy(alloc)?, field, value);
-        self.log.reserve(1)?;
+        make_room(&mut self.log, self.marks.as_slice())?;
         let (pairs, objects) = self.touches.counts();
         if !self.touches.reach(site, oid)? {
             return Err(FrameError::Full(Stop::Reads));
@@ -207,7 +208,7 @@ impl<'a> Frames<'a> {
         ensures { Gives result self.old self.new (create oid object self.old) }
     {
         let alloc = *self.log.allocator();
-        self.log.reserve(1)?;
+        make_room(&mut self.log, self.marks.as_slice())?;
         let Some(change) = self.objects.make(alloc, oid, object)? else {
             return Err(FrameError::Full(Stop::Writes));
         };
@@ -264,7 +265,12 @@ impl<'a> Frames<'a> {
     pub fn made_at(&self, site: u16) -> u16
         ensures { result ≡ index_at site self.now.now }
     {
-        let made = self.objects.made.iter().filter(|oid| oid.site == site);
+        let made = self
+            .objects
+            .made
+            .as_slice()
+            .iter()
+            .filter(|oid| oid.site == site);
         made.count() as u16
     }
 
@@ -324,8 +330,8 @@ impl<'a> Frames<'a> {
 }
 
 /// Touches an object that is there, unless it was made here or would be one too many.
-fn touch(made: &IndexSet<Oid>, touches: &mut Touches, site: u16, oid: Oid) -> Result<bool, NoMemory>
-    ensures fits { IfOk result (λ fits. (x : AnyObject) → reach_in site oid (Some x) made.now.keys touches.old ≡ (if fits then found x touches.new else full)) }
+fn touch(made: &Names<Oid>, touches: &mut Touches, site: u16, oid: Oid) -> Result<bool, NoMemory>
+    ensures fits { IfOk result (λ fits. (x : AnyObject) → reach_in site oid (Some x) made.now touches.old ≡ (if fits then found x touches.new else full)) }
     ensures full { IfOk result (λ fits. OnFalse fits (touches.new ≡ touches.old)) }
     ensures err { OnErr result (touches.new ≡ touches.old) }
 {

@@ -7,6 +7,7 @@ mod frame_error;
 mod frames;
 mod known;
 mod log;
+mod names;
 mod objects;
 mod touches;
 

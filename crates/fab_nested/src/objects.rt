@@ -7,9 +7,9 @@ ghost use Rattle.fab_language.specs.Meaning.{unchanged, with_field};
 ghost use Rattle.fab_nested.specs.Logs.{before, heap_of, making, put_again, Steps};
 
 use crate::log::Change;
+use crate::names::Names;
 use fab_base::{NoMemory, Object, Oid, Value};
 use fab_map::ObjectMap;
-use indexmap::IndexSet;
 use std::alloc::Global;
 
 const MAX_CHANGED: usize = 256;
@@ -18,8 +18,8 @@ const MAX_CHANGED: usize = 256;
 #[derive(Drop)]
 pub(crate) struct Objects {
     pub(crate) changed: ObjectMap,
-    pub(crate) written: IndexSet<Oid>,
-    pub(crate) made: IndexSet<Oid>,
+    pub(crate) written: Names<Oid>,
+    pub(crate) made: Names<Oid>,
 }
 
 impl Objects {
@@ -29,8 +29,8 @@ impl Objects {
     {
         Objects {
             changed: ObjectMap::new(alloc),
-            written: IndexSet::new(alloc),
-            made: IndexSet::new(alloc),
+            written: Names::new(alloc),
+            made: Names::new(alloc),
         }
     }
 
@@ -65,12 +65,14 @@ impl Objects {
         if self.is_spent() {
             return Ok(None);
         }
-        self.written.reserve(1)?;
-        self.changed.put(oid, object)?;
-        if self.written.insert(oid).is_err() {
-            unreachable!();
+        self.written.push(oid)?;
+        match self.changed.put(oid, object) {
+            Ok(()) => Ok(Some(Change::Joined { oid })),
+            Err(failed) => {
+                self.written.pop();
+                Err(failed)
+            }
         }
-        Ok(Some(Change::Joined { oid }))
     }
 
     /// What undoes that an object of this name is made.
@@ -103,12 +105,14 @@ impl Objects {
             return Ok(None);
         }
         let change = self.making(alloc, oid)?;
-        self.made.reserve(1)?;
-        self.changed.put(oid, object)?;
-        if self.made.insert(oid).is_err() {
-            unreachable!();
+        self.made.push(oid)?;
+        match self.changed.put(oid, object) {
+            Ok(()) => Ok(Some(change)),
+            Err(failed) => {
+                self.made.pop();
+                Err(failed)
+            }
         }
-        Ok(Some(change))
     }
 
     /// Undoes a change. It takes no memory.
@@ -145,8 +149,8 @@ fn put_back(rows: &mut ObjectMap, oid: Oid, object: Object)
 }
 
 /// Whether a name is among these.
-pub(crate) fn is_in(names: &IndexSet<Oid>, oid: Oid) -> bool
-    ensures { result ≡ is_among oid names.now.keys }
+pub(crate) fn is_in(names: &Names<Oid>, oid: Oid) -> bool
+    ensures { result ≡ is_among oid names.now }
 {
-    names.contains(&oid)
+    names.contains(oid)
 }

@@ -2,8 +2,8 @@
 ghost use Rattle.std.specs.Prelude.{◌≡◌, [], length, not, take, IfOk, OnErr, if◌then◌else◌};
 ghost use Rattle.fab_language.specs.Heaps.{is_full, noted, touched};
 
+use crate::names::Names;
 use fab_base::{NoMemory, Oid};
-use indexmap::IndexSet;
 use std::alloc::Global;
 use std::marker::Model;
 
@@ -13,8 +13,8 @@ const MAX_OBJECTS: usize = 1024;
 /// of these pairs. The objects among them stand in a set of their own.
 #[derive(Drop)]
 pub struct Touches {
-    noted: IndexSet<(u16, Oid)>,
-    objects: IndexSet<Oid>,
+    noted: Names<(u16, Oid)>,
+    objects: Names<Oid>,
 }
 
 impl Model for Touches {
@@ -24,9 +24,9 @@ impl Model for Touches {
 
     ghost Value = { List (ℕ × Oid) };
 
-    ghost view = { λ t. t.noted.keys };
+    ghost view = { λ t. t.noted };
 
-    ghost invariant = { λ t. t.objects.keys ≡ touched t.noted.keys };
+    ghost invariant = { λ t. t.objects ≡ touched t.noted };
 }
 
 impl Touches {
@@ -35,8 +35,8 @@ impl Touches {
         ensures { result ≡ [] }
     {
         Touches {
-            noted: IndexSet::new(alloc),
-            objects: IndexSet::new(alloc),
+            noted: Names::new(alloc),
+            objects: Names::new(alloc),
         }
     }
 
@@ -46,20 +46,24 @@ impl Touches {
         ensures noted { IfOk result (λ fits. self.new ≡ (if fits then noted site oid self.old else self.old)) }
         ensures err { OnErr result (self.new ≡ self.old) }
     {
-        if self.noted.contains(&(site, oid)) {
+        if self.noted.contains((site, oid)) {
             return Ok(true);
         }
-        if self.objects.contains(&oid) {
-            self.noted.insert((site, oid))?;
+        if self.objects.contains(oid) {
+            self.noted.push((site, oid))?;
             return Ok(true);
         }
         if self.objects.len() >= MAX_OBJECTS {
             return Ok(false);
         }
-        self.objects.reserve(1)?;
-        self.noted.insert((site, oid))?;
-        self.objects.insert(oid)?;
-        Ok(true)
+        self.objects.push(oid)?;
+        match self.noted.push((site, oid)) {
+            Ok(()) => Ok(true),
+            Err(failed) => {
+                self.objects.pop();
+                Err(failed)
+            }
+        }
     }
 
     /// The pairs, in order.

@@ -23,10 +23,18 @@ module _ (before : Answers) (o : Oid) (answers front : Answers) (last : Oid × �
     is = is ∙ ap (λ (xs : Answers). xs ++ last ∷ []) f ∙ ap (λ (p : Oid). before ++ (p, last.1, last.2) ∷ []) l;
   }
 
-pub no_more : (before : Answers) (o : Oid) (answers : Answers) → length answers ≡ 0 → IsOneMore before o answers → ⊥
-no_more before o answers none h =
-    let long : length answers ≡ length (before ++ (o, h.version, h.object) ∷ []) = ap length h.is in
-    omega (arith, none, long, length-append before ((o, h.version, h.object) ∷ []))
+-- the last of answers, or there is none behind these
+pub behind : (before answers front : Answers) (last : Oid × ℕ × Object) → answers ≡ front ++ last ∷ [] → front ≡ before → answers ≡ before ++ last ∷ []
+behind before answers front last is f = is ∙ ap (λ (xs : Answers). xs ++ last ∷ []) f
+
+pub not_behind : (before answers front : Answers) (last : Oid × ℕ × Object) → answers ≡ front ++ last ∷ [] → (front ≡ before → ⊥)
+    → (a : Oid × ℕ × Object) → answers ≡ before ++ a ∷ [] → ⊥
+not_behind before answers front last is other a h = other (same_from_push front before last a (sym is ∙ h)).0
+
+pub none_behind : (before answers : Answers) → length answers ≡ 0 → (a : Oid × ℕ × Object) → answers ≡ before ++ a ∷ [] → ⊥
+none_behind before answers none a h =
+    let long : length answers ≡ length (before ++ a ∷ []) = ap length h in
+    omega (arith, none, long, length-append before (a ∷ []))
 
 module _ (before : Job) (o : Oid) (job : Job) where
   pub goes : job.request ≡ before.request → job.tid ≡ before.tid → IsOneMore before.answers o job.answers → GoesOn before o job

@@ -1,11 +1,11 @@
 -- The evaluators of all numbers, by their places.
-use Rattle.std.specs.Prelude.{◌≡◌, ℕ, ◌%◌, ◌<◌, List, map, Option, None, Result, Ok, Err, IfOk, length, slice_index_or, slice_set, replicate}
+use Rattle.std.specs.Prelude.{◌≡◌, ℕ, ◌%◌, ◌<◌, List, map, Option, None, Result, Ok, Err, IfOk, OnErr, length, slice_index_or, slice_set, replicate}
 use Rattle.std.proofs.Common.{refl, sym, ap, ◌∙◌, subst, arith}
 use Rattle.std.proofs.lemmas.List.{get_or-map, get_or-set_same, get_or-set_other, get_or-replicate, length-map, length-replicate, map-set}
 use Rattle.std.proofs.lemmas.List.Elements.{All-replicate}
 use Rattle.fab_tree.specs.declared.resolved.Resolved.{Resolved}
 use Rattle.fab_eval.specs.declared.job.Job.{Job}
-use Rattle.fab_pauses.specs.Evaluations.{AreOf, EvaluatorModel}
+use Rattle.fab_pauses.specs.Evaluations.{AreOf, EvaluatorModel, EvaluatorsModel, last_of}
 use Rattle.fab_pauses.specs.Jobs.{IsThere}
 
 abbrev pub lasts_of : List EvaluatorModel → List (Option Job)
@@ -48,3 +48,30 @@ module _ (program : Resolved) (all : List EvaluatorModel) (are : AreOf program a
   others_stay other apart =
       ap (λ (l : List (Option Job)). slice_index_or l (other % 64) None) lasts_set
       ∙ get_or-set_other (lasts_of all) place (other % 64) e.last None (λ same. apart (same ∙ is))
+
+  -- what holds of its last jobs before and now holds of the worker's
+  module _ (r : EvaluatorModel) (was : r ≡ slice_index_or all place r) where
+    within : place < length all
+    within = let l = are.long in omega (arith, l, is)
+
+    was_last : slice_index_or (lasts_of all) (worker % 64) None ≡ r.last
+    was_last =
+        ap (λ (n : ℕ). slice_index_or (lasts_of all) n None) (sym is) ∙ get_or-map (λ (x : EvaluatorModel). x.last) all place r None within
+        ∙ ap (λ (x : EvaluatorModel). x.last) (sym was)
+
+    module _ (self : EvaluatorsModel) (view : lasts_of all ≡ self.lasts) where
+      both : (P : Option Job → Option Job → Type 0) → P r.last e.last → P (last_of self worker) (slice_index_or (lasts_of (slice_set all place e)) (worker % 64) None)
+      both P h =
+          let now = slice_index_or (lasts_of (slice_set all place e)) (worker % 64) None in
+          subst (λ (l : List (Option Job)). P (slice_index_or l (worker % 64) None) now) view
+          (subst (λ (o : Option Job). P o now) (sym was_last) (subst (λ (o : Option Job). P r.last o) (sym its_last) h))
+
+      pub both_in : {T E : Type 0} (P : T → Option Job → Option Job → Type 0) (result : Result T E) → IfOk result (λ x. P x r.last e.last)
+          → IfOk result (λ x. P x (last_of self worker) (slice_index_or (lasts_of (slice_set all place e)) (worker % 64) None))
+      both_in P (Ok x) h = both (P x) h
+      both_in P (Err x) h = tt
+
+      pub both_on : {T E : Type 0} (P : Option Job → Option Job → Type 0) (result : Result T E) → OnErr result (P r.last e.last)
+          → OnErr result (P (last_of self worker) (slice_index_or (lasts_of (slice_set all place e)) (worker % 64) None))
+      both_on P (Ok x) h = tt
+      both_on P (Err x) h = both P h

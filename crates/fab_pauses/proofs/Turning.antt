@@ -1,5 +1,6 @@
 -- A job that goes on at a pause.
-use Rattle.std.specs.Prelude.{◌≡◌, ℕ, Bool, false, [], ◌∷◌, ◌++◌, Option, Some, None, Result, Ok, Err, IfOk}
+use Rattle.std.specs.Prelude.{◌≡◌, ℕ, Bool, true, false, [], ◌∷◌, ◌++◌, Option, Some, None, Result, Ok, Err, IfOk, IfSome}
+use Rattle.std.specs.Option.{option_map}
 use Rattle.std.specs.List.{list_any}
 use Rattle.std.proofs.Common.{sym, ap, ◌∙◌, subst}
 use Rattle.std.proofs.lemmas.Bool.{or_parts}
@@ -9,13 +10,14 @@ use Rattle.fab_base.specs.declared.object.Oid.{Oid}
 use Rattle.fab_base.specs.declared.object.Tid.{Tid}
 use Rattle.fab_nested.specs.Nested.{Answers}
 use Rattle.fab_eval.specs.Answered.{answered}
+use Rattle.fab_tree.specs.declared.resolved.Resolved.{Resolved}
 use Rattle.fab_eval.specs.Attempts.{is_made_in}
 use Rattle.fab_eval.specs.Turns.{Turns}
 use Rattle.fab_eval.specs.declared.job.Job.{Job}
 use Rattle.fab_eval.specs.declared.turn.Turn.{Turn}
 use Rattle.fab_eval.specs.declared.turn.Turn.TheVariants.{Done, Paused}
-use Rattle.fab_pauses.specs.Evaluations.{job_of}
-use Rattle.fab_pauses.specs.Jobs.{GoesOn, IsSameJob}
+use Rattle.fab_pauses.specs.Evaluations.{IsOf, job_of}
+use Rattle.fab_pauses.specs.Jobs.{GoesOn, GoesOnOrStays, IsSameJob}
 
 -- a turn is of its job
 pub its_job : (job : Job) (turn : Turn) → Turns job turn → job_of turn ≡ job
@@ -65,3 +67,17 @@ module _ (before : Job) (o : Oid) (job : Job) (h : GoesOn before o job) (p : Oid
 -- there is no list that ends in an answer and has no last one
 pub is_there : (r : Option (Oid × ℕ × Object)) (a : Oid × ℕ × Object) → r ≡ None → r ≡ Some a → ⊥
 is_there r a none some = let no : None ≡ Some a = sym none ∙ some in cc
+
+-- it stays, and is of its program still
+pub still_of : (program : Resolved) (old new : Option Turn) → option_map job_of new ≡ option_map job_of old → IfSome old (λ t. IsOf program (job_of t)) → IfSome new (λ t. IsOf program (job_of t))
+still_of program old None h is = tt
+still_of program None (Some u) h is = let no : Some (job_of u) ≡ None = h in cc
+still_of program (Some t) (Some u) h is = ap (λ (j : Job). j.program.value) (same_some h) ∙ is
+
+-- whether it went on or not, it is of its program still
+pub of_program : (program : Resolved) (went : Bool) (old new : Option Turn) (o : Oid) (version : ℕ) (x : Object)
+    → GoesOnOrStays went (option_map job_of old) o version x (option_map job_of new) → IfSome old (λ t. IsOf program (job_of t)) → IfSome new (λ t. IsOf program (job_of t))
+of_program program true None new o version x h is = absurd h
+of_program program true (Some t) None o version x h is = tt
+of_program program true (Some t) (Some u) o version x h is = ap (λ (j : Job). j.program.value) (same_some h) ∙ is
+of_program program false old new o version x h is = still_of program old new h is

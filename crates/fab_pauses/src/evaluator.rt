@@ -1,5 +1,5 @@
 //! An evaluator of one job after the other.
-ghost use Rattle.std.specs.Prelude.{◌≡◌, ◌++◌, ◌∷◌, [], ℕ, false, None, Some, IfErr, IfOk, IfSome};
+ghost use Rattle.std.specs.Prelude.{◌≡◌, ◌++◌, ◌∷◌, [], ℕ, false, None, Some, IfErr, IfOk, IfSome, OnErr};
 ghost use Rattle.std.specs.List.{IsDistinct, list_any};
 ghost use Rattle.std.specs.Option.{option_copied, option_map};
 ghost use Rattle.fab_base.specs.declared.object.Object.{Object as AnyObject};
@@ -8,9 +8,10 @@ ghost use Rattle.fab_base.specs.FlatMap.{is_same};
 ghost use Rattle.fab_nested.specs.Nested.{Answers, names_of};
 ghost use Rattle.fab_eval.specs.Attempts.{is_made_in};
 ghost use Rattle.fab_pauses.specs.Evaluations.{IsOf, job_of};
-ghost use Rattle.fab_pauses.specs.Jobs.{GoesOn, IsSameJob, IsThere};
+ghost use Rattle.fab_pauses.specs.Jobs.{GoesOn, GoesOnOrStays, IsOldOrNone, IsSameJob, IsThere};
 
 use crate::going::pause_for;
+use crate::same::is_same_oid;
 use fab_base::{NoMemory, Object, Oid, Seq};
 use fab_eval::{Done, Job, Paused, PausedRefused, Turn, start};
 use fab_tree::resolved::Resolved;
@@ -64,11 +65,32 @@ impl<'a> Evaluator<'a> {
         requires made_before { list_any (λ a. is_made_in job.tid a.0) job.answers ≡ false }
         ensures program { self.new.program ≡ self.old.program }
         ensures last { IfOk result (λ _. IsThere self.new.last job) }
+        ensures refused { OnErr result (IsOldOrNone self.old.last self.new.last) }
     {
         match turn_after(self.alloc, self.program, self.last.take(), job) {
             Ok(turn) => {
                 self.last = Some(turn);
                 Ok(())
+            }
+            Err(left) => {
+                self.last = left;
+                Err(AllocError)
+            }
+        }
+    }
+
+    /// Goes on with an answer where the last job paused for it, and says whether it did. So who knows that the next job is this one needs
+    /// none.
+    pub fn go_on(&mut self, oid: Oid, version: u32, object: Object) -> Result<bool, NoMemory>
+        requires { IfSome self.old.last (λ job. is_made_in job.tid oid ≡ false) }
+        ensures program { self.new.program ≡ self.old.program }
+        ensures last { IfOk result (λ went. GoesOnOrStays went self.old.last oid version object self.new.last) }
+        ensures refused { OnErr result (self.new.last ≡ self.old.last) }
+    {
+        match turn_behind(self.last.take(), oid, version, object) {
+            Ok((turn, went)) => {
+                self.last = turn;
+                Ok(went)
             }
             Err(left) => {
                 self.last = left;
@@ -104,6 +126,7 @@ fn turn_after<'a>(
     ensures job { IfOk result (λ t. IsSameJob (job_of t) job) }
     ensures program { IfOk result (λ t. IsOf program.now (job_of t)) }
     ensures left { IfErr result (λ left. IfSome left (λ t. IsOf program.now (job_of t))) }
+    ensures refused { IfErr result (λ left. IsOldOrNone (option_map job_of last.entry) (option_map job_of left)) }
 {
     match pause_for(last, &job) {
         Some(paused) => match gone_on(alloc, paused, job) {
@@ -114,6 +137,31 @@ fn turn_after<'a>(
             Ok(turn) => Ok(turn),
             Err(_) => Err(None),
         },
+    }
+}
+
+/// What the last job comes to with an answer, and whether it paused for this one; else it stays. Without memory it comes back.
+fn turn_behind<'a>(
+    last: Option<Turn<'a>>,
+    oid: Oid,
+    version: u32,
+    object: Object,
+) -> Result<(Option<Turn<'a>>, bool), Option<Turn<'a>>>
+    requires { IfSome (option_map job_of last) (λ job. is_made_in job.tid oid ≡ false) }
+    ensures last { IfOk result (λ next. GoesOnOrStays next.1 (option_map job_of last.entry) oid version object (option_map job_of next.0)) }
+    ensures refused { IfErr result (λ left. option_map job_of left ≡ option_map job_of last.entry) }
+{
+    match last {
+        Some(Turn::Paused(paused)) => {
+            if !is_same_oid(paused.need().1, oid) {
+                return Ok((Some(Turn::Paused(paused)), false));
+            }
+            match paused.go_on(version, object) {
+                Ok(turn) => Ok((Some(turn), true)),
+                Err(PausedRefused { paused }) => Err(Some(Turn::Paused(paused))),
+            }
+        }
+        _ => Ok((last, false)),
     }
 }
 

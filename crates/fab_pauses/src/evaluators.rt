@@ -1,15 +1,15 @@
 //! Evaluators of many workers.
-ghost use Rattle.std.specs.Prelude.{◌≡◌, ◌%◌, ℕ, false, None, IfOk, IfSome, replicate};
+ghost use Rattle.std.specs.Prelude.{◌≡◌, ◌%◌, ℕ, false, None, IfOk, IfSome, OnErr, replicate};
 ghost use Rattle.std.specs.List.{IsDistinct, list_any};
 ghost use Rattle.std.specs.Option.{option_copied, option_map};
 ghost use Rattle.fab_base.specs.FlatMap.{is_same};
 ghost use Rattle.fab_nested.specs.Nested.{names_of};
 ghost use Rattle.fab_eval.specs.Attempts.{is_made_in};
 ghost use Rattle.fab_pauses.specs.Evaluations.{IsOf, last_of};
-ghost use Rattle.fab_pauses.specs.Jobs.{IsThere};
+ghost use Rattle.fab_pauses.specs.Jobs.{GoesOnOrStays, IsOldOrNone, IsThere};
 
 use crate::evaluator::Evaluator;
-use fab_base::NoMemory;
+use fab_base::{NoMemory, Object, Oid};
 use fab_eval::{Done, Job};
 use fab_tree::resolved::Resolved;
 use std::alloc::Global;
@@ -78,8 +78,26 @@ impl<'a> Evaluators<'a> {
         ensures program { self.new.program ≡ self.old.program }
         ensures last { IfOk result (λ _. IsThere (last_of self.new worker) job) }
         ensures others { (other : ℕ) → (other % 64 ≡ worker % 64 → ⊥) → last_of self.new other ≡ last_of self.old other }
+        ensures refused { OnErr result (IsOldOrNone (last_of self.old worker) (last_of self.new worker)) }
     {
         self.all[place_of(worker)].evaluate(job)
+    }
+
+    /// Goes on with an answer where the last job of a worker paused for it, and says whether it did, as `go_on` of its evaluator.
+    pub fn go_on(
+        &mut self,
+        worker: u16,
+        oid: Oid,
+        version: u32,
+        object: Object,
+    ) -> Result<bool, NoMemory>
+        requires { IfSome (last_of self.old worker) (λ job. is_made_in job.tid oid ≡ false) }
+        ensures program { self.new.program ≡ self.old.program }
+        ensures last { IfOk result (λ went. GoesOnOrStays went (last_of self.old worker) oid version object (last_of self.new worker)) }
+        ensures others { (other : ℕ) → (other % 64 ≡ worker % 64 → ⊥) → last_of self.new other ≡ last_of self.old other }
+        ensures refused { OnErr result (last_of self.new worker ≡ last_of self.old worker) }
+    {
+        self.all[place_of(worker)].go_on(oid, version, object)
     }
 
     /// What the last job of a worker came to.

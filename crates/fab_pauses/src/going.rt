@@ -1,28 +1,43 @@
 //! Whether a job goes on where another one paused.
-ghost use Rattle.std.specs.Prelude.{◌≡◌, IfSome};
+ghost use Rattle.std.specs.Prelude.{◌≡◌, IfSome, Some};
 ghost use Rattle.std.specs.Bool.{MatchBool};
+ghost use Rattle.std.specs.Option.{option_copied, option_map};
 ghost use Rattle.fab_tree.specs.declared.resolved.Resolved.{Resolved as AnyProgram};
 ghost use Rattle.fab_pauses.specs.Evaluations.{IsOf, job_of};
-ghost use Rattle.fab_pauses.specs.Jobs.{GoesOn, IsOneMore};
+ghost use Rattle.fab_pauses.specs.Jobs.{GoesOn, IsLastBehind, IsOneMore};
 
 use crate::same::{are_same_answers, is_same_oid, is_same_request};
 use fab_base::{Object, Oid};
 use fab_eval::{Job, Paused, Turn};
 
-/// Whether answers are others with one more, of this object and the last. Lengths are compared first, since most jobs differ in them.
+/// The last of these answers, where those before it are others. Lengths are compared first, since most jobs differ in them.
+pub fn answer_behind<'a>(
+    before: &[(Oid, u32, Object)],
+    answers: &'a [(Oid, u32, Object)],
+) -> Option<&'a (Oid, u32, Object)>
+    ensures { IsLastBehind before.now answers.now (option_copied result) }
+{
+    let Some((last, front)) = answers.split_last() else {
+        return None;
+    };
+    if front.len() != before.len() {
+        return None;
+    }
+    if are_same_answers(front, before) {
+        Some(last)
+    } else {
+        None
+    }
+}
+
+/// Whether answers are others with one more, of this object and the last.
 fn is_one_more(before: &[(Oid, u32, Object)], oid: Oid, answers: &[(Oid, u32, Object)]) -> bool
     ensures { MatchBool result (IsOneMore before.now oid answers.now) (IsOneMore before.now oid answers.now → ⊥) }
 {
-    let Some((last, front)) = answers.split_last() else {
-        return false;
-    };
-    if front.len() != before.len() {
-        return false;
+    match answer_behind(before, answers) {
+        Some(last) => is_same_oid(last.0, oid),
+        None => false,
     }
-    if !is_same_oid(last.0, oid) {
-        return false;
-    }
-    are_same_answers(front, before)
 }
 
 /// Whether a job is another one with an answer more, of this object and the last. Nothing is copied.
@@ -38,6 +53,7 @@ fn goes_on(before: &Job, oid: Oid, job: &Job) -> bool
 /// The pause where a job goes on, if it does.
 pub(crate) fn pause_for<'a>(last: Option<Turn<'a>>, job: &Job) -> Option<Paused<'a>>
     ensures goes_on { IfSome result (λ p. GoesOn p.job p.oid job.now) }
+    ensures its { IfSome result (λ p. option_map job_of last.entry ≡ Some p.job) }
     ensures last { (program : AnyProgram) → IfSome last.entry (λ t. IsOf program (job_of t)) → IfSome result (λ p. IsOf program p.job) }
 {
     match last {

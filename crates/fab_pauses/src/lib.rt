@@ -8,4 +8,5 @@ mod same;
 
 pub use evaluator::Evaluator;
 pub use evaluators::Evaluators;
-pub use same::is_same_job;
+pub use going::answer_behind;
+pub use same::{are_same_answers, is_same_request};

@@ -1,10 +1,8 @@
-//! Whether two jobs are one.
+//! Whether two parts of jobs are one.
 ghost use Rattle.std.specs.Prelude.{◌≡◌};
 ghost use Rattle.std.specs.Bool.{MatchBool};
-ghost use Rattle.fab_pauses.specs.Jobs.{IsSameJob};
 
 use fab_base::{Object, Oid, Value};
-use fab_eval::Job;
 use fab_tree::resolved::Request;
 
 /// Whether two values are one.
@@ -34,7 +32,7 @@ fn are_same_values(a: &[Value], b: &[Value]) -> bool
 }
 
 /// Whether two requests are one.
-pub(crate) fn is_same_request(a: &Request, b: &Request) -> bool
+pub fn is_same_request(a: &Request, b: &Request) -> bool
     ensures { MatchBool result (a.now ≡ b.now) (a.now ≡ b.now → ⊥) }
 {
     a.worker == b.worker
@@ -61,7 +59,7 @@ fn is_same_answer(a: &(Oid, u32, Object), b: &(Oid, u32, Object)) -> bool
 }
 
 /// Whether two lists of answers are one.
-pub(crate) fn are_same_answers(a: &[(Oid, u32, Object)], b: &[(Oid, u32, Object)]) -> bool
+pub fn are_same_answers(a: &[(Oid, u32, Object)], b: &[(Oid, u32, Object)]) -> bool
     ensures { MatchBool result (a.now ≡ b.now) (a.now ≡ b.now → ⊥) }
 {
     let mut left = a;
@@ -77,13 +75,4 @@ pub(crate) fn are_same_answers(a: &[(Oid, u32, Object)], b: &[(Oid, u32, Object)
         right = others;
     }
     right.is_empty()
-}
-
-/// Whether two jobs of one program are one.
-pub fn is_same_job(a: &Job, b: &Job) -> bool
-    ensures { MatchBool result (IsSameJob a.now b.now) (IsSameJob a.now b.now → ⊥) }
-{
-    is_same_request(&a.request, &b.request)
-        && a.tid == b.tid
-        && are_same_answers(a.answers.as_slice(), b.answers.as_slice())
 }

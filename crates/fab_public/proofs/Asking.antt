@@ -1,15 +1,31 @@
 -- What an evaluation that lacks an object, or none, makes of a worker.
-use Rattle.std.proofs.Common.{◌≡◌, ℕ, true, false, if◌then◌else◌, List, [], ◌∷◌, Some, None, refl, sym, ap, ◌∙◌}
+use Rattle.std.proofs.Common.{◌≡◌, ℕ, true, false, if◌then◌else◌, List, [], ◌∷◌, ◌++◌, Option, Some, None, refl, sym, ap, ◌∙◌, subst}
 use Rattle.fab_base.specs.declared.message.Message.{Message}
 use Rattle.fab_base.specs.declared.message.Message.TheVariants.{Fetch}
 use Rattle.fab_base.specs.declared.object.Oid.{Oid}
+use Rattle.fab_base.specs.declared.object.Tid.{Tid}
+use Rattle.fab_base.specs.FlatMap.{map_of}
+use Rattle.fab_known.specs.Knowing.{Lacks, Runner, ran_by}
+use Rattle.fab_known.specs.Tables.{AreAlike}
 use Rattle.fab_language.specs.declared.ending.Ending.{Ending}
 use Rattle.fab_language.specs.declared.ending.Ending.TheVariants as endings
+use Rattle.fab_language.specs.Meaning.{Meant}
 use Rattle.fab_protocol.specs.Caches.{cached_row}
-use Rattle.fab_protocol.specs.Versions.{Rows}
-use Rattle.fab_release.specs.Replay.{WorkerSeen, asked_by, asks_by, fetch, got_by, knows, row_at, tid_of, unless_cached}
+use Rattle.fab_protocol.specs.Versions.{Rows, objects_of}
+use Rattle.fab_release.specs.Replay.{WorkerSeen, asked_by, asks_by, fetch, got_by, knows, row_at, run, tid_of, unless_cached}
 use Rattle.fab_release.specs.Sights.{Public, Sight}
-use Rattle.fab_public.specs.Knowing.{Lacks}
+use Rattle.fab_public.specs.States.{IsRunBy}
+
+-- what runs is as everybody may know it
+pub ran_is : (sight : Sight) (P : Public) (n : ℕ) (v : WorkerSeen) (r : Runner) (t : Tid) → IsRunBy P r → t ≡ tid_of sight P n v
+    → ran_by r t.worker v.request t (map_of (objects_of v.known)) v.given ≡ run sight P n v
+ran_is sight P n v r t by is =
+    ap (λ (u : Tid). ran_by r u.worker v.request u (map_of (objects_of v.known)) v.given) is
+    ∙ by.same n v.request (tid_of sight P n v) (map_of (objects_of v.known)) v.given
+
+pub lacks_by : (sight : Sight) (P : Public) (n : ℕ) (v : WorkerSeen) (r : Runner) (t : Tid) (o : Option Oid) → IsRunBy P r → t ≡ tid_of sight P n v
+    → Lacks o (ran_by r t.worker v.request t (map_of (objects_of v.known)) v.given).ending → Lacks o (run sight P n v).ending
+lacks_by sight P n v r t o by is h = subst (λ (m : Meant). Lacks o m.ending) (ran_is sight P n v r t by is) h
 
 module _ (sight : Sight) (P : Public) (n : ℕ) (e : Ending) (v : WorkerSeen) where
   abbrev pub fetched : Oid → List (ℕ × Message)
@@ -56,3 +72,11 @@ module _ (sight : Sight) (P : Public) (n : ℕ) where
   got_none table version endings.Failed v l = refl
   got_none table version (endings.Stopped stop) v l = refl
   got_none table version (endings.Missing site o) v l = absurd l
+
+-- what is got of a table is what is got of one that is alike
+pub got_alike : (sight : Sight) (P : Public) (rows others : Rows) (version : ℕ) (ending : Ending) (v : WorkerSeen) → AreAlike rows others
+    → got_by sight P rows version ending v ≡ got_by sight P others version ending v
+got_alike sight P rows others version (endings.Missing site o) v h = ap (λ (l : Rows). if sight.has o.store then v else record v { known = v.known ++ l }) (h o version)
+got_alike sight P rows others version (endings.Ended value) v h = refl
+got_alike sight P rows others version endings.Failed v h = refl
+got_alike sight P rows others version (endings.Stopped stop) v h = refl

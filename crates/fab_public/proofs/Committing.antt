@@ -1,20 +1,18 @@
 -- What an end of an attempt makes of a worker.
-use Rattle.std.proofs.Common.{◌≡◌, ℕ, Bool, true, false, not, ◌&&◌, ◌||◌, ◌==◌, nat_lt, if◌then◌else◌, List, [], ◌∷◌, ◌++◌, map, Option, refl, sym, ap, subst, ◌∙◌}
-use Rattle.std.proofs.lemmas.List.{map-append}
+use Rattle.std.proofs.Common.{◌≡◌, ℕ, true, false, if◌then◌else◌, List, [], ◌∷◌, ◌++◌, map, Option, Some, None, refl, sym, ap, subst, ◌∙◌}
 use Rattle.fab_base.specs.declared.object.Oid.{Oid}
 use Rattle.fab_base.specs.declared.object.Tid.{Tid}
-use Rattle.fab_base.specs.FlatMap.{is_same}
-use Rattle.fab_base.specs.Tids.{is_above}
-use Rattle.fab_rights.specs.declared.rights.Rights.{Rights}
-use Rattle.fab_rights.specs.Computed.{suits}
+use Rattle.fab_known.specs.Answers.{is_answer}
+use Rattle.fab_known.specs.Knowing.{parts_at_end, parts_behind}
 use Rattle.fab_base.specs.declared.message.Message.TheVariants.{Prepare}
 use Rattle.fab_cache.proofs.Laying.{cached_last}
 use Rattle.fab_cache.specs.Caching.{AreLast, laid}
 use Rattle.fab_language.specs.declared.ending.Ending.{Ending}
 use Rattle.fab_language.specs.declared.ending.Ending.TheVariants as endings
+use Rattle.fab_language.specs.Meaning.{Meant}
 use Rattle.fab_protocol.specs.Caches.{cached}
 use Rattle.fab_protocol.specs.Parts.{items_at}
-use Rattle.fab_protocol.specs.Versions.{Row, Rows, is_tid, maker_of}
+use Rattle.fab_protocol.specs.Versions.{Row, Rows}
 use Rattle.fab_protocol.specs.declared.parts.Parts.{Parts}
 use Rattle.fab_release.specs.Replay as replay
 use Rattle.fab_release.specs.Replay.{WorkerSeen, answers, committed, ends_by, knows, leaves, prepares, puts, run, sharers, tid_of}
@@ -22,9 +20,24 @@ use Rattle.fab_release.specs.Sights.{Public, Sight}
 use Rattle.fab_sent.specs.Messages.{all_spelled}
 use Rattle.fab_public.specs.Changes.{told_by}
 use Rattle.fab_public.specs.declared.workers.Change.TheVariants.{End}
-use Rattle.fab_public.specs.declared.states.Commitment.{Commitment}
 use Rattle.fab_public.specs.declared.states.Watched.{Watched}
-use Rattle.fab_public.specs.States.{IsCaching, commitment_of, worker_of}
+use Rattle.fab_public.specs.States.{IsCaching, worker_of}
+
+-- what comes of the parts of an attempt that ended, or of none
+abbrev pub voting : Option Parts → WorkerSeen → WorkerSeen
+voting None v = v
+voting (Some parts) v = record v { stage = replay.Votes parts }
+
+ends_as : (sight : Sight) (P : Public) (n : ℕ) (ending : Ending) (v : WorkerSeen) → voting (parts_behind v.known (run sight P n v) ending) v ≡ ends_by sight P n ending v
+ends_as sight P n (endings.Ended value) v = refl
+ends_as sight P n (endings.Missing site o) v = refl
+ends_as sight P n endings.Failed v = refl
+ends_as sight P n (endings.Stopped stop) v = refl
+
+pub ends_with : (sight : Sight) (P : Public) (n : ℕ) (v : WorkerSeen) (ran : Meant) (o : Option Parts) → ran ≡ run sight P n v → o ≡ parts_at_end v.known ran
+    → voting o v ≡ ends_by sight P n (run sight P n v).ending v
+ends_with sight P n v ran o is parts =
+    ap (λ (x : Option Parts). voting x v) (parts ∙ ap (λ (m : Meant). parts_at_end v.known m) is) ∙ ends_as sight P n (run sight P n v).ending v
 
 -- an end asks for no other votes
 pub same_tid : (sight : Sight) (P : Public) (n : ℕ) (ending : Ending) (v : WorkerSeen) → tid_of sight P n (ends_by sight P n ending v) ≡ tid_of sight P n v
@@ -50,17 +63,16 @@ pub told_at_end : (sight : Sight) (P : Public) (n : ℕ) (v w : WorkerSeen) (sen
 told_at_end sight P n v w sent is told = told ∙ ap all_spelled (asked_behind sight P n (run sight P n v).ending v w is)
 
 -- a commit
-pub committed_is : (sight : Sight) (P : Public) (n : ℕ) (old : Watched) (parts : Parts) (c : Commitment) (commits : List Commitment) (caches : List Rows)
+pub committed_is : (sight : Sight) (P : Public) (n : ℕ) (old : Watched) (parts : Parts) (c : replay.Commitment) (commits : List replay.Commitment) (caches : List Rows)
     → commits ≡ old.commits ++ c ∷ [] → c.tid ≡ tid_of sight P n (worker_of old) → c.stores ≡ sharers sight P parts → c.leaves ≡ leaves sight P parts
     → caches ≡ cached P.cache (puts sight P (worker_of old) parts) 0 old.caches.caches
-    → record (worker_of old) { stage = replay.Rests; known = []; given = []; commits = map commitment_of commits; caches = caches }
+    → record (worker_of old) { stage = replay.Rests; known = []; given = []; commits = commits; caches = caches }
     ≡ committed sight P n (replay.Votes parts) (worker_of old)
 committed_is sight P n old parts c commits caches more tid stores left renewed = λ i.
     record (worker_of old) { stage = replay.Rests; known = []; given = []; commits = all i; caches = renewed i }
   where
-    all : map commitment_of commits ≡ map commitment_of old.commits ++ record { tid = tid_of sight P n (worker_of old); stores = sharers sight P parts; leaves = leaves sight P parts } ∷ []
-    all = ap (map commitment_of) more ∙ map-append commitment_of old.commits (c ∷ [])
-        ∙ (λ i. map commitment_of old.commits ++ record { tid = tid i; stores = stores i; leaves = left i } ∷ [])
+    all : commits ≡ old.commits ++ record { tid = tid_of sight P n (worker_of old); stores = sharers sight P parts; leaves = leaves sight P parts } ∷ []
+    all = more ∙ (λ i. old.commits ++ record { tid = tid i; stores = stores i; leaves = left i } ∷ [])
 
 -- caches that new ones are laid over
 pub caches_behind : (cache : ℕ) (old : Watched) (new : List (Option Rows)) (given wanted : Rows) → IsCaching cache old
@@ -74,11 +86,6 @@ pub still_last : (cache : ℕ) (new : Watched) (given : Rows) (caches : List Row
 still_last cache new given caches limit is = record { limit = limit; last = subst (AreLast cache) (sym is) (cached_last cache given 0 caches) }
 
 -- ---- an object that answers
-
-abbrev pub is_answer : Rights → Tid → Oid → ℕ → Tid → Row → Bool
-is_answer rights own p d t row =
-    is_tid t own && is_same row.0 p && (row.0.store == d)
-    && suits rights row.0 row.2 && nat_lt 0 row.1 && (not (row.0.worker == own.worker) || is_above own (maker_of row.0))
 
 pub taken : (sight : Sight) (P : Public) (n d : ℕ) (t : Tid) (row : Row) (stage : replay.Stage) (p : Oid) (v w : WorkerSeen) → stage ≡ replay.Waits p
     → is_answer P.rights (tid_of sight P n v) p d t row ≡ true → w ≡ record (knows sight P (row ∷ []) v) { stage = replay.Runs }

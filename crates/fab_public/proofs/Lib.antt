@@ -1,14 +1,9 @@
 pub mod Committing
 pub mod Fronts
 pub mod Asking
-pub mod Knowing
-pub mod Messaging
 pub mod Outcomes
-pub mod Parting
 pub mod Sending
 pub mod Standing
-pub mod Starting
 pub mod Stepping
 pub mod Storing
-pub mod Tabling
 pub mod Watching

@@ -3,8 +3,7 @@ use Rattle.std.proofs.Common.{◌≡◌, ℕ, List, [], ◌∷◌, map, refl, ap
 use Rattle.std.specs.List.{range_with_len}
 use Rattle.fab_cache.specs.Caching.{AreLast, Caching}
 use Rattle.fab_public.specs.declared.states.Watched.{Watched}
-use Rattle.fab_public.specs.Knowing.{IsRunBy}
-use Rattle.fab_public.specs.States.{IsCaching, IsWatched}
+use Rattle.fab_public.specs.States.{IsCaching, IsRunBy, IsWatched}
 use Rattle.fab_release.specs.Sights.{Public}
 
 pub still_caching : (k : ℕ) (x y : Watched) → y.caches ≡ x.caches → IsCaching k x → IsCaching k y

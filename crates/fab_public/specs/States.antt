@@ -2,14 +2,15 @@
 use Rattle.std.specs.Prelude.{◌≡◌, ℕ, List, [], map, None, IfSome, slice_get}
 use Rattle.std.specs.List.{range_with_len}
 use Rattle.std.specs.Option.{option_map_or}
-use Rattle.fab_base.specs.declared.object.Oid.{Oid}
+use Rattle.fab_base.specs.declared.object.Tid.{Tid}
+use Rattle.fab_base.specs.declared.object.Value.{Value}
+use Rattle.fab_base.specs.FlatMap.{FlatMap}
 use Rattle.fab_cache.specs.Caching.{AreLast}
+use Rattle.fab_known.specs.Knowing.{Runner, ran_by}
+use Rattle.fab_known.specs.Tables.{AreAlike}
 use Rattle.fab_protocol.specs.Stores.{shelf_at_start}
-use Rattle.fab_protocol.specs.Versions.{Rows}
 use Rattle.fab_release.specs.Replay as replay
 use Rattle.fab_release.specs.Sights.{Public, Sight}
-use Rattle.fab_public.specs.Knowing.{IsRunBy}
-use Rattle.fab_public.specs.declared.states.Commitment.{Commitment}
 use Rattle.fab_public.specs.declared.states.Kept.{Kept}
 use Rattle.fab_public.specs.declared.states.Stage.{Stage}
 use Rattle.fab_public.specs.declared.states.Stage.TheVariants as s
@@ -21,9 +22,6 @@ stage_of s.Runs = replay.Runs
 stage_of (s.Waits o) = replay.Waits o
 stage_of (s.Votes parts) = replay.Votes parts
 
-abbrev pub commitment_of : Commitment → replay.Commitment
-commitment_of c = record { tid = c.tid; stores = c.stores; leaves = c.leaves }
-
 abbrev pub worker_of : Watched → replay.WorkerSeen
 worker_of w = record {
   boot = w.boot;
@@ -32,7 +30,7 @@ worker_of w = record {
   stage = stage_of w.stage;
   known = w.known.rows;
   given = w.known.given;
-  commits = map commitment_of w.commits;
+  commits = w.commits;
   caches = w.caches.caches;
 }
 
@@ -64,6 +62,10 @@ pub record Stands {A B : Type 0} (start : ℕ → B) (see : A → B) (Fits : A �
   pub same : (n : ℕ) → kept_at start see items n ≡ seen n
   pub each : (n : ℕ) → IfSome (slice_get items n) Fits
 
+-- what is run by it is what everybody may know
+pub record IsRunBy (P : Public) (r : Runner) : Type 0 where
+  pub same : (n number : ℕ) (t : Tid) (known : FlatMap) (given : List Value) → ran_by r n number t known given ≡ P.means n number t known given
+
 -- its caches keep so many objects, and each is its own last distinct ones
 pub record IsCaching (k : ℕ) (w : Watched) : Type 0 where
   pub limit : w.caches.k ≡ k
@@ -79,10 +81,6 @@ AreWatched P workers seen = Stands (λ n. unwatched) worker_of (IsWatched P) wor
 
 abbrev pub AreStored : Sight → Public → List replay.StoreSeen → (ℕ → replay.StoreSeen) → Type 0
 AreStored sight P stores seen = Stands (unstored sight P) (λ x. x) (λ x. Unit {0}) stores seen
-
--- the same rows are found in these and those
-abbrev pub AreAlike : Rows → Rows → Type 0
-AreAlike rows others = (o : Oid) (version : ℕ) → replay.row_at rows o version ≡ replay.row_at others o version
 
 -- this is kept of what is rebuilt
 pub record IsKept (sight : Sight) (P : Public) (kept : Kept) (k : replay.Rebuilt) : Type 0 where

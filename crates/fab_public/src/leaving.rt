@@ -1,17 +1,14 @@
 //! What commits of workers leave.
-ghost use Rattle.std.specs.Prelude.{◌≡◌, ◌==◌, ◌++◌, [], map, IfOk, OnOk, if◌then◌else◌};
-ghost use Rattle.std.specs.List.{filter, flat_map};
+ghost use Rattle.std.specs.Prelude.{◌≡◌, ◌++◌, map, IfOk, OnOk};
+ghost use Rattle.std.specs.List.{filter};
 ghost use Rattle.fab_protocol.specs.Parts.{puts_of};
-ghost use Rattle.fab_protocol.specs.Versions.{Row as AnyRow, begun, is_tid, raised};
-ghost use Rattle.fab_release.specs.Replay.{is_shown, leaves, leaves_at};
-ghost use Rattle.fab_release.specs.Sights.{Public, Sight};
+ghost use Rattle.fab_protocol.specs.Versions.{begun, raised};
+ghost use Rattle.fab_release.specs.Replay.{is_shown, leaves};
 ghost use Rattle.fab_rights.specs.Computed.{has_bit};
 ghost use Rattle.fab_public.specs.Settings.{public_at, sight_at};
-ghost use Rattle.fab_public.specs.States.{commitment_of};
 
 use crate::setting::Setting;
-use crate::states::Commitment;
-use fab_base::{NoMemory, Object, Oid, Seq, Tid};
+use fab_base::{NoMemory, Object, Oid, Seq};
 use fab_commit::puts_of;
 use fab_protocol::Parts;
 use fab_rights::is_in;
@@ -94,55 +91,4 @@ pub(crate) fn puts(
     let mut rows = puts_of(setting.alloc, parts, known)?.into_vec();
     keep_in_set(setting.nodes, &mut rows);
     Ok(Seq::from_vec(rows))
-}
-
-/// Whether two attempts are one.
-pub(crate) fn is_one_tid(one: Tid, other: Tid) -> bool
-    ensures { result ≡ is_tid one other }
-{
-    one == other
-}
-
-/// Those of these rows that are at a store, behind others.
-fn add_at_store(alloc: Global, all: &mut Seq<Row>, rows: &[Row], store: u16) -> Result<(), NoMemory>
-    ensures { OnOk result (all.new ≡ all.old ++ filter (λ row. row.0.store == store) rows.now) }
-{
-    for row in rows {
-        if row.0.store == store {
-            all.push((row.0, row.1, row.2.copy(alloc)?))?;
-        }
-    }
-    Ok(())
-}
-
-/// What a commit leaves at a store, if it is of this attempt, behind other rows.
-fn add_left(
-    alloc: Global,
-    all: &mut Seq<Row>,
-    commit: &Commitment,
-    store: u16,
-    tid: Tid,
-) -> Result<(), NoMemory>
-    ensures { OnOk result (all.new ≡ all.old ++ (if is_tid commit.now.tid tid then filter (λ row. row.0.store == store) commit.now.leaves else [])) }
-{
-    if is_one_tid(commit.tid, tid) {
-        add_at_store(alloc, all, commit.leaves.as_slice(), store)?;
-    }
-    Ok(())
-}
-
-/// What an attempt leaves at a store.
-pub(crate) fn leaves_at(
-    setting: &Setting<'_>,
-    commits: &[Commitment],
-    store: u16,
-    tid: Tid,
-) -> Result<Seq<Row>, NoMemory>
-    ensures { IfOk result (λ rows. rows ≡ leaves_at (sight_at setting.now) (public_at setting.now) store tid (map commitment_of commits.now)) }
-{
-    let mut rows = Seq::new(setting.alloc);
-    for commit in commits {
-        add_left(setting.alloc, &mut rows, commit, store, tid)?;
-    }
-    Ok(rows)
 }

@@ -2,17 +2,14 @@
 //! release record alone.
 #![tactic(auto)]
 
-mod known;
 mod laws;
 mod leaving;
 mod messages;
-mod run;
 mod setting;
 mod start;
 mod states;
 mod steps;
 mod stores;
-mod table;
 mod watched;
 mod whole;
 mod workers;

@@ -1,9 +1,6 @@
 //! What is kept before the first entry.
-ghost use Rattle.std.specs.Prelude.{◌≡◌, map, IfOk, OnOk};
+ghost use Rattle.std.specs.Prelude.{◌≡◌, IfOk};
 ghost use Rattle.std.specs.List.{filter};
-ghost use Rattle.fab_base.specs.FlatMap.{put_all};
-ghost use Rattle.fab_language.specs.Evaluation.{map_at_start, rows_of};
-ghost use Rattle.fab_protocol.specs.Versions.{begun};
 ghost use Rattle.fab_release.specs.Replay.{at_start, is_shown, shown_roots};
 ghost use Rattle.fab_public.specs.Settings.{public_at, sight_at};
 ghost use Rattle.fab_public.specs.States.{IsKept};
@@ -11,36 +8,10 @@ ghost use Rattle.fab_public.specs.States.{IsKept};
 use crate::leaving::{add_creates, is_shown};
 use crate::setting::Setting;
 use crate::states::Kept;
-use crate::table::Table;
 use fab_base::{NoMemory, Object, Oid, Seq};
+use fab_known::Table;
 use fab_map::ObjectMap;
-use fab_tree::resolved::Root;
-use std::alloc::Global;
-
-/// Puts the objects of roots.
-fn put_roots(alloc: Global, map: &mut ObjectMap, roots: &[Root]) -> Result<(), NoMemory>
-    ensures { OnOk result (map.new ≡ put_all (rows_of roots.now) map.old) }
-{
-    let mut rest = roots;
-    while let Some((root, after)) = rest.split_first() {
-        let object = Object {
-            class: root.oid.class,
-            fields: Seq::from_slice(alloc, root.values.as_slice())?,
-        };
-        map.put(root.oid, object)?;
-        rest = after;
-    }
-    Ok(())
-}
-
-/// All objects that there are from the start.
-fn all_roots(setting: &Setting<'_>) -> Result<ObjectMap, NoMemory>
-    ensures { IfOk result (λ m. m ≡ map_at_start setting.now.part.now) }
-{
-    let mut all = ObjectMap::new(setting.alloc);
-    put_roots(setting.alloc, &mut all, setting.part.roots.as_slice())?;
-    Ok(all)
-}
+use fab_serial::at_start as roots_at_start;
 
 fn keep_shown(setting: &Setting<'_>, rows: &mut Vec<(Oid, Object)>)
     ensures { rows.new.items ≡ filter (λ root. is_shown (sight_at setting.now) (public_at setting.now) root.0) rows.old.items }
@@ -52,7 +23,7 @@ fn keep_shown(setting: &Setting<'_>, rows: &mut Vec<(Oid, Object)>)
 fn shown_roots(setting: &Setting<'_>) -> Result<ObjectMap, NoMemory>
     ensures { IfOk result (λ m. m ≡ shown_roots (sight_at setting.now) (public_at setting.now)) }
 {
-    let all = all_roots(setting)?;
+    let all = roots_at_start(setting.alloc, setting.part, setting.seen.classes)?;
     let mut rows = all.into_rows();
     keep_shown(setting, &mut rows);
     Ok(ObjectMap::from_rows(rows))

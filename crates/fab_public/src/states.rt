@@ -1,9 +1,8 @@
 //! What is rebuilt of nodes outside the set.
 
-use crate::known::Known;
-use crate::table::Table;
-use fab_base::{Object, Oid, Seq, Tid};
+use fab_base::Oid;
 use fab_cache::Caches;
+use fab_known::{Commits, Known, Table};
 use fab_map::ObjectMap;
 use fab_protocol::Parts;
 use fab_shelf::Stored;
@@ -18,15 +17,6 @@ pub(crate) enum Stage {
     Votes(Parts),
 }
 
-/// A commit: its attempt, the stores of the set that take part, and what it leaves of seen objects
-/// at the other stores.
-#[derive(Drop)]
-pub(crate) struct Commitment {
-    pub(crate) tid: Tid,
-    pub(crate) stores: Seq<u16>,
-    pub(crate) leaves: Seq<(Oid, u32, Object)>,
-}
-
 /// A worker outside the set: its boot, the number of its attempt, the request, what it is known to
 /// know and was given, its commits in order, and the caches of the stores in the set.
 #[derive(Drop)]
@@ -36,7 +26,7 @@ pub(crate) struct Watched<'a> {
     pub(crate) request: u32,
     pub(crate) stage: Stage,
     pub(crate) known: Known<'a>,
-    pub(crate) commits: Seq<Commitment>,
+    pub(crate) commits: Commits,
     pub(crate) caches: Caches,
 }
 

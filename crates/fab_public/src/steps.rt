@@ -10,7 +10,6 @@ ghost use Rattle.fab_public.specs.Changes.{changed, told_by};
 ghost use Rattle.fab_public.specs.Settings.{public_at, sight_at};
 ghost use Rattle.fab_public.specs.States.{IsKept, kept_at, unwatched, worker_of};
 
-use crate::leaving::leaves_at;
 use crate::setting::Setting;
 use crate::states::{Kept, Watched};
 use crate::workers::Change;
@@ -129,7 +128,7 @@ fn left_at(
     ensures { IfOk result (λ rows. rows ≡ leaves_at (sight_at setting.now) (public_at setting.now) store tid (kept_at (λ n. unwatched) worker_of workers.now tid.worker).commits) }
 {
     match watched_at(workers, tid.worker) {
-        Some(watched) => leaves_at(setting, watched.commits.as_slice(), store, tid),
+        Some(watched) => watched.commits.leaves_at(setting.alloc, store, tid),
         None => Ok(Seq::new(setting.alloc)),
     }
 }

@@ -1,42 +1,31 @@
 //! What entries make of a worker outside the set.
-ghost use Rattle.std.specs.Prelude.{◌≡◌, ◌==◌, ◌&&◌, ◌||◌, not, nat_lt, suc, ℕ, [], ◌∷◌, true, if◌then◌else◌, IfOk, OnOk};
-ghost use Rattle.std.specs.List.{list_any};
-ghost use Rattle.fab_base.specs.FlatMap.{is_same};
-ghost use Rattle.fab_base.specs.Tids.{is_above};
+ghost use Rattle.std.specs.Prelude.{◌≡◌, ◌&&◌, not, suc, ℕ, [], ◌∷◌, true, if◌then◌else◌, IfOk, OnOk};
 ghost use Rattle.fab_base.specs.declared.message.Message.TheVariants.{Abort, Commit, Fetch, Inquire};
 ghost use Rattle.fab_protocol.specs.Caches.{cached_row};
 ghost use Rattle.fab_protocol.specs.Parts.{stores_of};
-ghost use Rattle.fab_protocol.specs.Versions.{is_tid, maker_of};
-ghost use Rattle.fab_release.specs.Replay.{Rests, Votes, answers, asked_by, closes, committed, decided, ends_by, enters, got_by, has_committed, is_voting, knows, leaves, no_caches, over, prepares, row_at, run, tid_of, unless_cached, worker_hears, worker_says};
+ghost use Rattle.fab_protocol.specs.Versions.{is_tid};
+ghost use Rattle.fab_release.specs.Replay.{Rests, Votes, answers, asked_by, closes, committed, decided, ends_by, enters, got_by, is_voting, knows, leaves, no_caches, over, prepares, row_at, run, tid_of, unless_cached, worker_hears, worker_says};
 ghost use Rattle.fab_release.specs.Sights.{Public, Sight};
-ghost use Rattle.fab_rights.specs.Computed.{suits};
 ghost use Rattle.fab_sent.specs.Messages.{all_spelled};
 ghost use Rattle.fab_world.specs.Workers.{is_in};
-ghost use Rattle.fab_world.specs.Attempts.{parts_of};
-ghost use Rattle.fab_language.specs.declared.ending.Ending.TheVariants.{Ended};
-ghost use Rattle.fab_language.specs.Meaning.{Meant as AnyMeant};
-ghost use Rattle.fab_meaning.specs.Ends.{IsMeant};
+ghost use Rattle.fab_known.specs.Knowing.{Lacks};
 ghost use Rattle.fab_public.specs.Changes.{begun, changed, told_by};
-ghost use Rattle.fab_public.specs.Knowing.{IsRunBy, Lacks};
 ghost use Rattle.fab_public.specs.Settings.{public_at, sight_at};
-ghost use Rattle.fab_public.specs.States.{IsCaching, commitment_of, stage_of, worker_of};
+ghost use Rattle.fab_public.specs.States.{IsCaching, IsRunBy, stage_of, worker_of};
 ghost use Rattle.fab_public.specs.declared.workers.Change.TheVariants.{Ask, End, Wake};
 
-use crate::leaving::{is_one_tid, leaves, puts};
+use crate::leaving::{leaves, puts};
 use crate::messages::{sharers, wakes};
-use crate::run::{run, tid_of};
 use crate::setting::Setting;
-use crate::states::{Commitment, Stage, Watched};
-use crate::table::Table;
+use crate::states::{Stage, Watched};
 use crate::workers::Change;
-use fab_base::{Message, NoMemory, Object, Oid, Seq, Tid, Value};
+use fab_base::{Message, NoMemory, Object, Oid, Seq, Tid};
 use fab_cache::Caches;
 use fab_commit::{copies, participants};
-use fab_language::Ending;
-use fab_meaning::Meant;
-use fab_parts::{one, parts_from, prepares, to_all};
+use fab_known::{Table, is_answer, is_one_tid};
+use fab_parts::{one, prepares, to_all};
 use fab_protocol::Parts;
-use fab_rights::{Rights, is_in};
+use fab_rights::is_in;
 use fab_sent::Sends;
 use std::alloc::{AllocError, Global};
 use std::mem;
@@ -60,20 +49,15 @@ fn next_number(number: u32) -> Result<u32, NoMemory>
     Ok(number + 1)
 }
 
-/// The parts of what a request that ended means over what is known.
-fn parts_of(
-    alloc: Global,
-    known: &[(Oid, u32, Object)],
-    value: Option<Value>,
-    meant: &Meant,
-) -> Result<Parts, NoMemory>
-    ensures { IfOk result (λ parts. (what : AnyMeant) → IsMeant meant.now what → what.ending ≡ Ended value → parts ≡ parts_of known.now what) }
+/// The attempt of a worker.
+fn tid_of(worker: u16, watched: &Watched<'_>) -> Tid
+    ensures { (sight : Sight) (P : Public) → result ≡ tid_of sight P worker (worker_of watched.now) }
 {
-    let touches = meant.touches.as_slice();
-    let written = meant.written.as_slice();
-    let made = meant.made.as_slice();
-    let objects = meant.map.rows();
-    parts_from(alloc, known, value, touches, written, made, objects)
+    Tid {
+        worker,
+        boot: watched.boot,
+        number: watched.number,
+    }
 }
 
 /// What tells a store whether an attempt commits.
@@ -85,74 +69,6 @@ fn closing(tid: Tid, commit: bool) -> Message
     } else {
         Message::Abort { tid }
     }
-}
-
-pub(crate) fn is_one_name(one: Oid, other: Oid) -> bool
-    ensures { result ≡ is_same one other }
-{
-    one == other
-}
-
-/// Whether one attempt comes behind another.
-fn is_above(one: Tid, other: Tid) -> bool
-    ensures { result ≡ is_above one other }
-{
-    one.boot > other.boot || (one.boot == other.boot && one.number > other.number)
-}
-
-/// Whether an object may stand under a name.
-fn suits(rights: &Rights, oid: Oid, object: &Object) -> bool
-    ensures { result ≡ suits rights.now oid object.now }
-{
-    rights.well_formed(object) && object.class == oid.class
-}
-
-/// The attempt that made the object of this name.
-pub(crate) fn maker_of(oid: Oid) -> Tid
-    ensures { result ≡ maker_of oid }
-{
-    Tid {
-        worker: oid.worker,
-        boot: oid.boot,
-        number: oid.number,
-    }
-}
-
-/// Whether a message of a store brings the object that a worker in this attempt waits for: it suits,
-/// and no later attempt of the worker made it.
-fn is_answer(
-    rights: &Rights,
-    own: Tid,
-    wanted: Oid,
-    sender: u16,
-    tid: Tid,
-    row: &(Oid, u32, Object),
-) -> bool
-    ensures { result ≡ (is_tid tid own && is_same row.now.0 wanted && (row.now.0.store == sender)
-        && suits rights.now row.now.0 row.now.2 && nat_lt 0 row.now.1 && (not (row.now.0.worker == own.worker) || is_above own (maker_of row.now.0))) }
-{
-    is_one_tid(tid, own)
-        && is_one_name(row.0, wanted)
-        && row.0.store == sender
-        && suits(rights, row.0, &row.2)
-        && row.1 > 0
-        && (row.0.worker != own.worker || is_above(own, maker_of(row.0)))
-}
-
-/// Whether a commit is of this attempt, and this store takes part.
-fn is_commit_at(commit: &Commitment, store: u16, tid: Tid) -> bool
-    ensures { result ≡ (is_tid commit.now.tid tid && is_in store commit.now.stores) }
-{
-    is_one_tid(commit.tid, tid) && commit.stores.as_slice().contains(&store)
-}
-
-/// Whether one of these commits is of this attempt, and this store takes part.
-fn has_commit_at(commits: &[Commitment], store: u16, tid: Tid) -> bool
-    ensures { result ≡ list_any (λ c. is_tid c.tid tid && is_in store c.stores) commits.now }
-{
-    commits
-        .iter()
-        .any(|commit| is_commit_at(commit, store, tid))
 }
 
 /// Whether a store takes part in these.
@@ -233,7 +149,7 @@ impl Watched<'_> {
         ensures by { self.new.known.by ≡ self.old.known.by }
     {
         let boot = next_number(self.boot)?;
-        let sends = wakes(setting, self.commits.as_slice(), boot)?;
+        let sends = wakes(setting, &self.commits, boot)?;
         self.boot = boot;
         self.number = 0;
         Ok(sends)
@@ -300,15 +216,14 @@ impl Watched<'_> {
     }
 
     /// It asks for votes on the parts of its evaluation, if that has ended.
-    fn come_to_vote(&mut self, setting: &Setting<'_>, worker: u16) -> Result<(), NoMemory>
-        ensures seen { OnOk result (worker_of self.new ≡ ends_by (sight_at setting.now) (public_at setting.now) worker
-            (run (sight_at setting.now) (public_at setting.now) worker (worker_of self.old)).ending (worker_of self.old)) }
+    fn come_to_vote(&mut self, worker: u16) -> Result<(), NoMemory>
+        ensures seen { (sight : Sight) (P : Public) → IsRunBy P self.old.known.by
+            → OnOk result (worker_of self.new ≡ ends_by sight P worker (run sight P worker (worker_of self.old)).ending (worker_of self.old)) }
         ensures caches { self.new.caches ≡ self.old.caches }
         ensures by { self.new.known.by ≡ self.old.known.by }
     {
-        let meant = run(setting, worker, self)?;
-        if let Ending::Ended(value) = meant.ending {
-            let parts = parts_of(setting.alloc, self.known.rows(), value, &meant)?;
+        let tid = tid_of(worker, self);
+        if let Some(parts) = self.known.parts(self.request, tid)? {
             self.stage = Stage::Votes(parts);
         }
         Ok(())
@@ -330,12 +245,14 @@ impl Watched<'_> {
 
     /// Its evaluation ends, and it asks for votes.
     fn end(&mut self, setting: &Setting<'_>, worker: u16) -> Result<Sends, NoMemory>
-        ensures kept { OnOk result (worker_of self.new ≡ changed (sight_at setting.now) (public_at setting.now) worker End (worker_of self.old)) }
-        ensures sent { IfOk result (λ sent. sent ≡ all_spelled (told_by (sight_at setting.now) (public_at setting.now) worker End (worker_of self.old))) }
+        ensures kept { IsRunBy (public_at setting.now) self.old.known.by
+            → OnOk result (worker_of self.new ≡ changed (sight_at setting.now) (public_at setting.now) worker End (worker_of self.old)) }
+        ensures sent { IsRunBy (public_at setting.now) self.old.known.by
+            → IfOk result (λ sent. sent ≡ all_spelled (told_by (sight_at setting.now) (public_at setting.now) worker End (worker_of self.old))) }
         ensures caches { self.new.caches ≡ self.old.caches }
         ensures by { self.new.known.by ≡ self.old.known.by }
     {
-        self.come_to_vote(setting, worker)?;
+        self.come_to_vote(worker)?;
         self.prepares(setting, worker)
     }
 
@@ -456,11 +373,7 @@ impl Watched<'_> {
         let given = puts(setting, parts, known)?;
         let puts = given.as_slice();
         let renewed = self.caches.with_puts(puts)?;
-        self.commits.push(Commitment {
-            tid,
-            stores,
-            leaves: copy,
-        })?;
+        self.commits.add(tid, stores, copy)?;
         self.caches.take_new(renewed);
         self.rest();
         Ok(left)
@@ -557,13 +470,6 @@ impl Watched<'_> {
         }
     }
 
-    /// Whether it has committed this attempt, in which this store takes part.
-    fn has_committed(&self, store: u16, tid: Tid) -> bool
-        ensures { (sight : Sight) (P : Public) → result ≡ has_committed sight P store tid (worker_of self.now) }
-    {
-        has_commit_at(self.commits.as_slice(), store, tid)
-    }
-
     /// What it tells a store that asks what became of an attempt.
     fn reply(
         &self,
@@ -574,7 +480,7 @@ impl Watched<'_> {
     ) -> Result<Sends, NoMemory>
         ensures { IfOk result (λ sent. sent ≡ all_spelled (worker_says (sight_at setting.now) (public_at setting.now) worker sender (Inquire tid) (worker_of self.now))) }
     {
-        let committed = self.has_committed(sender, tid);
+        let committed = self.commits.has(sender, tid);
         let votes = self.is_voting(setting, worker, sender, tid)?;
         outcome(
             setting.alloc,

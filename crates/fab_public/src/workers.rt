@@ -5,18 +5,17 @@ ghost use Rattle.fab_base.specs.declared.message.Message.{Message as AnyMessage}
 ghost use Rattle.fab_protocol.specs.Versions.{Rows};
 ghost use Rattle.fab_world.specs.Machine.{with_at};
 ghost use Rattle.fab_sent.specs.Messages.{all_spelled};
+ghost use Rattle.fab_known.specs.Tables.{AreAlike};
 ghost use Rattle.fab_public.specs.Changes.{changed, told_by};
-ghost use Rattle.fab_public.specs.Knowing.{IsRunBy};
 ghost use Rattle.fab_public.specs.Settings.{public_at, sight_at};
-ghost use Rattle.fab_public.specs.States.{AreAlike, AreWatched, IsCaching, unwatched, worker_of};
+ghost use Rattle.fab_public.specs.States.{AreWatched, IsCaching, IsRunBy, unwatched, worker_of};
 
-use crate::known::Known;
 use crate::setting::Setting;
 use crate::states::{Stage, Watched};
-use crate::table::Table;
 use crate::watched::Decided;
-use fab_base::{Message, NoMemory, Seq, Value};
+use fab_base::{Message, NoMemory, Value};
 use fab_cache::Caches;
+use fab_known::{Commits, Known, Table};
 use fab_sent::Sends;
 
 const STORES: u16 = 64;
@@ -52,7 +51,7 @@ fn unwatched<'a>(setting: &Setting<'a>) -> Result<Watched<'a>, NoMemory>
         request: 0,
         stage: Stage::Rests,
         known: Known::nothing(alloc, setting.part, setting.seen),
-        commits: Seq::new(alloc),
+        commits: Commits::none(alloc),
         caches,
     })
 }

@@ -5,6 +5,7 @@ use Rattle.fab_base.specs.Faults.{Rose}
 use Rattle.fab_device.specs.Kept.{CannotFail, Entry, Makers}
 use Rattle.fab_language.specs.Words.{node_text}
 use Rattle.fab_eval.specs.declared.done.Done.{Done}
+use Rattle.fab_eval.specs.declared.job.Job.{Job}
 use Rattle.fab_pauses.specs.Evaluations.{EvaluatorsModel, IsOf, last_of}
 use Rattle.fab_net.specs.declared.event.Event.{Event}
 use Rattle.fab_tree.specs.declared.resolved.Resolved.{Resolved}
@@ -14,6 +15,7 @@ use Rattle.fab_core.specs.Cores.{EventHasDone, is_honest, marked, setting, slot,
 use Rattle.fab_net.specs.Events.{node_at}
 use Rattle.fab_core.specs.Moved.{faults_in, sure_in}
 use Rattle.fab_core.specs.Honest.{AreFor}
+use Rattle.fab_core.specs.Telling.{TellsJob}
 use Rattle.fab_replay.specs.Kept.{IsCutOff, IsOfRun, has_mark, lost_behind, unlost, with_more}
 use Rattle.fab_replay.specs.Replays.{StopsBefore, StopsIn, events_of, moves_of}
 use Rattle.fab_replay.specs.declared.replayed.Replayed.{Replayed}
@@ -68,6 +70,11 @@ pub record ComesWith (g : GivenModel) (moves : List Move) (event : Event) (over 
 abbrev pub IsLastDone : EvaluatorsModel → Option ℕ → Option Done → Type 0
 IsLastDone all None done = done ≡ None
 IsLastDone all (Some worker) done = (option_map (λ (d : Done). d.job) done ≡ last_of all worker) × IfSome done (λ d. IsOf all.program d.job)
+
+-- the last job is what this worker has to evaluate
+abbrev pub IsLastTold : GivenModel → List Move → ℕ → Option Job → Type 0
+IsLastTold g moves n None = ⊥
+IsLastTold g moves n (Some job) = TellsJob g (world_by g moves) n (Some job)
 
 -- it came, and the moves are one more
 pub record HasCome (g : GivenModel) (event : Event) (move : Move) (old new : List Move) : Type 0 where

@@ -1,14 +1,15 @@
 //! The events of a schedule, one after the other.
 
-ghost use Rattle.std.specs.Prelude.{◌≡◌, ◌<◌, ◌≤◌, [], false, Option, IsTrue, IfOk, OnErr, length};
+ghost use Rattle.std.specs.Prelude.{◌≡◌, ◌<◌, ◌≤◌, [], false, true, Option, IsTrue, IfOk, OnErr, length};
 ghost use Rattle.std.specs.Option.{option_copied};
 ghost use Rattle.fab_world.specs.Machine.{is_running};
 ghost use Rattle.fab_world.specs.Serial.{attempts};
 ghost use Rattle.fab_world.specs.Workers.{Evaluating};
 ghost use Rattle.fab_core.specs.Cores.{HasDone, setting, world};
 ghost use Rattle.fab_eval.specs.declared.done.Done.{Done as AnyDone};
+ghost use Rattle.fab_pauses.specs.Evaluations.{last_of};
 ghost use Rattle.fab_replay.specs.Kept.{IsFrontRun};
-ghost use Rattle.fab_replay.specs.Running.{AreBehind, ComesBy, ComesTo, ComesWith, IsLastDone, MayCome, failed_by, fails_by};
+ghost use Rattle.fab_replay.specs.Running.{AreBehind, ComesBy, ComesTo, ComesWith, IsLastDone, IsLastTold, MayCome, failed_by, fails_by};
 
 use crate::events::event_of;
 use fab_base::NoMemory;
@@ -38,8 +39,33 @@ pub(crate) enum Ran {
     Cut { node: u16 },
 }
 
-/// Evaluates the job of a worker, if there is one: by which evaluator.
+/// Goes on with the last answer of a worker, where its job is the last one with this answer more, and that one paused for it; and says
+/// whether it did. This answer alone is copied. Without memory the last job stays.
+fn went_on<J: Journal>(
+    alloc: Global,
+    core: &Core<J>,
+    evaluators: &mut Evaluators<'_>,
+    worker: u16,
+) -> Result<bool, NoMemory>
+    requires { evaluators.old.program ≡ core.now.given.program }
+    ensures program { evaluators.new.program ≡ evaluators.old.program }
+    ensures last { IfOk result (λ went. went ≡ true → IsLastTold core.now.given core.now.moves worker (last_of evaluators.new worker)) }
+{
+    let Some(done) = evaluators.done(worker) else {
+        return Ok(false);
+    };
+    match core.answer_behind(worker, &done.job) {
+        Some(answer) => {
+            let object = answer.2.copy(alloc)?;
+            evaluators.go_on(worker, answer.0, answer.1, object)
+        }
+        None => Ok(false),
+    }
+}
+
+/// Evaluates the job of a worker, if there is one: by which evaluator. A job that doesn't go on is copied whole.
 fn evaluated<J: Journal>(
+    alloc: Global,
     core: &Core<J>,
     evaluators: &mut Evaluators<'_>,
     worker: u16,
@@ -50,6 +76,10 @@ fn evaluated<J: Journal>(
         → ((world core.now).node worker).attempt.phase ≡ Evaluating → HasDone core.now.given (world core.now) worker done) }
 {
     core.is_a_run();
+    let went = went_on(alloc, core, evaluators, worker)?;
+    if went {
+        return Ok(Some(worker));
+    }
     match core.job(worker)? {
         Some(job) => {
             evaluators.evaluate(worker, job)?;
@@ -62,6 +92,7 @@ fn evaluated<J: Journal>(
 /// Makes the evaluation that an event takes, if it takes one: by which evaluator.
 #[tactic(auto, using(crate::proofs::Resting::resumes_with, crate::proofs::Resting::crashes_with))]
 fn evaluated_for<J: Journal>(
+    alloc: Global,
     core: &Core<J>,
     evaluators: &mut Evaluators<'_>,
     event: Event,
@@ -71,8 +102,8 @@ fn evaluated_for<J: Journal>(
     ensures done { IfOk result (λ at. (done : Option AnyDone) → IsLastDone evaluators.new at done → ComesWith core.now.given core.now.moves event done) }
 {
     match event {
-        Event::Resume(worker) => evaluated(core, evaluators, worker),
-        Event::CrashIn(_, Inner::Resume(worker)) => evaluated(core, evaluators, worker),
+        Event::Resume(worker) => evaluated(alloc, core, evaluators, worker),
+        Event::CrashIn(_, Inner::Resume(worker)) => evaluated(alloc, core, evaluators, worker),
         _ => Ok(None),
     }
 }
@@ -127,6 +158,7 @@ fn come<J: Journal>(core: &mut Core<J>, event: Event, done: Option<&Done>) -> Re
 
 /// One event comes, if it may.
 fn next<J: Journal>(
+    alloc: Global,
     core: &mut Core<J>,
     evaluators: &mut Evaluators<'_>,
     event: Event,
@@ -140,12 +172,12 @@ fn next<J: Journal>(
     ensures memory { OnErr result (core.new.moves ≡ core.old.moves) }
     ensures still { OnErr result (AreBehind (λ n. false) core.old.journals core.new.journals) }
 {
-    let at = evaluated_for(core, evaluators, event)?;
+    let at = evaluated_for(alloc, core, evaluators, event)?;
     come(core, event, done_at(evaluators, at))
 }
 
 /// The events of the schedule come in order, up to the first that may not come or in which a journal fails. A job that comes again with
-/// one answer more goes on where it paused.
+/// one answer more goes on where it paused. Without memory a front of them has come.
 pub(crate) fn run<J: Journal>(
     alloc: Global,
     core: &mut Core<J>,
@@ -166,7 +198,7 @@ pub(crate) fn run<J: Journal>(
     'events: while let Some((scheduled, after)) = rest.split_first() {
         let event = event_of(*scheduled);
         number += 1;
-        match next(core, &mut evaluators, event)? {
+        match next(alloc, core, &mut evaluators, event)? {
             Came::Whole => {}
             Came::Cut => {
                 return Ok(Ran::Cut {

@@ -16,13 +16,16 @@ use Rattle.fab_left.proofs.Stepping.{all_ended, block_failed, call_failed, trial
 use Rattle.fab_left.proofs.Stemming.{caught_stems, popped_stems}
 use Rattle.fab_left.proofs.Lacking.{put_back}
 use Rattle.fab_stack.specs.declared.stack.Entry.{Entry}
+use Rattle.fab_stack.specs.declared.stepping.Fall.{Fall}
+use Rattle.fab_stack.specs.declared.stepping.Fall.TheVariants as falls
 use Rattle.fab_stack.specs.declared.stepping.Way.{Way}
 use Rattle.fab_stack.specs.declared.stepping.Way.TheVariants.{Over, Lacks}
 use Rattle.fab_stack.specs.declared.halt.End.TheVariants.{Failed, Stopped, Missing}
 use Rattle.fab_stack.specs.Points.{top_of, under}
-use Rattle.fab_stack.specs.Stacks.{entries_of, trials, heap_at}
-use Rattle.fab_stack.specs.Stepping.{GoesOn, FailsSo, LacksSo, Runs}
+use Rattle.fab_stack.specs.Stacks.{behind, entries_of, trials, heap_at}
+use Rattle.fab_stack.specs.Stepping.{GoesOn, FailsSo, Falls, LacksSo, Runs}
 use Rattle.fab_stack.proofs.Stacks.{put_one, put_try, trials_more}
+use Rattle.fab_stack.proofs.Behind.{left_behind, stems_behind}
 
 -- ---- a failure goes on
 
@@ -38,17 +41,18 @@ module _ (m : Means) (first : Place) where
       ap (λ l. ended m first l failed t more) (put_one new old k heaps e z ∙ ap (λ l. entries_of new heaps ++ l) is) ∙ call_failed m first (entries_of new heaps) callee caller locals target t more
 
   -- at the last block that is tried
-  pub caught : (old mid new : List Entry) (k j : Entry) (p : Place) (locals : List Value) (ss : List Statement) (heaps : List Heap) (t : State) (more : FlatMap) → old ≡ mid ++ k ∷ [] → trials (k ∷ []) ≡ 1 → trials old ≡ length heaps
-      → entries_of (k ∷ []) heaps ≡ tried p locals (heap_at 0 heaps) ss ∷ [] → new ≡ mid ++ j ∷ [] → trials (j ∷ []) ≡ 0 → entries_of (j ∷ []) (under heaps) ≡ rest p ss ∷ []
+  pub caught : (old mid new : List Entry) (k : Entry) (p : Place) (locals : List Value) (ss : List Statement) (heaps : List Heap) (t : State) (more : FlatMap) → old ≡ mid ++ k ∷ [] → trials (k ∷ []) ≡ 1 → trials old ≡ length heaps
+      → entries_of (k ∷ []) heaps ≡ tried p locals (heap_at 0 heaps) ss ∷ [] → entries_of new (under heaps) ≡ behind (entries_of mid (under heaps)) p ss
       → ended m first (entries_of old heaps) failed t more ≡ left m first (entries_of new (under heaps)) (record t { locals = locals; heap = top_of heaps t.heap }) more
-  caught old mid new k j p locals ss [] t more e one count is f z js = absurd (none (sym (trials_more mid k one) ∙ ap trials (sym e) ∙ count))
+  caught old mid new k p locals ss [] t more e one count is f = absurd (none (sym (trials_more mid k one) ∙ ap trials (sym e) ∙ count))
     where
       none : suc (trials mid) ≡ 0 → ⊥
       none g = omega (arith, g)
-  caught old mid new k j p locals ss (h ∷ heaps) t more e one count is f z js =
+  caught old mid new k p locals ss (h ∷ heaps) t more e one count is f =
       ap (λ l. ended m first l failed t more) (put_try mid old k h heaps e one ∙ ap (λ l. entries_of mid heaps ++ l) is)
       ∙ trial_failed m first (entries_of mid heaps) p locals h ss t more
-      ∙ ap (λ l. left m first l (record t { locals = locals; heap = h }) more) (sym (put_one mid new j heaps f z ∙ ap (λ l. entries_of mid heaps ++ l) js))
+      ∙ left_behind m first (entries_of mid heaps) p ss (record t { locals = locals; heap = h }) more
+      ∙ ap (λ l. left m first l (record t { locals = locals; heap = h }) more) (sym f)
 
 module _ (tid : Tid) (known : FlatMap) where
   pub unwound_stems : (old new : List Entry) (k : Entry) (e : left.Entry) (heaps : List Heap) (t : State) (locals : List Value) → old ≡ new ++ k ∷ [] → trials (k ∷ []) ≡ 0 → entries_of (k ∷ []) heaps ≡ e ∷ []
@@ -56,16 +60,17 @@ module _ (tid : Tid) (known : FlatMap) where
   unwound_stems old new k e heaps t locals f z is st =
       popped_stems tid known (entries_of new heaps) e t locals (subst (λ (l : List left.Entry). AllStem tid known l t) (put_one new old k heaps f z ∙ ap (λ l. entries_of new heaps ++ l) is) st)
 
-  pub caught_stem : (old mid new : List Entry) (k j : Entry) (p : Place) (locals : List Value) (ss : List Statement) (heaps : List Heap) (t : State) → old ≡ mid ++ k ∷ [] → trials (k ∷ []) ≡ 1 → trials old ≡ length heaps
-      → entries_of (k ∷ []) heaps ≡ tried p locals (heap_at 0 heaps) ss ∷ [] → new ≡ mid ++ j ∷ [] → trials (j ∷ []) ≡ 0 → entries_of (j ∷ []) (under heaps) ≡ rest p ss ∷ []
+  pub caught_stem : (old mid new : List Entry) (k : Entry) (p : Place) (locals : List Value) (ss : List Statement) (heaps : List Heap) (t : State) → old ≡ mid ++ k ∷ [] → trials (k ∷ []) ≡ 1 → trials old ≡ length heaps
+      → entries_of (k ∷ []) heaps ≡ tried p locals (heap_at 0 heaps) ss ∷ [] → entries_of new (under heaps) ≡ behind (entries_of mid (under heaps)) p ss
       → AllStem tid known (entries_of old heaps) t → AllStem tid known (entries_of new (under heaps)) (record t { locals = locals; heap = top_of heaps t.heap })
-  caught_stem old mid new k j p locals ss [] t e one count is f z js st = absurd (none (sym (trials_more mid k one) ∙ ap trials (sym e) ∙ count))
+  caught_stem old mid new k p locals ss [] t e one count is f st = absurd (none (sym (trials_more mid k one) ∙ ap trials (sym e) ∙ count))
     where
       none : suc (trials mid) ≡ 0 → ⊥
       none g = omega (arith, g)
-  caught_stem old mid new k j p locals ss (h ∷ heaps) t e one count is f z js st =
-      subst (λ (l : List left.Entry). AllStem tid known l (record t { locals = locals; heap = h })) (sym (put_one mid new j heaps f z ∙ ap (λ l. entries_of mid heaps ++ l) js))
-      (caught_stems tid known (entries_of mid heaps) p locals h ss t (subst (λ (l : List left.Entry). AllStem tid known l t) (put_try mid old k h heaps e one ∙ ap (λ l. entries_of mid heaps ++ l) is) st))
+  caught_stem old mid new k p locals ss (h ∷ heaps) t e one count is f st =
+      subst (λ (l : List left.Entry). AllStem tid known l (record t { locals = locals; heap = h })) (sym f)
+      (stems_behind tid known (entries_of mid heaps) p ss (record t { locals = locals; heap = h })
+      (caught_stems tid known (entries_of mid heaps) p locals h ss t (subst (λ (l : List left.Entry). AllStem tid known l t) (put_try mid old k h heaps e one ∙ ap (λ l. entries_of mid heaps ++ l) is) st)))
 
 -- ---- steps one after another
 
@@ -84,6 +89,14 @@ module _ (means : Tid → Means) (first : Place) (known : FlatMap) (a b : Tid) (
 
   pub run_ends : (way : Way) → b ≡ a → GoesOn (means a) first a known js r is s → (AllStem b known is s → Runs (means b) first b known way is s ks t) → Runs (means a) first a known way js r ks t
   run_ends way e g f = ends_at way g (subst (λ (x : Tid). AllStem x known is s → Runs (means x) first x known way is s ks t) e f g.stem)
+
+  falls_at : (fall : Fall) → GoesOn (means a) first a known js r is s → Falls (means a) first a known fall is s ks t → Falls (means a) first a known fall js r ks t
+  falls_at falls.Memory g h = tt
+  falls_at falls.Failed g h = record { same = λ more fresh. g.same more fresh ∙ h.same more fresh; stem = h.stem }
+  falls_at (falls.Ended way) g h = ends_at way g h
+
+  pub run_falls : (fall : Fall) → b ≡ a → GoesOn (means a) first a known js r is s → (AllStem b known is s → Falls (means b) first b known fall is s ks t) → Falls (means a) first a known fall js r ks t
+  run_falls fall e g f = falls_at fall g (subst (λ (x : Tid). AllStem x known is s → Falls (means x) first x known fall is s ks t) e f g.stem)
 
 -- ---- one step
 

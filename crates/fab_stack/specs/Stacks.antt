@@ -1,12 +1,14 @@
 -- What the entries of a stack stand for, with the heaps that a state has saved.
-use Rattle.std.specs.Prelude.{ℕ, suc, List, [], ◌∷◌, drop}
+use Rattle.std.specs.Prelude.{ℕ, suc, List, [], ◌∷◌, ◌++◌, drop}
 use Rattle.fab_tree.specs.declared.resolved.Method.{Method}
+use Rattle.fab_tree.specs.declared.resolved.Statement.{Statement}
 use Rattle.fab_language.specs.Heaps.{Heap}
 use Rattle.fab_language.specs.Meaning.{unchanged}
 use Rattle.fab_left.specs.Left as left
 use Rattle.fab_left.specs.Left.{Place}
 use Rattle.fab_stack.specs.declared.stack.Entry.{Entry}
 use Rattle.fab_stack.specs.declared.stack.Entry.TheVariants.{Rest, Tried, Returning}
+use Rattle.fab_stack.specs.declared.stack.Hand.{Hand}
 use Rattle.fab_stack.specs.Points.{top_of}
 
 abbrev pub place : Method → ℕ → Place
@@ -32,3 +34,12 @@ entries_of (Tried method locals otherwise depth ∷ ks) heaps =
     left.tried (place method.now depth) locals.items (heap_at (trials ks) heaps) otherwise.now ∷ entries_of ks heaps
 entries_of (Returning callee depth caller caller_depth locals target ∷ ks) heaps =
     left.returning (place callee.now depth) (place caller.now caller_depth) locals.items target ∷ entries_of ks heaps
+
+-- what is in hand, as the last of the entries
+abbrev pub in_hand : Hand → left.Entry
+in_hand hand = left.rest (place hand.method.now hand.depth) hand.statements.now
+
+-- the rest of a block behind entries, where there is one
+abbrev pub behind : List left.Entry → Place → List Statement → List left.Entry
+behind ks p [] = ks
+behind ks p (s ∷ ss) = ks ++ left.rest p (s ∷ ss) ∷ []

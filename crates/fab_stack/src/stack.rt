@@ -48,3 +48,11 @@ pub enum Call<'a> {
     Skipped(Option<Value>),
     Absent,
 }
+
+/// The rest of a block of a method in hand: it is done before what stands on the stack.
+#[derive(Clone, Copy)]
+pub(crate) struct Hand<'a> {
+    pub(crate) method: &'a Method,
+    pub(crate) statements: &'a [Statement],
+    pub(crate) depth: u32,
+}

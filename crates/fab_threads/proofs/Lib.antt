@@ -1,4 +1,6 @@
 mod CountsExamples
 pub mod Crossing
+pub mod Keeping
 pub mod Logs
+mod RoundsExamples
 pub mod Told

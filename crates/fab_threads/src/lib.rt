@@ -1,5 +1,5 @@
 //! A run by threads: each node's thread takes turns under one lock, and evaluates outside of it. What the threads leave is done by the
-//! calling thread.
+//! calling thread, which has a pool evaluate what several workers wait for.
 //!
 //! What is known of the nodes each time the lock is taken is known by the type of what lies under it: that they are those of the start
 //! that the run is named by, and that what all threads count adds up to the events. So it is known of them when the threads have returned, too.
@@ -8,6 +8,7 @@
 
 mod alone;
 mod bells;
+mod bench;
 mod evaluating;
 mod name;
 mod running;
@@ -15,6 +16,7 @@ mod shared;
 mod turning;
 mod watch;
 
+pub use alone::finish;
 pub use name::RunName;
 pub use running::{Finished, run_threads};
 pub use shared::{Aside, Shared};

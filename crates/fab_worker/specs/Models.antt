@@ -2,11 +2,12 @@
 use Rattle.std.specs.Prelude.{◌≡◌, ℕ, ◌≤◌, nat_lt, if◌then◌else◌, List, [], ◌∷◌, length, Option, Some, None, slice_get}
 use Rattle.fab_base.specs.declared.object.Tid.{Tid}
 use Rattle.fab_tree.specs.declared.resolved.Resolved.{Resolved}
+use Rattle.fab_eval.specs.Answered.{answered}
 use Rattle.fab_eval.specs.declared.job.Job.{Job}
 use Rattle.fab_rights.specs.declared.rights.Rights.{Rights}
 use Rattle.fab_protocol.specs.declared.parts.Parts.{Parts}
 use Rattle.fab_protocol.specs.declared.parts.Decision.{Decision}
-use Rattle.fab_protocol.specs.Versions.{Rows, objects_of}
+use Rattle.fab_protocol.specs.Versions.{Row, Rows, objects_of}
 use Rattle.fab_base.specs.FlatMap.{map_of}
 use Rattle.fab_tree.specs.declared.resolved.Request.{Request}
 use Rattle.fab_language.specs.Meaning.{meaning}
@@ -82,6 +83,22 @@ pub record IsJobOf (job : Job) (x : WorkerModel) : Type 0 where
   pub request : slice_get (requests_of x.program x.node) (length x.kept.outcomes) ≡ Some job.request
   pub tid : job.tid ≡ tid_at x
   pub answers : job.answers ≡ x.attempt.answers
+
+-- the request that is at work, in this attempt
+pub record IsRequestAt (asked : Request) (t : Tid) (x : WorkerModel) : Type 0 where
+  pub request : request_at x ≡ Some asked
+  pub tid : t ≡ tid_at x
+
+-- a job but for its program, which nobody compares
+pub record IsJobIn (job : Job) (x : WorkerModel) : Type 0 where
+  pub request : slice_get (requests_of x.program x.node) (length x.kept.outcomes) ≡ Some job.request
+  pub tid : job.tid ≡ tid_at x
+  pub answers : job.answers ≡ x.attempt.answers
+
+-- the answer behind those of a job, where with it the job is the worker's; nothing exactly where there is none
+abbrev pub IsAnswerBehind : Job → WorkerModel → Option Row → Type 0
+IsAnswerBehind job x (Some a) = IsJobIn (answered a.0 a.1 a.2 job) x
+IsAnswerBehind job x None = (a : Row) → IsJobIn (answered a.0 a.1 a.2 job) x → ⊥
 
 -- a worker by its fields
 abbrev pub model_of : ℕ → Rights → Resolved → Sitting → List Decision → Caching → Stage → Rows → ℕ × ℕ → ℕ → ℕ → WorkerModel

@@ -1,16 +1,13 @@
-use Rattle.std.proofs.Common.{not, sym, ap, subst, ◌∙◌}
+use Rattle.std.proofs.Common.{sym, ap, subst, ◌∙◌}
 use Rattle.std.specs.List.{IsDistinct, filter}
 use Rattle.std.specs.Map.{keys_of}
 use Rattle.fab_base.specs.declared.object.Object.{Object}
 use Rattle.fab_base.specs.declared.object.Oid.{Oid}
 use Rattle.fab_base.specs.FlatMap.{FlatMap, is_same, map_of}
 use Rattle.fab_integrity.proofs.Maps.{ascends_filter}
-use Rattle.fab_language.specs.Evaluation.{map_at_start}
 use Rattle.fab_map.proofs.Made.{distinct_from_ascends, map_of_own}
 use Rattle.fab_release.specs.Replay.{is_shown}
-use Rattle.fab_rights.specs.Computed.{has_bit}
 use Rattle.fab_public.specs.Settings.{public_at, sight_at}
-use Rattle.fab_public.proofs.Starting.{filter_both}
 use Rattle.fab_public.proofs.start.shown_roots.Goals as goal
 
 pub from_rows-requires : goal.from_rows-requires
@@ -22,11 +19,9 @@ from_rows-requires c =
 
 pub returns : goal.returns
 returns c =
-    let s = c.args.setting.now in
-    let shown = λ (root : Oid × Object). is_shown (sight_at s) (public_at s) root.0 in
+    let shown = λ (root : Oid × Object). is_shown (sight_at c.args.setting.now) (public_at c.args.setting.now) root.0 in
     let all = c.in_ok-all.all in
     c.from_rows.ensures
     ∙ ap map_of (c.keep_shown.ensures ∙ ap (filter shown) c.into_rows-rows.ensures.all)
     ∙ map_of_own (filter shown all) (ascends_filter shown all c.into_rows-rows.ensures.ascending)
-    ∙ ap (filter shown) c.in_ok-all.ensures
-    ∙ sym (filter_both (λ (root : Oid × Object). has_bit s.seen.classes root.0.class) (λ (root : Oid × Object). not (has_bit s.nodes root.0.store)) (map_at_start s.part.now))
+    ∙ ap (filter shown) c.in_ok-all.ensures.exact

@@ -2,7 +2,7 @@ use Rattle.std.proofs.Common.{ap, ◌∙◌, ◌++◌}
 use Rattle.fab_protocol.specs.Versions.{Rows}
 use Rattle.fab_release.specs.Replay.{enters, row_at}
 use Rattle.fab_public.specs.Settings.{public_at, sight_at}
-use Rattle.fab_public.proofs.Tabling.{alike_behind}
+use Rattle.fab_known.proofs.Tabling.{alike_behind}
 use Rattle.fab_public.proofs.steps.decide.Goals as goal
 
 pub returns-clause-kept : goal.returns-clause-kept

@@ -6,7 +6,7 @@ use Rattle.fab_sent.specs.Messages.{all_spelled}
 use Rattle.fab_public.specs.Settings.{public_at, sight_at}
 use Rattle.fab_public.specs.States.{IsKept}
 use Rattle.fab_public.proofs.Outcomes.{if_ok_weaker}
-use Rattle.fab_public.proofs.Tabling.{alike_behind}
+use Rattle.fab_known.proofs.Tabling.{alike_behind}
 use Rattle.fab_public.proofs.steps.hear.Goals as goal
 
 pub returns-clause-kept : goal.returns-clause-kept

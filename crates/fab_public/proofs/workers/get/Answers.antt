@@ -2,9 +2,9 @@ use Rattle.std.proofs.Common.{◌∙◌}
 use Rattle.fab_release.specs.Replay.{WorkerSeen, got_by, run}
 use Rattle.fab_public.specs.Settings.{public_at, sight_at}
 use Rattle.fab_public.specs.States.{IsWatched, unwatched, worker_of}
+use Rattle.fab_public.proofs.Asking.{got_alike}
 use Rattle.fab_public.proofs.Outcomes.{on_ok_where}
 use Rattle.fab_public.proofs.Standing.{changed_at}
-use Rattle.fab_public.proofs.Tabling.{got_alike}
 use Rattle.fab_public.proofs.Watching.{watched_still}
 use Rattle.fab_public.proofs.workers.get.Goals as goal
 

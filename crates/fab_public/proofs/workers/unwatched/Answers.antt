@@ -1,6 +1,7 @@
 use Rattle.std.proofs.Common.{refl, sym, subst}
-use Rattle.fab_public.specs.Knowing.{IsRunBy, Knows}
+use Rattle.fab_known.specs.Knowing.{Knows}
 use Rattle.fab_public.specs.Settings.{public_at}
+use Rattle.fab_public.specs.States.{IsRunBy}
 use Rattle.fab_public.proofs.Watching.{fresh_caching}
 use Rattle.fab_public.proofs.workers.unwatched.Goals as goal
 

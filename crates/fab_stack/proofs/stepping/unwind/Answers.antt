@@ -4,7 +4,7 @@ use Rattle.fab_stack.specs.Stacks.{entries_of, place}
 use Rattle.fab_language.specs.Meaning.{failed}
 use Rattle.fab_left.specs.Left.{rest, returning}
 use Rattle.fab_left.specs.Steps.{ended}
-use Rattle.fab_stack.proofs.Stacks.{counts_same, counts_back, counts_try}
+use Rattle.fab_stack.proofs.Stacks.{counts_back, counts_try}
 use Rattle.fab_stack.proofs.Running.{unwinds_block, unwinds_call, caught, unwound_stems, caught_stem, nothing}
 use Rattle.fab_stack.proofs.stepping.unwind.Goals as goal
 
@@ -42,15 +42,15 @@ returns-in-Tried-clause-unwinds c = λ m first tid known st.
     let e = c.in-Some.ensures.items ∙ ap (λ k. c.pop.new.self.items ++ k ∷ []) c.in-Tried.is in
     let p = place c.in-Tried.method.now c.in-Tried.depth in
     rw c.abort.ensures (
-      (λ more. c.down.invariant.same m first more ∙ caught m first c.down.stack.items c.pop.new.self.items c.push.new.self.items _ _ p c.in-Tried.locals.items c.in-Tried.otherwise.now heaps c.down.state.state more e refl c.down.invariant.matched refl c.in_ok-push-in-Tried.ensures.items refl refl),
-      caught_stem tid known c.down.stack.items c.pop.new.self.items c.push.new.self.items _ _ p c.in-Tried.locals.items c.in-Tried.otherwise.now heaps c.down.state.state e refl c.down.invariant.matched refl c.in_ok-push-in-Tried.ensures.items refl refl (c.down.invariant.stem tid known st),
+      (λ more. c.down.invariant.same m first more ∙ caught m first c.down.stack.items c.pop.new.self.items c.put.new.stack.items _ p c.in-Tried.locals.items c.in-Tried.otherwise.now heaps c.down.state.state more e refl c.down.invariant.matched refl (c.in_ok-put-in-Tried.ensures.entries (under heaps))),
+      caught_stem tid known c.down.stack.items c.pop.new.self.items c.put.new.stack.items _ p c.in-Tried.locals.items c.in-Tried.otherwise.now heaps c.down.state.state e refl c.down.invariant.matched refl (c.in_ok-put-in-Tried.ensures.entries (under heaps)) (c.down.invariant.stem tid known st),
     )
 
 pub returns-in-Tried-clause-matched : goal.returns-in-Tried-clause-matched
 returns-in-Tried-clause-matched c =
     let heaps = c.down.state.base.saved in
     let e = c.in-Some.ensures.items ∙ ap (λ k. c.pop.new.self.items ++ k ∷ []) c.in-Tried.is in
-    rw c.abort.ensures (counts_same c.pop.new.self.items c.push.new.self.items _ (length (under heaps)) c.in_ok-push-in-Tried.ensures.items refl (counts_try c.down.stack.items c.pop.new.self.items _ heaps e refl c.down.invariant.matched))
+    rw c.abort.ensures (c.in_ok-put-in-Tried.ensures.trials ∙ counts_try c.down.stack.items c.pop.new.self.items _ heaps e refl c.down.invariant.matched)
 
 pub returns-clause-unwinds : goal.returns-clause-unwinds
 returns-clause-unwinds c = λ m first tid known st more.

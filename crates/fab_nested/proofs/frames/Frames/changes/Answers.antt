@@ -19,9 +19,9 @@ returns-in_err-put_all_found-2-clause-ascends c =
 pub returns-clause-rows : goal.returns-clause-rows
 returns-clause-rows c =
     let rows : FlatMap = c.self.inside.objects.changed in
-    let first = c.in_ok-put_all_found.ensures ∙ (λ i. c.new-rows.ensures i ++ objects_at rows (c.as_slice.ensures.keys i)) in
+    let first = c.in_ok-put_all_found.ensures ∙ (λ i. c.new-rows.ensures i ++ objects_at rows (c.as_slice.ensures i)) in
     c.in_ok-put_all_found-2.ensures
-    ∙ (λ i. first i ++ objects_at rows (c.as_slice-2.ensures.keys i))
+    ∙ (λ i. first i ++ objects_at rows (c.as_slice-2.ensures i))
     ∙ changes_same (rows_of c.self.inside.known) (heap_of c.self.inside.objects) c.self.invariant.above.now
     ∙ ap (λ (n : Nested). objects_at n.now.rows (n.now.written ++ n.now.made)) c.self.view_is
 

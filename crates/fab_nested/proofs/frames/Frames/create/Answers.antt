@@ -16,8 +16,8 @@ invariant_of-self-2 c =
     let steps = rw c.in-Some.is at c.in_ok-change.ensures.ok in
     record {
       below = c.self.invariant.below;
-      above = later_logged c.self.inside.log.items c.note.new.log.items c.reserve.new.self.items c.in-Some.change (heap_of c.self.inside.objects) (heap_of c.make.new.self) c.self.inside.marks.items c.deref.result.now
-          c.self.invariant.above steps.1 c.note.ensures c.deref.ensures.value c.reserve.ensures.items
+      above = later_logged c.self.inside.log.items c.note.new.log.items c.make_room.new.log.items c.in-Some.change (heap_of c.self.inside.objects) (heap_of c.make.new.self) c.self.inside.marks.items c.deref.result.now
+          c.self.invariant.above steps.1 c.note.ensures c.deref.ensures.value c.make_room.ensures.items
           (sound_made c.args.oid c.args.object (heap_of c.self.inside.objects) (heap_of c.make.new.self) c.self.invariant.above.now steps.0);
     }
 
@@ -26,5 +26,5 @@ returns c =
     let steps = rw c.in-Some.is at c.in_ok-change.ensures.ok in
     create_gives c.self.inside.versions.entries (rows_of c.self.inside.known) c.self.inside.log.items (heap_of c.self.inside.objects) c.self.inside.marks.items c.self.inside.touches c.args.self.now c.self.view_is
     c.self.invariant c.args.oid c.args.object c.note.new.log.items (heap_of c.make.new.self) steps.0
-    (later_saved c.self.inside.log.items c.note.new.log.items c.reserve.new.self.items c.in-Some.change (heap_of c.self.inside.objects) (heap_of c.make.new.self) c.self.inside.marks.items c.deref.result.now
-    c.self.invariant.above steps.1 c.note.ensures c.deref.ensures.value c.reserve.ensures.items)
+    (later_saved c.self.inside.log.items c.note.new.log.items c.make_room.new.log.items c.in-Some.change (heap_of c.self.inside.objects) (heap_of c.make.new.self) c.self.inside.marks.items c.deref.result.now
+    c.self.invariant.above steps.1 c.note.ensures c.deref.ensures.value c.make_room.ensures.items)

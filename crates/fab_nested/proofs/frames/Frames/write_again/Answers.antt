@@ -21,8 +21,8 @@ returns-then-not-branch c =
     let there : get (put_all h.rows (rows_of c.self.inside.known)) c.args.oid ≡ Some x.0 = found_changed h.rows (rows_of c.self.inside.known) c.args.oid x.0 sound.ascending x.1 in
     write_full c.self.inside.versions.entries (rows_of c.self.inside.known) c.self.inside.log.items (heap_of c.self.inside.objects) c.self.inside.marks.items c.self.inside.touches c.args.self.now c.self.view_is
     c.args.site c.args.oid c.args.field c.args.value x.0 there (full_from c.in_ok-touch.field-0 (reach_in c.args.site c.args.oid (Some x.0) h.made c.self.inside.touches) x.0 c.touch.new.touches c.if-not-branch.true (c.in_ok-touch.ensures.fits x.0))
-    ∙ ap (stops Reads) (same_left c.self.inside.versions.entries (rows_of c.self.inside.known) c.self.inside.log.items c.reserve.new.self.items h c.self.inside.marks.items c.self.inside.touches c.touch.new.touches c.args.self.now c.self.view_is
-    c.reserve.ensures.items (on_false c.in_ok-touch.field-0 _ c.if-not-branch.true c.in_ok-touch.ensures.full))
+    ∙ ap (stops Reads) (same_left c.self.inside.versions.entries (rows_of c.self.inside.known) c.self.inside.log.items c.make_room.new.log.items h c.self.inside.marks.items c.self.inside.touches c.touch.new.touches c.args.self.now c.self.view_is
+    c.make_room.ensures.items (on_false c.in_ok-touch.field-0 _ c.if-not-branch.true c.in_ok-touch.ensures.full))
 
 pub invariant_of-self-2 : goal.invariant_of-self-2
 invariant_of-self-2 c =
@@ -33,8 +33,8 @@ invariant_of-self-2 c =
     let steps = c.write_field-change.ensures x.0 x.1 in
     record {
       below = c.self.invariant.below;
-      above = later_logged c.self.inside.log.items c.note.new.log.items c.reserve.new.self.items c.write_field-change.result h (heap_of c.write_field-change.new.self) c.self.inside.marks.items c.deref.result.now
-          c.self.invariant.above steps.1 c.note.ensures c.deref.ensures.value c.reserve.ensures.items
+      above = later_logged c.self.inside.log.items c.note.new.log.items c.make_room.new.log.items c.write_field-change.result h (heap_of c.write_field-change.new.self) c.self.inside.marks.items c.deref.result.now
+          c.self.invariant.above steps.1 c.note.ensures c.deref.ensures.value c.make_room.ensures.items
           (sound_written c.args.oid (with_field c.args.field c.args.value x.0) h (heap_of c.write_field-change.new.self) sound steps.0);
     }
 
@@ -50,5 +50,5 @@ returns c =
     c.args.site c.args.oid c.args.field c.args.value c.self.invariant x.0 c.touch.new.touches there
     (found_from c.in_ok-touch.field-0 (reach_in c.args.site c.args.oid (Some x.0) h.made c.self.inside.touches) x.0 c.touch.new.touches c.if-not-branch.false (c.in_ok-touch.ensures.fits x.0))
     c.note.new.log.items (heap_of c.write_field-change.new.self) steps.0
-    (later_saved c.self.inside.log.items c.note.new.log.items c.reserve.new.self.items c.write_field-change.result h (heap_of c.write_field-change.new.self) c.self.inside.marks.items c.deref.result.now
-    c.self.invariant.above steps.1 c.note.ensures c.deref.ensures.value c.reserve.ensures.items)
+    (later_saved c.self.inside.log.items c.note.new.log.items c.make_room.new.log.items c.write_field-change.result h (heap_of c.write_field-change.new.self) c.self.inside.marks.items c.deref.result.now
+    c.self.invariant.above steps.1 c.note.ensures c.deref.ensures.value c.make_room.ensures.items)

@@ -34,8 +34,8 @@ returns-then-not-branch c =
     reach_unchanged c.in_ok-reach.field-0 c.args.site c.args.oid c.in-Some.object.now h c.self.inside.touches c.reach.new.self unchanged c.in_ok-reach.ensures.fits c.in_ok-reach.ensures.noted in
     write_full c.self.inside.versions.entries (rows_of c.self.inside.known) c.self.inside.log.items (heap_of c.self.inside.objects) c.self.inside.marks.items c.self.inside.touches c.args.self.now c.self.view_is
     c.args.site c.args.oid c.args.field c.args.value c.in-Some.object.now there (full_from c.in_ok-reach.field-0 (reach_in c.args.site c.args.oid (Some c.in-Some.object.now) h.made c.self.inside.touches) c.in-Some.object.now c.reach.new.self c.if-not-branch.true reaches)
-    ∙ ap (stops Reads) (same_left c.self.inside.versions.entries (rows_of c.self.inside.known) c.self.inside.log.items c.reserve.new.self.items h c.self.inside.marks.items c.self.inside.touches c.reach.new.self c.args.self.now c.self.view_is
-    c.reserve.ensures.items (c.in_ok-reach.ensures.noted ∙ rw c.if-not-branch.true refl))
+    ∙ ap (stops Reads) (same_left c.self.inside.versions.entries (rows_of c.self.inside.known) c.self.inside.log.items c.make_room.new.log.items h c.self.inside.marks.items c.self.inside.touches c.reach.new.self c.args.self.now c.self.view_is
+    c.make_room.ensures.items (c.in_ok-reach.ensures.noted ∙ rw c.if-not-branch.true refl))
 
 pub invariant_of-self-in-Ok-Some : goal.invariant_of-self-in-Ok-Some
 invariant_of-self-in-Ok-Some c =
@@ -46,8 +46,8 @@ invariant_of-self-in-Ok-Some c =
     let steps = rw c.in-Ok-Some.field-0-is at c.in-Ok-Some.ensures.ok in
     record {
       below = c.self.invariant.below;
-      above = later_logged c.self.inside.log.items c.note.new.log.items c.reserve.new.self.items c.in-Ok-Some.change h (heap_of c.join.new.self) c.self.inside.marks.items c.deref.result.now
-          c.self.invariant.above steps.1 c.note.ensures c.deref.ensures.value c.reserve.ensures.items
+      above = later_logged c.self.inside.log.items c.note.new.log.items c.make_room.new.log.items c.in-Ok-Some.change h (heap_of c.join.new.self) c.self.inside.marks.items c.deref.result.now
+          c.self.invariant.above steps.1 c.note.ensures c.deref.ensures.value c.make_room.ensures.items
           (sound_written c.args.oid c.with_field-object.result h (heap_of c.join.new.self) sound steps.0);
     }
 
@@ -66,8 +66,8 @@ returns-in-Ok-Some c =
     c.args.site c.args.oid c.args.field c.args.value c.self.invariant c.in-Some.object.now c.reach.new.self there
     (found_from c.in_ok-reach.field-0 (reach_in c.args.site c.args.oid (Some c.in-Some.object.now) h.made c.self.inside.touches) c.in-Some.object.now c.reach.new.self c.if-not-branch.false reaches)
     c.note.new.log.items (heap_of c.join.new.self) (ap (λ (x : Object). replaced c.args.oid x h) (sym written) ∙ steps.0)
-    (later_saved c.self.inside.log.items c.note.new.log.items c.reserve.new.self.items c.in-Ok-Some.change h (heap_of c.join.new.self) c.self.inside.marks.items c.deref.result.now
-    c.self.invariant.above steps.1 c.note.ensures c.deref.ensures.value c.reserve.ensures.items)
+    (later_saved c.self.inside.log.items c.note.new.log.items c.make_room.new.log.items c.in-Ok-Some.change h (heap_of c.join.new.self) c.self.inside.marks.items c.deref.result.now
+    c.self.invariant.above steps.1 c.note.ensures c.deref.ensures.value c.make_room.ensures.items)
 
 pub returns-in-Ok-None : goal.returns-in-Ok-None
 returns-in-Ok-None c =
@@ -84,4 +84,4 @@ returns-in-Ok-None c =
     c.args.site c.args.oid c.args.field c.args.value c.self.invariant c.in-Some.object.now c.reach.new.self there
     (found_from c.in_ok-reach.field-0 (reach_in c.args.site c.args.oid (Some c.in-Some.object.now) h.made c.self.inside.touches) c.in-Some.object.now c.reach.new.self c.if-not-branch.false reaches)
     (ap (λ (x : Object). replaced c.args.oid x h) (sym written) ∙ steps.0)
-    ∙ (λ i. stops Writes (framed c.self.inside.versions.entries (rows_of c.self.inside.known) (sym c.reserve.ensures.items i) (sym steps.1 i) c.self.inside.marks.items c.reach.new.self))
+    ∙ (λ i. stops Writes (framed c.self.inside.versions.entries (rows_of c.self.inside.known) (sym c.make_room.ensures.items i) (sym steps.1 i) c.self.inside.marks.items c.reach.new.self))

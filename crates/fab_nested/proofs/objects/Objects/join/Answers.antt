@@ -1,15 +1,21 @@
-use Rattle.std.proofs.Common.{List, ◌∷◌, [], ◌++◌, ap, sym, ◌∙◌}
-use Rattle.fab_base.specs.declared.object.Oid.{Oid}
+use Rattle.std.proofs.Common.{ap, sym, ◌∙◌}
 use Rattle.fab_language.specs.Heaps.{is_among}
-use Rattle.fab_nested.specs.Logs.{heap_of}
-use Rattle.fab_nested.proofs.Naming.{joins, neither}
+use Rattle.fab_nested.specs.Logs.{heap_of, but_last}
+use Rattle.fab_nested.proofs.Naming.{among_by, but_last-push, neither}
 use Rattle.fab_nested.proofs.Stepping.{joined}
 use Rattle.fab_nested.proofs.objects.Objects.join.Goals as goal
 
-pub returns-clause-ok : goal.returns-clause-ok
-returns-clause-ok c =
+pub push-requires : goal.push-requires
+push-requires c =
     let h = heap_of c.args.self.now in
-    let absent = ap (is_among c.args.oid) c.reserve.ensures.keys ∙ neither (is_among c.args.oid h.made) (is_among c.args.oid h.written) c.requires.apart in
-    let names = joins c.args.oid c.reserve.new.self.keys c.insert.new.self.keys c.insert.result c.insert.ensures.keys (sym c.is_err.ensures.value ∙ c.if-is_err.false) absent in
-    joined c.args.oid c.args.object h c.put.new.self c.insert.new.self.keys c.requires.apart (sym c.if-is_spent.ensures) c.requires.absent c.in_ok-put.ensures.ok
-    (names ∙ ap (λ (os : List Oid). os ++ c.args.oid ∷ []) c.reserve.ensures.keys)
+    among_by c.args.oid h.written ∙ neither (is_among c.args.oid h.made) (is_among c.args.oid h.written) c.requires.apart
+
+pub returns-in-Ok-clause-ok : goal.returns-in-Ok-clause-ok
+returns-in-Ok-clause-ok c =
+    joined c.args.oid c.args.object (heap_of c.args.self.now) c.put.new.self c.push.new.self c.requires.apart (sym c.if-is_spent.ensures) c.requires.absent c.in-Ok.ensures.ok c.in_ok-push.ensures.ok
+
+pub returns-in-Err-clause-err : goal.returns-in-Err-clause-err
+returns-in-Err-clause-err c =
+    let h = heap_of c.args.self.now in
+    let names = c.pop.ensures ∙ ap but_last c.in_ok-push.ensures.ok ∙ but_last-push h.written c.args.oid in
+    λ i. record h { rows = c.in-Err.ensures.err i; written = names i }

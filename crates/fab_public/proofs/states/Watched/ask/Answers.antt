@@ -5,7 +5,7 @@ use Rattle.fab_release.specs.Replay.{WorkerSeen, asked_by, asks_by, fetch, run}
 use Rattle.fab_protocol.specs.Caches.{cached_row}
 use Rattle.fab_sent.specs.Messages.{all_spelled}
 use Rattle.fab_public.specs.declared.states.Watched.{Watched}
-use Rattle.fab_public.specs.Knowing.{Lacks}
+use Rattle.fab_known.specs.Knowing.{Lacks}
 use Rattle.fab_public.specs.Settings.{public_at, sight_at}
 use Rattle.fab_public.specs.States.{worker_of}
 use Rattle.fab_public.proofs.Asking.{asks_inside, asks_none, asks_outside, fetch_inside, fetch_none, fetch_outside, fetched}

@@ -17,7 +17,7 @@ returns-clause-kept c = λ is.
     let parts = c.args.parts.now in
     c.rest.ensures.seen
     ∙ committed_is (sight_at s) (public_at s) c.args.worker old parts (record { tid = c.tid_of-tid.result; stores = c.in_ok-stores.stores; leaves = c.in_ok-copy.copy }) _ _
-    c.in_ok-push.ensures.ok (c.tid_of-tid.ensures (sight_at s) (public_at s)) c.in_ok-stores.ensures (c.in_ok-copy.ensures ∙ c.as_slice-rows.ensures ∙ c.in_ok-left.ensures)
+    c.in_ok-add.ensures (c.tid_of-tid.ensures (sight_at s) (public_at s)) c.in_ok-stores.ensures (c.in_ok-copy.ensures ∙ c.as_slice-rows.ensures ∙ c.in_ok-left.ensures)
     (ap (λ (x : Caching). x.caches) c.take_new.ensures
     ∙ caches_behind (public_at s).cache old c.in_ok-renewed.renewed c.as_slice-puts.result.now (puts (sight_at s) (public_at s) (worker_of old) parts) is c.in_ok-renewed.ensures.behind_puts
     (c.as_slice-puts.ensures ∙ c.in_ok-given.ensures ∙ ap (λ (known : Rows). filter (λ (row : Row). has_bit s.nodes row.0.store) (puts_of known parts)) c.rows-known.ensures))

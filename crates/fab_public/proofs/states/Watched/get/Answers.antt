@@ -2,7 +2,7 @@ use Rattle.std.proofs.Common.{◌≡◌, Option, Some, None, sym, ap, subst, ◌
 use Rattle.std.proofs.lemmas.Result.{on_ok_weaker}
 use Rattle.fab_base.specs.declared.object.Oid.{Oid}
 use Rattle.fab_release.specs.Replay.{WorkerSeen, got_by, knows, row_at, run}
-use Rattle.fab_public.specs.Knowing.{Lacks}
+use Rattle.fab_known.specs.Knowing.{Lacks}
 use Rattle.fab_public.specs.Settings.{public_at, sight_at}
 use Rattle.fab_public.specs.States.{worker_of}
 use Rattle.fab_public.proofs.Asking.{got_inside, got_none, got_outside}

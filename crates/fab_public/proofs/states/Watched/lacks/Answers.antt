@@ -1,5 +1,5 @@
 use Rattle.fab_public.specs.States.{worker_of}
-use Rattle.fab_public.proofs.Knowing.{lacks_by}
+use Rattle.fab_public.proofs.Asking.{lacks_by}
 use Rattle.fab_public.proofs.Outcomes.{if_ok_weaker}
 use Rattle.fab_public.proofs.states.Watched.lacks.Goals as goal
 

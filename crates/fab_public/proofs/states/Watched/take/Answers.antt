@@ -1,10 +1,11 @@
 use Rattle.std.proofs.Common.{sym, ap, ◌∙◌}
 use Rattle.fab_base.specs.declared.object.Tid.{Tid}
 use Rattle.fab_release.specs.Replay as replay
-use Rattle.fab_public.specs.Knowing.{Knows}
+use Rattle.fab_known.specs.Answers.{is_answer}
+use Rattle.fab_known.specs.Knowing.{Knows}
 use Rattle.fab_public.specs.Settings.{public_at, sight_at}
 use Rattle.fab_public.specs.States.{stage_of, worker_of}
-use Rattle.fab_public.proofs.Committing.{is_answer, left_alone, taken}
+use Rattle.fab_public.proofs.Committing.{left_alone, taken}
 use Rattle.fab_public.proofs.states.Watched.take.Goals as goal
 
 pub returns-in_ok-learn-clause-seen : goal.returns-in_ok-learn-clause-seen

@@ -1,0 +1,4 @@
+pub mod Knowing
+pub mod Messaging
+pub mod Parting
+pub mod Tabling
