@@ -32,3 +32,4 @@ pub mod Taking
 pub mod Measured
 pub mod Whole
 mod TellingExamples
+pub mod Recovering

@@ -1,5 +1,5 @@
 -- Rows that are put into a table one after the other.
-use Rattle.std.proofs.Common.{◌≡◌, ℕ, Bool, true, false, cond, IsTrue, List, [], ◌∷◌, ◌++◌, map, Option, Some, None, refl, sym, ap, ◌∙◌, subst, append-nil, append_assoc}
+use Rattle.std.proofs.Common.{◌≡◌, ℕ, Bool, true, false, cond, List, [], ◌∷◌, ◌++◌, map, Option, Some, None, refl, sym, ap, ◌∙◌, append-nil}
 use Rattle.std.specs.Prelude.{fold, reverse, if◌then◌else◌}
 use Rattle.std.specs.Option.{option_map, option_or}
 use Rattle.std.specs.List.{filter, flat_map, find}
@@ -16,22 +16,9 @@ use Rattle.fab_base.specs.declared.object.Oid.{Oid}
 use Rattle.fab_base.specs.FlatMap.{is_same}
 use Rattle.fab_base.specs.declared.message.Items.{Items}
 use Rattle.fab_protocol.specs.Stores.{Prepared, behind}
-use Rattle.fab_protocol.specs.Tables.{ascends, placed, placed_all, row_of}
+use Rattle.fab_protocol.specs.Tables.{placed, placed_all, row_of}
 use Rattle.fab_protocol.specs.Versions.{Row, Rows, begun, name_of, left_by, raised, risen}
-use Rattle.fab_protocol.proofs.TableLaws.{ascends_parts, placed_behind, row_of_placed}
-
--- rows in the order of their names go one behind the other
-in_order : (xs ys : Rows) → IsTrue (ascends name_of (xs ++ ys)) → placed_all name_of ys xs ≡ xs ++ ys
-in_order xs [] h = sym (append-nil xs)
-in_order xs (y ∷ ys) h =
-    let here : placed name_of y xs ≡ xs ++ y ∷ [] =
-    ap (placed name_of y) (sym (append-nil xs)) ∙ placed_behind name_of y xs [] (ascends_parts name_of xs ys y h).0 in
-    let same : (xs ++ y ∷ []) ++ ys ≡ xs ++ y ∷ ys = append_assoc xs (y ∷ []) ys in
-    ap (placed_all name_of ys) here ∙ in_order (xs ++ y ∷ []) ys (subst (λ zs. IsTrue (ascends name_of zs)) (sym same) h) ∙ same
-
--- put into an empty table they are the table
-pub placed_again : (rows : Rows) → IsTrue (ascends name_of rows) → placed_all name_of rows [] ≡ rows
-placed_again rows h = in_order [] rows h
+use Rattle.fab_protocol.proofs.TableLaws.{row_of_placed}
 
 -- some rows behind others
 pub placed_both : (xs ys rows : Rows) → placed_all name_of (xs ++ ys) rows ≡ placed_all name_of ys (placed_all name_of xs rows)

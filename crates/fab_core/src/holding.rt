@@ -14,6 +14,7 @@ ghost use Rattle.fab_nodes.specs.Under.{last_under, under};
 use crate::core_state::Core;
 use fab_base::{Items, NoMemory, Object, Oid, Seq, Tid};
 use fab_device::Journal;
+use fab_locks::Held;
 use fab_node::{Node, Role};
 use fab_nodes::node_at;
 use fab_store::Store;
@@ -51,18 +52,6 @@ fn store_at<J: Journal>(nodes: &[Option<Node<J>>], number: usize) -> Option<&Sto
 }
 
 // ---- all that a store holds
-
-/// Copies of rows are put into a table.
-fn put_rows(alloc: Global, table: &mut Table, rows: &[(Oid, u32, Object)]) -> Result<(), NoMemory>
-    ensures { OnOk result (table.new.rows ≡ placed_all name_of rows.now table.old.rows) }
-{
-    let mut rest = rows;
-    'rows: while let Some((row, after)) = rest.split_first() {
-        table.put(row.0, row.1, row.2.copy(alloc)?)?;
-        rest = after;
-    }
-    Ok(())
-}
 
 /// Copies of writes are put into a table, each at the version behind the one that was read.
 fn put_writes(
@@ -105,33 +94,20 @@ fn put_decided<J: Journal>(
     alloc: Global,
     table: &mut Table,
     nodes: &[Option<Node<J>>],
-    prepared: &[(Tid, Items)],
+    prepared: Held<'_>,
 ) -> Result<(), NoMemory>
-    ensures { OnOk result (table.new.rows ≡ behind (only_decided nodes.now prepared.now) table.old.rows) }
+    ensures { OnOk result (table.new.rows ≡ behind (only_decided nodes.now prepared.entry) table.old.rows) }
 {
     let mut rest = prepared;
-    'transactions: while let Some((transaction, after)) = rest.split_first() {
+    'transactions: while let Some(transaction) = rest.next() {
         if is_decided(nodes, transaction.0) {
             put_left(alloc, table, &transaction.1)?;
         }
-        rest = after;
     }
     Ok(())
 }
 
-/// The same rows again.
-fn copies(alloc: Global, rows: &[(Oid, u32, Object)]) -> Result<Seq<(Oid, u32, Object)>, NoMemory>
-    ensures { IfOk result (λ copies. copies ≡ rows.now) }
-{
-    let mut copies = Seq::new(alloc);
-    for row in rows {
-        copies.push((row.0, row.1, row.2.copy(alloc)?))?;
-    }
-    Ok(copies)
-}
-
 /// What the node of this number holds: nothing, where it is no honest store.
-#[tactic(auto, using(crate::proofs::Placing::placed_again))]
 pub(crate) fn rows_held<J: Journal>(
     alloc: Global,
     nodes: &[Option<Node<J>>],
@@ -142,10 +118,9 @@ pub(crate) fn rows_held<J: Journal>(
     let Some(store) = store_at(nodes, number) else {
         return Ok(Seq::new(alloc));
     };
-    let mut table = Table::new(alloc);
-    put_rows(alloc, &mut table, store.rows())?;
+    let mut table = store.objects(alloc)?;
     put_decided(alloc, &mut table, nodes, store.prepared())?;
-    copies(alloc, table.rows())
+    table.into_rows(alloc)
 }
 
 // ---- one object
@@ -197,27 +172,26 @@ fn decided_left<'a, J: Journal>(
 #[tactic(auto, using(crate::proofs::Placing::decided_last))]
 fn decided_under<'a, J: Journal>(
     nodes: &[Option<Node<J>>],
-    prepared: &'a [(Tid, Items)],
+    prepared: Held<'a>,
     oid: Oid,
 ) -> Option<(u32, &'a Object)>
-    ensures { option_map (λ found. (found.0, found.1.now)) result ≡ last_under (flat_map (λ p. left_by p.1) (only_decided nodes.now prepared.now)) oid }
+    ensures { option_map (λ found. (found.0, found.1.now)) result ≡ last_under (flat_map (λ p. left_by p.1) (only_decided nodes.now prepared.entry)) oid }
 {
     let mut rest = prepared;
-    'transactions: while let Some((last, before)) = rest.split_last() {
+    'transactions: while let Some(last) = rest.next_back() {
         if let Some(found) = decided_left(nodes, last, oid) {
             return Some(found);
         }
-        rest = before;
     }
     None
 }
 
-/// What stands under a name among rows.
-fn row_under(rows: &[(Oid, u32, Object)], oid: Oid) -> Option<(u32, &Object)>
-    ensures { option_map (λ found. (found.0, found.1.now)) result ≡ under rows.now oid }
+/// What stands under a name in a store.
+fn row_under(store: &Store, oid: Oid) -> Option<(u32, &Object)>
+    ensures { option_map (λ found. (found.0, found.1.now)) result ≡ under store.now.shelf.rows oid }
 {
-    let row = rows.iter().find(|row| row.0 == oid)?;
-    Some((row.1, &row.2))
+    let (version, object) = store.get(oid)?;
+    Some((version, object))
 }
 
 /// What an honest store holds under a name.
@@ -228,7 +202,7 @@ fn held_at<J: Journal>(nodes: &[Option<Node<J>>], oid: Oid) -> Option<(u32, &Obj
     let store = store_at(nodes, usize::from(oid.store))?;
     match decided_under(nodes, store.prepared(), oid) {
         Some(found) => Some(found),
-        None => row_under(store.rows(), oid),
+        None => row_under(store, oid),
     }
 }
 

@@ -1,16 +1,28 @@
 -- Whether items bar a name, list by list.
-use Rattle.std.proofs.Common.{◌≡◌, Bool, ◌||◌, List, [], ◌∷◌, ◌++◌, map, append_assoc, refl, sym, ◌∙◌, ap}
+use Rattle.std.proofs.Common.{◌≡◌, ℕ, Bool, ◌||◌, List, [], ◌∷◌, ◌++◌, map, append_assoc, refl, sym, ◌∙◌, ap}
 use Rattle.std.specs.List.{list_any}
 use Rattle.std.proofs.lemmas.List.Folds.{list_any-append}
 use Rattle.fab_base.specs.declared.object.Oid.{Oid}
+use Rattle.fab_base.specs.declared.object.Object.{Object}
 use Rattle.fab_base.specs.declared.message.Items.{Items}
 use Rattle.fab_base.specs.FlatMap.{is_same, is_among}
 use Rattle.fab_protocol.specs.Stores.{Item, item_name, reads_in, writes_in, creates_in, all_in, changed_by, named_by}
+use Rattle.fab_locks.specs.Indexes.{any_named}
 
 -- a test of names, of what has a name
 pub list_any-map : {X Y : Type 0} (test : Y → Bool) (f : X → Y) (xs : List X) → list_any test (map f xs) ≡ list_any (λ x. test (f x)) xs
 list_any-map test f [] = refl
 list_any-map test f (x ∷ xs) = ap (λ b. test (f x) || b) (list_any-map test f xs)
+
+-- the names of each list of items
+abbrev pub reads_name : Items → Oid → Bool
+reads_name items = any_named {X = Oid × ℕ} (λ r. r.0) items.reads
+
+abbrev pub writes_name : Items → Oid → Bool
+writes_name items = any_named {X = Oid × ℕ × Object} (λ w. w.0) items.writes
+
+abbrev pub creates_name : Items → Oid → Bool
+creates_name items = any_named {X = Oid × Object} (λ c. c.0) items.creates
 
 module _ (o : Oid) (items : Items) where
   by_names : (is : List Item) → is_among o (map item_name is) ≡ list_any (λ i. is_same (item_name i) o) is

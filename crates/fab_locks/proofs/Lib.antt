@@ -1,3 +1,10 @@
 pub mod Tids
 pub mod Barring
 pub mod Conflicting
+pub mod Keys
+pub mod Putting
+pub mod Agreeing
+pub mod Finding
+pub mod Joining
+pub mod Going
+pub mod Walking

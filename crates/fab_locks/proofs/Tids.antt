@@ -26,16 +26,16 @@ pub tid_self : (t : Tid) → is_tid t t ≡ true
 tid_self t = grind (arith, nat_tests)
 
 -- ---- the first is held, or one behind it
-holds_here : (p : Prepared) (ps : List Prepared) (t : Tid) → is_tid p.0 t ≡ true → holds_tid t (p ∷ ps) ≡ true
+pub holds_here : (p : Prepared) (ps : List Prepared) (t : Tid) → is_tid p.0 t ≡ true → holds_tid t (p ∷ ps) ≡ true
 holds_here p ps t e = ap (λ b. b || holds_tid t ps) e
 
 holds_past : (p : Prepared) (ps : List Prepared) (t : Tid) → is_tid p.0 t ≡ false → holds_tid t (p ∷ ps) ≡ holds_tid t ps
 holds_past p ps t e = ap (λ b. b || holds_tid t ps) e
 
-absent_first : (p : Prepared) (ps : List Prepared) (t : Tid) → holds_tid t (p ∷ ps) ≡ false → is_tid p.0 t ≡ false
+pub absent_first : (p : Prepared) (ps : List Prepared) (t : Tid) → holds_tid t (p ∷ ps) ≡ false → is_tid p.0 t ≡ false
 absent_first p ps t h = grind arith
 
-absent_rest : (p : Prepared) (ps : List Prepared) (t : Tid) → holds_tid t (p ∷ ps) ≡ false → holds_tid t ps ≡ false
+pub absent_rest : (p : Prepared) (ps : List Prepared) (t : Tid) → holds_tid t (p ∷ ps) ≡ false → holds_tid t ps ≡ false
 absent_rest p ps t h = sym (holds_past p ps t (absent_first p ps t h)) ∙ h
 
 -- ---- one more
@@ -51,10 +51,10 @@ distinct_push (p ∷ ps) t items h absent =
 
 -- ---- some go
 module _ (test : Prepared → Bool) where
-  kept_here : (p : Prepared) (ps : List Prepared) → test p ≡ true → filter test (p ∷ ps) ≡ p ∷ filter test ps
+  pub kept_here : (p : Prepared) (ps : List Prepared) → test p ≡ true → filter test (p ∷ ps) ≡ p ∷ filter test ps
   kept_here p ps e = rw e refl
 
-  kept_past : (p : Prepared) (ps : List Prepared) → test p ≡ false → filter test (p ∷ ps) ≡ filter test ps
+  pub kept_past : (p : Prepared) (ps : List Prepared) → test p ≡ false → filter test (p ∷ ps) ≡ filter test ps
   kept_past p ps e = rw e refl
 
   absent_filter : (t : Tid) (ps : List Prepared) → holds_tid t ps ≡ false → holds_tid t (filter test ps) ≡ false
@@ -97,7 +97,7 @@ held_tail : (p : Prepared) (ps : List Prepared) (t : Tid) (i : ℕ) → IsHeldAt
 held_tail p ps t i at = record { in_range = omega (arith, at.in_range); tid_here = at.tid_here }
 
 -- the first has the tid, and none behind it
-absent_tail : (p : Prepared) (ps : List Prepared) (t : Tid) → holds_tid p.0 ps ≡ false → is_tid p.0 t ≡ true → holds_tid t ps ≡ false
+pub absent_tail : (p : Prepared) (ps : List Prepared) (t : Tid) → holds_tid p.0 ps ≡ false → is_tid p.0 t ≡ true → holds_tid t ps ≡ false
 absent_tail p ps t h e = ap (λ u. holds_tid u ps) (sym (one_tid p.0 t e)) ∙ h
 
 pub removed_at : (t : Tid) (ps : List Prepared) (i : ℕ) → AreDistinct ps → IsHeldAt t ps i → without t ps ≡ remove ps i

@@ -1,31 +1,48 @@
 //! The transactions that a store holds, in the order in which it took them.
-ghost use Rattle.std.specs.Prelude.{◌≡◌, ◌+◌, ◌<◌, ◌≤◌, ◌++◌, ◌∷◌, ◌==◌, not, [], IsTrue, IsFalse, IsOk, OnOk, OnErr, MatchOption};
+ghost use Rattle.std.specs.Prelude.{◌≡◌, ◌+◌, ◌-◌, ◌<◌, ◌≤◌, ◌++◌, ◌∷◌, ◌==◌, not, [], IsTrue, IsFalse, IsOk, OnOk, OnErr, MatchOption, reverse, vec_capacity, vec_len};
 ghost use Rattle.std.specs.List.{filter};
 ghost use Rattle.fab_protocol.specs.Versions.{is_tid};
 ghost use Rattle.fab_protocol.specs.Stores.{prepared_as, without};
 ghost use Rattle.fab_locks.specs.Conflicts.{AreDistinct, IsHeldAt, holds_tid, first_barring};
 
+use crate::held::Held;
+use crate::indexed::Indexed;
 use crate::items::bars;
 use fab_base::{Items, NoMemory, Oid, Tid};
 use std::alloc::Global;
 use std::marker::Model;
 
+/// So many of the newest may stand in the list.
+const FEW: usize = 8;
+
 /// Transactions with their items, each tid once, in the order of holding. Contracts see them, and
 /// for how many more there is room without taking memory.
-#[derive(Debug, Drop)]
+///
+/// The newest stand in a list, where room is made beforehand, and the others in indexes, which find one of
+/// them, or those that bar a name, without a walk. `settle` leaves few in the list, if there is memory, so
+/// behind it what is asked takes the time of a look-up and of a walk over these few, however many are held.
+/// What comes and goes while it is among the newest costs no more than in a list alone.
+#[derive(Debug)]
 pub struct Locks {
-    held: Vec<(Tid, Items)>,
+    indexed: Indexed,
+    beside: Vec<(Tid, Items)>,
+}
+
+impl Drop for Locks {
+    fn drop(self) {
+        let Locks { indexed, beside } = self;
+    }
 }
 
 impl Model for Locks {
-    ghost use Rattle.std.specs.Prelude.{◌-◌, vec_len, vec_capacity};
+    ghost use Rattle.std.specs.Prelude.{◌-◌, ◌++◌, vec_len, vec_capacity};
     ghost use Rattle.fab_locks.specs.Conflicts.{Holding, AreDistinct};
 
     ghost Value = { Holding };
 
-    ghost view = { λ l. record { held = l.held.items; spare = vec_capacity l.held - vec_len l.held } };
+    ghost view = { λ l. record { held = l.indexed ++ l.beside.items; spare = vec_capacity l.beside - vec_len l.beside } };
 
-    ghost invariant = { λ l. AreDistinct l.held.items };
+    ghost invariant = { λ l. AreDistinct (l.indexed ++ l.beside.items) };
 }
 
 impl Locks {
@@ -34,7 +51,8 @@ impl Locks {
         ensures { result ≡ record { held = []; spare = 0 } }
     {
         Locks {
-            held: Vec::new(alloc),
+            indexed: Indexed::new(alloc),
+            beside: Vec::new(alloc),
         }
     }
 
@@ -46,21 +64,30 @@ impl Locks {
         ensures sure { 0 < self.old.spare → IsOk result }
         ensures spare { self.old.spare ≤ self.new.spare + 1 }
     {
-        Ok(self.held.push((tid, items))?)
+        Ok(self.beside.push((tid, items))?)
+    }
+
+    /// Puts the transactions into the indexes, but for the newest where they are few. What finds no memory
+    /// there stays in the list.
+    pub fn settle(&mut self)
+        ensures held { self.new.held ≡ self.old.held }
+        ensures spare { self.old.spare ≤ self.new.spare }
+    {
+        if self.beside.len() > FEW {
+            self.beside.reverse();
+            put_last_first(&mut self.indexed, &mut self.beside);
+            self.beside.reverse();
+        }
     }
 
     /// The first transaction that bars a name to one that reads it, or that writes or creates it.
     pub fn conflict(&self, oid: Oid, writing: bool) -> Option<Tid>
         ensures { result ≡ first_barring oid writing self.now.held }
     {
-        let mut rest = self.held.as_slice();
-        while let Some((one, others)) = rest.split_first() {
-            if bars(&one.1, oid, writing) {
-                return Some(one.0);
-            }
-            rest = others;
+        match self.indexed.conflict(oid, writing) {
+            Some(tid) => Some(tid),
+            None => first_barring(self.beside.as_slice(), oid, writing),
         }
-        None
     }
 
     /// Lets a transaction go, and gives back its items. It takes no memory.
@@ -69,9 +96,18 @@ impl Locks {
         ensures held { self.new.held ≡ without tid self.old.held }
         ensures spare { self.old.spare ≤ self.new.spare }
     {
-        match place(&self.held, tid) {
-            Some(at) => Some(self.held.remove(at).1),
-            None => None,
+        self.settle();
+        self.free_settled(tid)
+    }
+
+    fn free_settled(&mut self, tid: Tid) -> Option<Items>
+        ensures items { MatchOption result (prepared_as tid self.old.held ≡ []) (λ items. prepared_as tid self.old.held ≡ (tid, items) ∷ []) }
+        ensures held { self.new.held ≡ without tid self.old.held }
+        ensures spare { self.old.spare ≤ self.new.spare }
+    {
+        match self.indexed.free(tid) {
+            Some(items) => Some(items),
+            None => free_beside(&mut self.beside, tid),
         }
     }
 
@@ -80,14 +116,23 @@ impl Locks {
         ensures held { self.new.held ≡ filter (λ p. not (p.0.worker == worker)) self.old.held }
         ensures spare { self.old.spare ≤ self.new.spare }
     {
-        self.held.retain(|one| one.0.worker != worker);
+        self.settle();
+        self.free_all_settled(worker);
+    }
+
+    fn free_all_settled(&mut self, worker: u16)
+        ensures held { self.new.held ≡ filter (λ p. not (p.0.worker == worker)) self.old.held }
+        ensures spare { self.old.spare ≤ self.new.spare }
+    {
+        self.indexed.free_all(worker);
+        self.beside.retain(|one| one.0.worker != worker);
     }
 
     /// Whether the transaction is held.
     pub fn is_held(&self, tid: Tid) -> bool
         ensures { result ≡ holds_tid tid self.now.held }
     {
-        self.held.iter().any(|one| is_one_tid(one.0, tid))
+        self.indexed.is_held(tid) || is_beside(self.beside.as_slice(), tid)
     }
 
     /// Makes room for one more.
@@ -96,16 +141,67 @@ impl Locks {
         ensures held { self.new.held ≡ self.old.held }
         ensures spare { self.old.spare ≤ self.new.spare }
     {
-        self.held.reserve(1)
+        self.beside.reserve(1)
     }
 
     /// The transactions, in the order of holding.
-    pub fn held(&self) -> &[(Tid, Items)]
-        ensures all { result.now ≡ self.now.held }
+    pub fn held(&self) -> Held<'_>
+        ensures all { result ≡ self.now.held }
         ensures distinct { AreDistinct self.now.held }
     {
-        self.held.as_slice()
+        Held {
+            indexed: self.indexed.all(),
+            beside: self.beside.as_slice(),
+        }
     }
+}
+
+/// Puts transactions into the indexes, from the end of a list on, as far as there is memory.
+fn put_last_first(indexed: &mut Indexed, list: &mut Vec<(Tid, Items)>)
+    requires distinct { AreDistinct (indexed.old ++ reverse list.old.items) }
+    ensures all { indexed.new ++ reverse list.new.items ≡ indexed.old ++ reverse list.old.items }
+    ensures spare { vec_capacity list.old - vec_len list.old ≤ vec_capacity list.new - vec_len list.new }
+{
+    'each: while let Some((tid, items)) = list.pop() {
+        if let Err(items) = indexed.add(tid, items) {
+            let _ = list.push((tid, items));
+            return;
+        }
+    }
+}
+
+/// The first of these transactions that bars a name.
+fn first_barring(held: &[(Tid, Items)], oid: Oid, writing: bool) -> Option<Tid>
+    ensures { result ≡ first_barring oid writing held.now }
+{
+    let mut rest = held;
+    while let Some((one, others)) = rest.split_first() {
+        if bars(&one.1, oid, writing) {
+            return Some(one.0);
+        }
+        rest = others;
+    }
+    None
+}
+
+/// Takes a transaction out of these, and gives back its items.
+fn free_beside(held: &mut Vec<(Tid, Items)>, tid: Tid) -> Option<Items>
+    requires distinct { AreDistinct held.old.items }
+    ensures items { MatchOption result (prepared_as tid held.old.items ≡ []) (λ items. prepared_as tid held.old.items ≡ (tid, items) ∷ []) }
+    ensures held { held.new.items ≡ without tid held.old.items }
+    ensures spare { vec_capacity held.old - vec_len held.old ≤ vec_capacity held.new - vec_len held.new }
+{
+    match place(held.as_slice(), tid) {
+        Some(at) => Some(held.remove(at).1),
+        None => None,
+    }
+}
+
+/// Whether one of these transactions has the tid.
+fn is_beside(held: &[(Tid, Items)], tid: Tid) -> bool
+    ensures { result ≡ holds_tid tid held.now }
+{
+    held.iter().any(|one| is_one_tid(one.0, tid))
 }
 
 /// Where a transaction stands.

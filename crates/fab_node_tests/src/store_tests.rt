@@ -123,19 +123,28 @@ fn replies(store: &mut Store, sender: u16, bytes: &[u8], reply: &[u8]) -> Result
     Ok(sent(&store.handle(sender, bytes)?) == reply)
 }
 
-/// The version of the row at a place, 0 where there is none.
-fn version_at(store: &Store, at: usize) -> u32 {
-    match store.rows().get(at) {
-        Some(row) => row.1,
+/// How many transactions are prepared.
+fn prepared_in(store: &Store) -> u32 {
+    let mut count = 0u32;
+    for _ in store.prepared() {
+        count = count.wrapping_add(1);
+    }
+    count
+}
+
+/// The version of the object of a name, 0 where there is none.
+fn version_of(store: &Store, oid: Oid) -> u32 {
+    match store.get(oid) {
+        Some((version, _)) => version,
         None => 0,
     }
 }
 
 fn versions(store: &Store) -> (u32, u32, u32) {
     (
-        version_at(store, 0),
-        version_at(store, 1),
-        version_at(store, 2),
+        version_of(store, FIRST),
+        version_of(store, SECOND),
+        version_of(store, BOX),
     )
 }
 
@@ -158,7 +167,7 @@ fn a_transfer(rt: HostRuntime) -> Result<(), Fail> {
             b"\x01\x05\x00\x00\x00\x00\x00\x01\x00\x00\x00\x01\x00"
         )?
     );
-    assert_eq!(rt; store.prepared().len(), 1);
+    assert_eq!(rt; prepared_in(&store), 1);
     // Another worker can't commit it, and its own does so once.
     assert!(rt;
         store
@@ -179,7 +188,7 @@ fn a_transfer(rt: HostRuntime) -> Result<(), Fail> {
             .is_none()
     );
     assert_eq!(rt; versions(&store), (2, 2, 1));
-    assert_eq!(rt; store.prepared().len(), 0);
+    assert_eq!(rt; prepared_in(&store), 0);
     Ok(())
 }
 
@@ -401,7 +410,7 @@ fn boots_and_last_tids(rt: HostRuntime) -> Result<(), Fail> {
             .entry
             .is_none()
     );
-    assert_eq!(rt; store.prepared().len(), 1);
+    assert_eq!(rt; prepared_in(&store), 1);
     // An attempt of the boot before is old, and the greatest tid is new once.
     assert!(rt; !is_taken(&mut store, alloc, tid(0, 2), &[])?);
     let greatest = Tid {
@@ -419,7 +428,7 @@ fn recovery(rt: HostRuntime) -> Result<(), Fail> {
     let alloc = rt.alloc();
     let rights = rights(alloc)?;
     let (store, step) = Store::recover(alloc, 1, &rights, &[], &[])?;
-    assert_eq!(rt; store.rows().len(), 0);
+    assert_eq!(rt; store.objects(alloc)?.into_rows(alloc)?.len(), 0);
     assert!(rt; sent(&step).is_empty());
     Ok(())
 }

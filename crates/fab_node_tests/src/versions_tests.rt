@@ -1,7 +1,8 @@
-//! A table of one object.
+//! Tables: one of one object, and one of many calls beside a plain list, which soon has more rows than stand
+//! in a list alone.
 
-use fab_base::{Object, Oid, Seq};
-use fab_versions::Table;
+use fab_base::{NoMemory, Object, Oid, Seq};
+use fab_versions::{Table, next_version};
 use std::alloc::Global;
 use std::test::Fail;
 
@@ -37,6 +38,64 @@ fn a_write_raises_the_version(rt: HostRuntime) -> Result<(), Fail> {
     assert!(rt; is_at(table.get(ROOT), 1, 1));
     table.replace(ROOT, thing(rt.alloc(), 2));
     assert!(rt; is_at(table.get(ROOT), 2, 2));
-    assert_eq!(rt; table.rows().len(), 1);
+    assert_eq!(rt; table.into_rows(rt.alloc())?.len(), 1);
+    Ok(())
+}
+
+/// Of each of the first names its version, 0 where it isn't there, and the class of its object.
+type Plain = [(u32, u16); 1500];
+
+fn named(number: u32) -> Oid {
+    Oid { number, ..ROOT }
+}
+
+/// A write of a name, or its first object, in a table and in a plain list: which name and which class,
+/// a number tells.
+fn write(alloc: Global, table: &mut Table, plain: &mut Plain, told: u32) -> Result<(), NoMemory> {
+    let number = told / 65536 % 1500;
+    let class = (told / 1024 % 1000) as u16;
+    let oid = named(number);
+    match table.get(oid) {
+        Some(_) => table.replace(oid, thing(alloc, class)),
+        None => table.put_new(oid, thing(alloc, class))?,
+    }
+    let at = number as usize;
+    plain[at] = (next_version(plain[at].0), class);
+    Ok(())
+}
+
+/// Whether the rows are those of the plain list, in its order.
+fn are_listed(rows: &[(Oid, u32, Object)], plain: &Plain) -> bool {
+    let mut rest = rows;
+    for number in 0..1500 {
+        let (version, class) = plain[number];
+        if version == 0 {
+            continue;
+        }
+        let Some((row, after)) = rest.split_first() else {
+            return false;
+        };
+        if row.0.number as usize != number || row.1 != version || row.2.class != class {
+            return false;
+        }
+        rest = after;
+    }
+    rest.is_empty()
+}
+
+#[test]
+fn a_table_is_a_plain_list(rt: HostRuntime) -> Result<(), Fail> {
+    let alloc = rt.alloc();
+    let mut table = Table::new(alloc);
+    let mut plain = [(0, 0); 1500];
+    let mut told: u32 = 7;
+    for turn in 0..4000u32 {
+        told = told.wrapping_mul(1_664_525).wrapping_add(1_013_904_223);
+        write(alloc, &mut table, &mut plain, told)?;
+        if turn % 50 == 0 {
+            let rows = table.copy(alloc)?.into_rows(alloc)?;
+            assert!(rt; are_listed(rows.as_slice(), &plain));
+        }
+    }
     Ok(())
 }

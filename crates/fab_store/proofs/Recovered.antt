@@ -1,12 +1,11 @@
 -- Records of what was heard, kept again.
-use Rattle.std.proofs.Common.{◌≡◌, ℕ, Option, Some, None, List, [], ◌∷◌, ◌++◌, ◌↔◌, IfSome, refl, sym, ap, ◌∙◌, subst}
+use Rattle.std.proofs.Common.{◌≡◌, ℕ, Option, Some, None, List, [], ◌∷◌, ◌++◌, ◌↔◌, IfSome, refl, ◌∙◌}
 use Rattle.fab_base.specs.declared.message.Message.{Message}
 use Rattle.fab_base.specs.declared.entry.Entry.{Entry}
 use Rattle.fab_base.specs.FlatMap.{FlatMap}
 use Rattle.fab_base.specs.MessageSpelling.{KeepsCounts}
 use Rattle.fab_rights.specs.declared.rights.Rights.{Rights}
 use Rattle.fab_protocol.specs.Stores.{Shelf, hears, keeps, keeps_said, shelf_at_start, shelf_of}
-use Rattle.fab_protocol.specs.Shelves.{CanKeep}
 use Rattle.fab_protocol.proofs.Kept.{says_can_keep}
 use Rattle.fab_store.specs.Histories.{AreReadable, Heard, behind_all, record_in, records_of}
 use Rattle.fab_store.specs.Stock.{AreKept, CanKeepSaid, shelf_behind}

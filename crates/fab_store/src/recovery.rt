@@ -61,9 +61,10 @@ impl Store {
         ensures { IfOk result (λ said. said ≡ asks self.now.shelf) }
     {
         let mut said = silent(self.alloc);
-        for (tid, _items) in self.locks.held() {
-            said.sends
-                .push((tid.worker, Message::Inquire { tid: *tid }))?;
+        let mut rest = self.locks.held();
+        while let Some(transaction) = rest.next() {
+            let tid = transaction.0;
+            said.sends.push((tid.worker, Message::Inquire { tid }))?;
         }
         Ok(said)
     }

@@ -1,11 +1,11 @@
 //! A store's node: what it holds, and what it does at a message.
 
-ghost use Rattle.std.specs.Prelude.{◌≡◌, ◌≤◌, ◌<◌, ◌^◌, Option, None, Some, IfOk, IfSome, OnOk, OnErr, IsTrue, length};
+ghost use Rattle.std.specs.Prelude.{◌≡◌, ◌≤◌, ◌<◌, ◌^◌, Option, None, Some, MatchOption, IfOk, IfSome, OnOk, OnErr, IsTrue, length};
 ghost use Rattle.std.specs.List.{AllByRecursion};
 ghost use Rattle.fab_base.specs.FlatMap.{ascends as roots_ascend};
 ghost use Rattle.fab_base.specs.JournalSpelling.{IsEntry, journal_version};
 ghost use Rattle.fab_wire.specs.Reading.{read_message};
-ghost use Rattle.fab_protocol.specs.Tables.{ascends};
+ghost use Rattle.fab_protocol.specs.Tables.{row_of};
 ghost use Rattle.fab_protocol.specs.Versions.{name_of};
 ghost use Rattle.fab_protocol.specs.Stores.{hears, keeps, keeps_said, shelf_at_start, step_of};
 ghost use Rattle.fab_store.specs.Stock.{CanKeepSaid, HasRoom, HasRoomFor, OnlyGainsRoom, plan_of};
@@ -16,8 +16,8 @@ use crate::plan::StorePlan;
 use crate::senders::none_heard;
 use crate::start::table_at_start;
 use crate::steps::plan_of;
-use fab_base::{Entry, Items, NoMemory, Object, Oid, Tid};
-use fab_locks::Locks;
+use fab_base::{Entry, NoMemory, Object, Oid};
+use fab_locks::{Held, Locks};
 use fab_net::Step;
 use fab_protocol::Sender;
 use fab_rights::Rights;
@@ -99,17 +99,23 @@ impl Store {
         })
     }
 
-    /// The objects, in the order of names, each with its version.
-    pub fn rows(&self) -> &[(Oid, u32, Object)]
-        ensures all { result.now ≡ self.now.shelf.rows }
-        ensures ascending { IsTrue (ascends name_of self.now.shelf.rows) }
+    /// The version and the object of this name, where it is there.
+    pub fn get(&self, oid: Oid) -> Option<(u32, &Object)>
+        ensures found { MatchOption result (row_of name_of self.now.shelf.rows oid ≡ None) (λ found. row_of name_of self.now.shelf.rows oid ≡ Some (oid, found.0, found.1.now)) }
     {
-        self.table.rows()
+        self.table.get(oid)
+    }
+
+    /// The objects with their versions, in a table of its own. Each object is copied once.
+    pub fn objects(&self, alloc: Global) -> Result<Table, NoMemory>
+        ensures rows { IfOk result (λ table. table.rows ≡ self.now.shelf.rows) }
+    {
+        self.table.copy(alloc)
     }
 
     /// The transactions that are prepared, in the order of preparing. Each store has a shelf.
-    pub fn prepared(&self) -> &[(Tid, Items)]
-        ensures all { result.now ≡ self.now.shelf.prepared }
+    pub fn prepared(&self) -> Held<'_>
+        ensures all { result ≡ self.now.shelf.prepared }
         ensures shelf { IsShelf self.now.rights self.now.node self.now.shelf }
     {
         self.locks.held()
@@ -136,6 +142,7 @@ impl Store {
         ensures can { IfOk result (λ plan. CanKeepSaid self.new.rights self.new.node plan.entry self.new.shelf) }
         ensures kept { OnlyGainsRoom self.old self.new }
     {
+        self.locks.settle();
         let said = self.hears(sender, bytes)?;
         if let Some(entry) = &said.entry {
             self.make_room_for(entry)?;

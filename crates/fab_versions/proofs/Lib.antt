@@ -1,2 +1,5 @@
 pub mod Found
+pub mod Merged
+pub mod Trees
+pub mod Whole
 pub mod Written

@@ -1,23 +1,16 @@
--- Rows with versions: what is found at a place, and what a write there leaves.
-use Rattle.std.proofs.Common.{◌≡◌, ℕ, true, get_or, set, Some, IsSome, is_some, refl, sym, ◌∙◌, ap}
+-- Rows with versions: what is found at a place.
+use Rattle.std.proofs.Common.{◌≡◌, ℕ, true, get_or, Some, IsSome, is_some, sym, ◌∙◌, ap}
 use Rattle.std.proofs.lemmas.Bool.{false≢true}
 use Rattle.fab_base.specs.declared.object.Oid.{Oid}
-use Rattle.fab_base.specs.declared.object.Object.{Object}
-use Rattle.fab_protocol.specs.Tables.{row_of, placed, ascends}
-use Rattle.fab_protocol.specs.Versions.{Row, Rows, name_of, version_of, risen}
-use Rattle.fab_protocol.proofs.VersionLaws.{version_of_row}
+use Rattle.fab_protocol.specs.Tables.{row_of, ascends}
+use Rattle.fab_protocol.specs.Versions.{Row, Rows, name_of}
 use Rattle.fab_versions.specs.Places.{IsAt, IsGap}
-use Rattle.fab_versions.proofs.Found.{row_at, row_in_gap, placed_at}
+use Rattle.fab_versions.proofs.Found.{row_at, row_in_gap}
 
 -- d is the row at a place
 module _ (rows : Rows) (h : ascends name_of rows ≡ true) (o : Oid) (i : ℕ) (at : IsAt name_of rows o i) (d : Row) (e : d ≡ get_or rows i d) where
   pub found_at : row_of name_of rows o ≡ Some (o, d.1, d.2)
   found_at = row_at name_of rows h o i at d ∙ ap Some (sym e ∙ ap (λ n. (n, d.1, d.2)) (ap (λ r. r.0) e ∙ at.name_here d))
-
-  pub written_at : (x : Object) → set rows i (o, risen d.1, x) ≡ placed name_of (o, risen (version_of rows o), x) rows
-  written_at x =
-      sym (placed_at name_of rows h o i at (o, risen d.1, x) refl)
-      ∙ ap (λ v. placed name_of (o, risen v, x) rows) (sym (version_of_row rows o (o, d.1, d.2) found_at))
 
 -- a name that is there has no place to go to
 pub not_in_gap : (rows : Rows) (o : Oid) (i : ℕ) → IsGap name_of rows o i → IsSome (row_of name_of rows o) → ⊥

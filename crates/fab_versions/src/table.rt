@@ -1,31 +1,44 @@
 //! Objects with their versions, in the order of names.
 ghost use Rattle.std.specs.Prelude.{◌≡◌, ◌+◌, ◌<◌, ◌≤◌, [], None, Some, MatchOption, IsTrue, IsSome, IsOk, IfOk, IfErr, OnOk, OnErr};
-ghost use Rattle.fab_protocol.specs.Tables.{row_of, placed, ascends};
+ghost use Rattle.fab_protocol.specs.Tables.{row_of, placed, placed_all, ascends};
 ghost use Rattle.fab_protocol.specs.Versions.{name_of, version_of, risen, begun};
-ghost use Rattle.fab_versions.specs.Places.{IsAt, IsGap};
+ghost use Rattle.fab_versions.specs.Holdings.{rows_in, rows_of};
 
-use fab_base::{NoMemory, Object, Oid};
+use crate::row_list::RowList;
+use fab_base::{NoMemory, Object, Oid, Seq};
 use std::alloc::Global;
+use std::collections::BTreeMap;
 use std::marker::Model;
+
+/// As long as there are fewer rows, they stand in a list.
+const FEW: usize = 1024;
 
 /// Objects with their versions, each name once, in the order of names. Contracts see these rows,
 /// and for how many more there is room without taking memory.
-#[derive(Debug, Drop)]
+///
+/// Few rows stand in a list alone, where a look-up is a binary search and a new name moves the rows
+/// behind it. More go into a tree, so to find one or to put one takes time that grows as the logarithm
+/// of their number. A tree can't be asked for room beforehand. Where it finds no memory for a new name,
+/// the row stays in the list, which can: the spare room is the list's. At the next put such rows go
+/// into the tree, if there is memory then.
+#[derive(Debug)]
 pub struct Table {
-    rows: Vec<(Oid, u32, Object)>,
+    tree: BTreeMap<Oid, (u32, Object)>,
+    beside: RowList,
+}
+
+impl Drop for Table {
+    fn drop(self) {
+        let Table { tree, beside } = self;
+    }
 }
 
 impl Model for Table {
-    ghost use Rattle.std.specs.Prelude.{◌-◌, IsTrue, vec_len, vec_capacity};
-    ghost use Rattle.fab_protocol.specs.Tables.{ascends};
-    ghost use Rattle.fab_protocol.specs.Versions.{name_of};
-    ghost use Rattle.fab_versions.specs.Holdings.{Holding};
+    ghost use Rattle.fab_versions.specs.Holdings.{Holding, rows_of};
 
     ghost Value = { Holding };
 
-    ghost view = { λ t. record { rows = t.rows.items; spare = vec_capacity t.rows - vec_len t.rows } };
-
-    ghost invariant = { λ t. IsTrue (ascends name_of t.rows.items) };
+    ghost view = { λ t. record { rows = rows_of t.tree.entries t.beside.rows; spare = t.beside.spare } };
 }
 
 impl Table {
@@ -34,7 +47,8 @@ impl Table {
         ensures { result ≡ record { rows = []; spare = 0 } }
     {
         Table {
-            rows: Vec::new(alloc),
+            tree: BTreeMap::new(alloc),
+            beside: RowList::new(alloc),
         }
     }
 
@@ -42,16 +56,16 @@ impl Table {
     pub fn get(&self, oid: Oid) -> Option<(u32, &Object)>
         ensures { MatchOption result (row_of name_of self.now.rows oid ≡ None) (λ found. row_of name_of self.now.rows oid ≡ Some (oid, found.0, found.1.now)) }
     {
-        match place(&self.rows, oid) {
-            Ok(at) => {
-                let row = &self.rows[at];
-                Some((row.1, &row.2))
-            }
-            Err(_) => None,
+        match self.beside.get(oid) {
+            Some((version, object)) => Some((version, object)),
+            None => match self.tree.get(&oid) {
+                Some(leaf) => Some((leaf.0, &leaf.1)),
+                None => None,
+            },
         }
     }
 
-    /// Puts an object of a new name, at version 1. With spare room it takes no memory.
+    /// Puts an object of a new name, at version 1. With spare room it does so without memory, too.
     pub fn put_new(&mut self, oid: Oid, object: Object) -> Result<(), NoMemory>
         requires absent { row_of name_of self.old.rows oid ≡ None }
         ensures ok { OnOk result (self.new.rows ≡ placed name_of (begun (oid, object)) self.old.rows) }
@@ -59,14 +73,11 @@ impl Table {
         ensures sure { 0 < self.old.spare → IsOk result }
         ensures spare { self.old.spare ≤ self.new.spare + 1 }
     {
-        match place(&self.rows, oid) {
-            Ok(_) => unreachable!(),
-            Err(at) => Ok(self.rows.insert(at, (oid, 1, object))?),
-        }
+        self.put(oid, 1, object)
     }
 
     /// Puts an object at a version, in the place of the one of its name or beside the others. Only a
-    /// new name takes memory, and none where there is spare room.
+    /// new name takes memory, and with spare room it is put without memory, too.
     pub fn put(&mut self, oid: Oid, version: u32, object: Object) -> Result<(), NoMemory>
         ensures ok { OnOk result (self.new.rows ≡ placed name_of (oid, version, object) self.old.rows) }
         ensures err { OnErr result (self.new.rows ≡ self.old.rows) }
@@ -75,12 +86,43 @@ impl Table {
         ensures there { IsSome (row_of name_of self.old.rows oid) → IsOk result }
         ensures same_room { IsSome (row_of name_of self.old.rows oid) → self.old.spare ≤ self.new.spare }
     {
-        match place(&self.rows, oid) {
-            Ok(at) => {
-                self.rows[at] = (oid, version, object);
+        if self.tree.is_empty() && self.beside.len() < FEW {
+            self.beside.put(oid, version, object)?;
+            return Ok(());
+        }
+        self.settle();
+        self.put_among_many(oid, version, object)
+    }
+
+    /// Rows that stand beside the tree go into it, as far as there is memory.
+    fn settle(&mut self)
+        ensures rows { self.new.rows ≡ self.old.rows }
+        ensures spare { self.old.spare ≤ self.new.spare }
+    {
+        move_into_tree(&mut self.tree, &mut self.beside);
+    }
+
+    /// Puts an object at a version: into the tree, or beside it where the name stands there or where
+    /// the tree finds no memory.
+    fn put_among_many(&mut self, oid: Oid, version: u32, object: Object) -> Result<(), NoMemory>
+        ensures ok { OnOk result (self.new.rows ≡ placed name_of (oid, version, object) self.old.rows) }
+        ensures err { OnErr result (self.new.rows ≡ self.old.rows) }
+        ensures sure { 0 < self.old.spare → IsOk result }
+        ensures spare { self.old.spare ≤ self.new.spare + 1 }
+        ensures there { IsSome (row_of name_of self.old.rows oid) → IsOk result }
+        ensures same_room { IsSome (row_of name_of self.old.rows oid) → self.old.spare ≤ self.new.spare }
+    {
+        walks_in_order(&self.tree);
+        if self.beside.has(oid) {
+            self.beside.put(oid, version, object)?;
+            return Ok(());
+        }
+        match put_in_tree(&mut self.tree, oid, version, object) {
+            Ok(()) => Ok(()),
+            Err(object) => {
+                self.beside.put(oid, version, object)?;
                 Ok(())
             }
-            Err(at) => Ok(self.rows.insert(at, (oid, version, object))?),
         }
     }
 
@@ -90,30 +132,48 @@ impl Table {
         ensures rows { self.new.rows ≡ placed name_of (oid, risen (version_of self.old.rows oid), object) self.old.rows }
         ensures spare { self.old.spare ≤ self.new.spare }
     {
-        match place(&self.rows, oid) {
-            Ok(at) => {
-                let version = next_version(self.rows[at].1);
-                self.rows[at] = (oid, version, object);
+        match self.get(oid) {
+            Some((version, _)) => {
+                let _ = self.put(oid, next_version(version), object);
             }
-            Err(_) => unreachable!(),
+            None => unreachable!(),
         }
     }
 
-    /// Makes room for so many more rows.
+    /// Makes room for so many more rows, for which a put then needs no memory.
     pub fn reserve(&mut self, more: u32) -> Result<(), NoMemory>
         ensures made { OnOk result (more ≤ self.new.spare) }
         ensures rows { self.new.rows ≡ self.old.rows }
         ensures spare { self.old.spare ≤ self.new.spare }
     {
-        self.rows.reserve(more as usize)
+        self.beside.reserve(more)
     }
 
-    /// The rows, in the order of names.
-    pub fn rows(&self) -> &[(Oid, u32, Object)]
-        ensures all { result.now ≡ self.now.rows }
+    /// A table of the same rows. Each object is copied once.
+    pub fn copy(&self, alloc: Global) -> Result<Table, NoMemory>
+        ensures rows { IfOk result (λ copy. copy.rows ≡ self.now.rows) }
         ensures ascending { IsTrue (ascends name_of self.now.rows) }
     {
-        self.rows.as_slice()
+        walks_in_order(&self.tree);
+        let mut copy = Table::new(alloc);
+        put_leaves(alloc, &mut copy, &self.tree)?;
+        put_rows(alloc, &mut copy, self.beside.as_slice())?;
+        Ok(copy)
+    }
+
+    /// The rows, in the order of names. No object is copied.
+    pub fn into_rows(self, alloc: Global) -> Result<Seq<(Oid, u32, Object)>, NoMemory>
+        ensures rows { IfOk result (λ rows. rows ≡ self.rows) }
+        ensures ascending { IsTrue (ascends name_of self.rows) }
+    {
+        let Table { tree, beside } = self;
+        walks_in_order(&tree);
+        if tree.is_empty() {
+            return Ok(Seq::from_vec(beside.into_vec()));
+        }
+        let mut rows = RowList::from_vec(rows_in(alloc, tree)?);
+        rows.put_all(beside.into_vec())?;
+        Ok(Seq::from_vec(rows.into_vec()))
     }
 }
 
@@ -128,11 +188,87 @@ pub fn next_version(version: u32) -> u32
     }
 }
 
-/// Where the row of this name stands, or where it would go.
-fn place(rows: &[(Oid, u32, Object)], oid: Oid) -> Result<usize, usize>
-    requires { IsTrue (ascends name_of rows.now) }
-    ensures found { IfOk result (IsAt name_of rows.now oid) }
-    ensures absent { IfErr result (IsGap name_of rows.now oid) }
+/// Does nothing: it is there for what its contract says of the order of a tree.
+fn walks_in_order(tree: &BTreeMap<Oid, (u32, Object)>)
+    ensures { IsTrue (ascends name_of (rows_in tree.now.entries)) }
 {
-    rows.binary_search_by_key(&oid, |row| row.0)
+    let _ = tree.len();
+}
+
+/// Puts an object into a tree. Where there is no memory for its name, the tree stays as it was, and
+/// the object comes back.
+#[tactic(auto, using(crate::proofs::Trees::no_row))]
+fn put_in_tree(
+    tree: &mut BTreeMap<Oid, (u32, Object)>,
+    oid: Oid,
+    version: u32,
+    object: Object,
+) -> Result<(), Object>
+    ensures ok { OnOk result (rows_in tree.new.entries ≡ placed name_of (oid, version, object) (rows_in tree.old.entries)) }
+    ensures err { OnErr result (tree.new.entries ≡ tree.old.entries) }
+    ensures absent { OnErr result (row_of name_of (rows_in tree.old.entries) oid ≡ None) }
+    ensures back { IfErr result (λ back. back ≡ object) }
+{
+    match tree.insert(oid, (version, object)) {
+        Ok(_) => Ok(()),
+        Err(refused) => {
+            let (_, (_, back)) = refused.value;
+            Err(back)
+        }
+    }
+}
+
+/// Rows go from a list into a tree, the last first, as far as there is memory.
+fn move_into_tree(tree: &mut BTreeMap<Oid, (u32, Object)>, list: &mut RowList)
+    ensures rows { rows_of tree.new.entries list.new.rows ≡ rows_of tree.old.entries list.old.rows }
+    ensures spare { list.old.spare ≤ list.new.spare }
+{
+    'rows: while let Some((oid, version, object)) = list.pop() {
+        walks_in_order(tree);
+        if let Err(back) = put_in_tree(tree, oid, version, object) {
+            let _ = list.put(oid, version, back);
+            return;
+        }
+    }
+}
+
+/// Copies of the rows of a tree are put into a table.
+fn put_leaves(
+    alloc: Global,
+    table: &mut Table,
+    tree: &BTreeMap<Oid, (u32, Object)>,
+) -> Result<(), NoMemory>
+    ensures { OnOk result (table.new.rows ≡ placed_all name_of (rows_in tree.now.entries) table.old.rows) }
+{
+    for (oid, leaf) in tree {
+        table.put(*oid, leaf.0, leaf.1.copy(alloc)?)?;
+    }
+    Ok(())
+}
+
+/// Copies of rows are put into a table.
+fn put_rows(alloc: Global, table: &mut Table, rows: &[(Oid, u32, Object)]) -> Result<(), NoMemory>
+    ensures { OnOk result (table.new.rows ≡ placed_all name_of rows.now table.old.rows) }
+{
+    let mut rest = rows;
+    'rows: while let Some((row, after)) = rest.split_first() {
+        table.put(row.0, row.1, row.2.copy(alloc)?)?;
+        rest = after;
+    }
+    Ok(())
+}
+
+/// The rows of a tree, in its order. No object is copied.
+fn rows_in(
+    alloc: Global,
+    tree: BTreeMap<Oid, (u32, Object)>,
+) -> Result<Vec<(Oid, u32, Object)>, NoMemory>
+    ensures { IfOk result (λ rows. rows.items ≡ rows_in tree.entries) }
+{
+    let mut rows = Vec::new(alloc);
+    rows.reserve(tree.len())?;
+    for (oid, (version, object)) in tree {
+        rows.push((oid, version, object))?;
+    }
+    Ok(rows)
 }

@@ -1,4 +1,4 @@
-use Rattle.std.proofs.Common.{◌≡◌, [], rules}
+use Rattle.std.proofs.Common.{◌≡◌, ◌-◌, [], ◌++◌, take, ap, ◌∙◌}
 use Rattle.fab_core.proofs.Taking.{room_behind, room_here}
 use Rattle.fab_core.proofs.AtStart.{all_back, back_next}
 use Rattle.fab_core.proofs.making.hand_back.Goals as goal
@@ -19,6 +19,8 @@ made-preserved g c =
 pub returns : goal.returns
 returns g c =
     let J = g.J.Journal in
-    let none : c.made.made.items ≡ [] = search rules in
+    let last = c.in_default.ensures in
+    let none : c.made.made.items ≡ [] =
+    last.items ∙ ap (λ items. items ++ []) (last.rest ∙ ap (λ len. take (len - 1) c.made.made.items) last.cases.0) in
     all_back (λ journal. record { content = J.content journal; synced = J.synced journal; room = J.room journal; faults = J.faults journal; sure = J.sure journal })
     c.made.journals.items c.reverse.new.self.items c.made.made.items _ c.reverse.ensures.items none c.made.invariant.taken

@@ -1,4 +1,4 @@
-use Rattle.std.proofs.Common.{◌≡◌, [], ap, sym, subst, ◌∙◌, map}
+use Rattle.std.proofs.Common.{◌≡◌, [], ap, sym, subst, map}
 use Rattle.std.specs.List.{range_with_len}
 use Rattle.fab_rights.specs.declared.rights.Rights.{Rights}
 use Rattle.fab_protocol.specs.Stores.{Shelf, shelf_at_start, unheard}
@@ -6,11 +6,11 @@ use Rattle.fab_protocol.proofs.ShelfKept.{start_is}
 use Rattle.fab_store.specs.Stock.{IsStore}
 use Rattle.fab_store.proofs.store.Store.make.Goals as goal
 
-pub invariant_of-result-2 : goal.invariant_of-result-2
-invariant_of-result-2 c =
+pub invariant_of-result : goal.invariant_of-result
+invariant_of-result c =
     let s = c.args.node in
     let roots = c.args.roots.now in
-    let rows : c.table.inside.rows.items ≡ (shelf_at_start roots s).rows = ap (λ h. h.rows) c.table.view_is ∙ c.in_ok-table.ensures in
+    let rows : c.in_ok-table.table.rows ≡ (shelf_at_start roots s).rows = c.in_ok-table.ensures in
     let held : c.new.result.held ≡ [] = ap (λ h. h.held) c.new.ensures in
     let senders : c.in_ok-none_heard.field-0.items ≡ map unheard (range_with_len 0 64) = c.in_ok-none_heard.ensures in
     let start : IsStore c.args.rights.now s (shelf_at_start roots s) = record {
@@ -18,6 +18,6 @@ invariant_of-result-2 c =
       shelf = start_is c.args.rights.now roots s c.requires.ascending c.requires.fields;
     } in
     let copied : c.in_ok-copy.field-0 ≡ c.args.rights.now = c.in_ok-copy.ensures in
-    let made : Shelf = record { rows = c.table.inside.rows.items; prepared = c.new.result.held; senders = c.in_ok-none_heard.field-0.items } in
+    let made : Shelf = record { rows = c.in_ok-table.table.rows; prepared = c.new.result.held; senders = c.in_ok-none_heard.field-0.items } in
     let same : shelf_at_start roots s ≡ made = λ i. record { rows = sym rows i; prepared = sym held i; senders = sym senders i } in
     subst (λ (r : Rights). IsStore r s made) (sym copied) (subst (λ (x : Shelf). IsStore c.args.rights.now s x) same start)

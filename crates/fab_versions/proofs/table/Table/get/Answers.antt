@@ -1,20 +1,23 @@
-use Rattle.std.proofs.Common.{ap, sym, ◌∙◌, subst}
+use Rattle.std.proofs.Common.{Some, None, ap, sym, ◌∙◌}
 use Rattle.fab_protocol.specs.Tables.{row_of}
 use Rattle.fab_protocol.specs.Versions.{name_of}
-use Rattle.fab_versions.specs.Places.{IsAt, IsGap}
-use Rattle.fab_versions.proofs.Found.{row_in_gap}
-use Rattle.fab_versions.proofs.Written.{found_at}
+use Rattle.fab_versions.proofs.Whole.{found_beside, found_in_tree}
 use Rattle.fab_versions.proofs.table.Table.get.Goals as goal
 
--- the row that is read has the name
-pub returns-in-Ok : goal.returns-in-Ok
-returns-in-Ok c =
-    let at = subst (λ l. IsAt name_of l c.args.oid c.in-Ok.at) c.deref.ensures.value c.in-Ok.ensures.found in
+-- beside the tree
+pub returns-in-Some : goal.returns-in-Some
+returns-in-Some c =
     ap (λ h. row_of name_of h.rows c.args.oid) (sym c.self.view_is)
-    ∙ found_at c.self.inside.rows.items c.self.invariant c.args.oid c.in-Ok.at at c.index-row.result.now c.index-row.ensures
+    ∙ found_beside c.self.inside.tree.entries c.self.inside.beside.rows c.get.ensures.ascending c.args.oid (c.args.oid, c.in-Some.version, c.in-Some.object.now) c.in-Some.ensures.found
 
--- no row has it
-pub returns-in-Err : goal.returns-in-Err
-returns-in-Err c =
-    let gap = subst (λ l. IsGap name_of l c.args.oid c.in-Err.field-0) c.deref.ensures.value c.in-Err.ensures.absent in
-    ap (λ h. row_of name_of h.rows c.args.oid) (sym c.self.view_is) ∙ row_in_gap name_of c.self.inside.rows.items c.args.oid c.in-Err.field-0 gap
+-- in the tree
+pub returns-in-Some-get : goal.returns-in-Some-get
+returns-in-Some-get c =
+    ap (λ h. row_of name_of h.rows c.args.oid) (sym c.self.view_is)
+    ∙ found_in_tree c.self.inside.tree.entries c.self.inside.beside.rows c.get.ensures.ascending c.args.oid (Some c.in-Some-get.leaf.now) c.in-None.ensures.found c.in-Some-get.ensures.value
+
+-- nowhere
+pub returns-in-None-get : goal.returns-in-None-get
+returns-in-None-get c =
+    ap (λ h. row_of name_of h.rows c.args.oid) (sym c.self.view_is)
+    ∙ found_in_tree c.self.inside.tree.entries c.self.inside.beside.rows c.get.ensures.ascending c.args.oid None c.in-None.ensures.found c.in-None-get.ensures.value

@@ -1,0 +1,165 @@
+//! Rows in a vector, in the order of names.
+ghost use Rattle.std.specs.Prelude.{◌≡◌, ◌+◌, ◌<◌, ◌≤◌, [], None, Some, MatchOption, IsTrue, IsSome, IsOk, is_some, IfOk, IfErr, IfSome, IfNone, OnOk, OnErr, length};
+ghost use Rattle.fab_protocol.specs.Tables.{row_of, placed, placed_all, ascends};
+ghost use Rattle.fab_protocol.specs.Versions.{name_of};
+ghost use Rattle.fab_versions.specs.Places.{IsAt, IsGap};
+
+use fab_base::{NoMemory, Object, Oid};
+use std::alloc::Global;
+use std::marker::Model;
+
+/// Objects with their versions, each name once, in the order of names. Contracts see these rows,
+/// and for how many more there is room without taking memory. A new name moves all rows behind it,
+/// so this is for few rows, or for such as come in their order.
+#[derive(Debug)]
+pub(crate) struct RowList {
+    rows: Vec<(Oid, u32, Object)>,
+}
+
+impl Drop for RowList {
+    fn drop(self) {
+        let RowList { rows } = self;
+    }
+}
+
+impl Model for RowList {
+    ghost use Rattle.std.specs.Prelude.{◌-◌, IsTrue, vec_len, vec_capacity};
+    ghost use Rattle.fab_protocol.specs.Tables.{ascends};
+    ghost use Rattle.fab_protocol.specs.Versions.{name_of};
+    ghost use Rattle.fab_versions.specs.Holdings.{Holding};
+
+    ghost Value = { Holding };
+
+    ghost view = { λ t. record { rows = t.rows.items; spare = vec_capacity t.rows - vec_len t.rows } };
+
+    ghost invariant = { λ t. IsTrue (ascends name_of t.rows.items) };
+}
+
+impl RowList {
+    /// No rows. It takes no memory.
+    pub(crate) fn new(alloc: Global) -> RowList
+        ensures { result ≡ record { rows = []; spare = 0 } }
+    {
+        RowList {
+            rows: Vec::new(alloc),
+        }
+    }
+
+    /// The rows of a vector, without taking memory.
+    pub(crate) fn from_vec(rows: Vec<(Oid, u32, Object)>) -> RowList
+        requires { IsTrue (ascends name_of rows.items) }
+        ensures { result.rows ≡ rows.items }
+    {
+        RowList { rows }
+    }
+
+    /// The vector of the rows, without taking memory.
+    pub(crate) fn into_vec(self) -> Vec<(Oid, u32, Object)>
+        ensures rows { result.items ≡ self.rows }
+        ensures ascending { IsTrue (ascends name_of self.rows) }
+    {
+        let RowList { rows } = self;
+        rows
+    }
+
+    /// How many rows there are.
+    pub(crate) fn len(&self) -> usize
+        ensures count { result ≡ length self.now.rows }
+        ensures ascending { IsTrue (ascends name_of self.now.rows) }
+    {
+        self.rows.len()
+    }
+
+    /// The rows, in the order of names.
+    pub(crate) fn as_slice(&self) -> &[(Oid, u32, Object)]
+        ensures { result.now ≡ self.now.rows }
+    {
+        self.rows.as_slice()
+    }
+
+    /// The version and the object of this name, where it is there.
+    pub(crate) fn get(&self, oid: Oid) -> Option<(u32, &Object)>
+        ensures found { MatchOption result (row_of name_of self.now.rows oid ≡ None) (λ found. row_of name_of self.now.rows oid ≡ Some (oid, found.0, found.1.now)) }
+        ensures ascending { IsTrue (ascends name_of self.now.rows) }
+    {
+        match place(&self.rows, oid) {
+            Ok(at) => {
+                let row = &self.rows[at];
+                Some((row.1, &row.2))
+            }
+            Err(_) => None,
+        }
+    }
+
+    /// Whether a row has this name.
+    pub(crate) fn has(&self, oid: Oid) -> bool
+        ensures has { result ≡ is_some (row_of name_of self.now.rows oid) }
+        ensures ascending { IsTrue (ascends name_of self.now.rows) }
+    {
+        match self.get(oid) {
+            Some(_) => true,
+            None => false,
+        }
+    }
+
+    /// Puts an object at a version, in the place of the one of its name or beside the others. Only a
+    /// new name takes memory, and none where there is spare room.
+    pub(crate) fn put(&mut self, oid: Oid, version: u32, object: Object) -> Result<(), NoMemory>
+        ensures ok { OnOk result (self.new.rows ≡ placed name_of (oid, version, object) self.old.rows) }
+        ensures err { OnErr result (self.new.rows ≡ self.old.rows) }
+        ensures sure { 0 < self.old.spare → IsOk result }
+        ensures spare { self.old.spare ≤ self.new.spare + 1 }
+        ensures there { IsSome (row_of name_of self.old.rows oid) → IsOk result }
+        ensures same_room { IsSome (row_of name_of self.old.rows oid) → self.old.spare ≤ self.new.spare }
+    {
+        match place(&self.rows, oid) {
+            Ok(at) => {
+                self.rows[at] = (oid, version, object);
+                Ok(())
+            }
+            Err(at) => Ok(self.rows.insert(at, (oid, version, object))?),
+        }
+    }
+
+    /// Takes the last row out. It takes no memory.
+    pub(crate) fn pop(&mut self) -> Option<(Oid, u32, Object)>
+        ensures none { IfNone result (self.new ≡ self.old) }
+        ensures rows { IfSome result (λ row. self.old.rows ≡ placed name_of row self.new.rows) }
+        ensures absent { IfSome result (λ row. row_of name_of self.new.rows row.0 ≡ None) }
+        ensures ascending { IsTrue (ascends name_of self.new.rows) }
+        ensures fewer { IfSome result (λ _. length self.new.rows < length self.old.rows) }
+        ensures spare { IfSome result (λ _. self.old.spare < self.new.spare) }
+    {
+        self.rows.pop()
+    }
+
+    /// Puts rows one after the other.
+    pub(crate) fn put_all(&mut self, rows: Vec<(Oid, u32, Object)>) -> Result<(), NoMemory>
+        ensures { OnOk result (self.new.rows ≡ placed_all name_of rows.items self.old.rows) }
+    {
+        let mut rest = rows;
+        rest.reverse();
+        while let Some((oid, version, object)) = rest.pop() {
+            self.put(oid, version, object)?;
+        }
+        Ok(())
+    }
+
+    /// Makes room for so many more rows.
+    pub(crate) fn reserve(&mut self, more: u32) -> Result<(), NoMemory>
+        ensures made { OnOk result (more ≤ self.new.spare) }
+        ensures rows { self.new.rows ≡ self.old.rows }
+        ensures spare { self.old.spare ≤ self.new.spare }
+    {
+        self.rows.reserve(more as usize)
+    }
+}
+
+/// Where the row of this name stands, or where it would go.
+fn place(rows: &[(Oid, u32, Object)], oid: Oid) -> Result<usize, usize>
+    requires { IsTrue (ascends name_of rows.now) }
+    ensures found { IfOk result (IsAt name_of rows.now oid) }
+    ensures absent { IfErr result (IsGap name_of rows.now oid) }
+{
+    rows.binary_search_by_key(&oid, |row| row.0)
+}
