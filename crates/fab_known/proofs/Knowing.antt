@@ -1,20 +1,20 @@
 -- A worker's request is run on: what is kept of its last run, and what comes of it.
-use Rattle.std.proofs.Common.{◌≡◌, ℕ, ◌==◌, Bool, true, false, not, ◌&&◌, List, [], ◌∷◌, ◌++◌, length, length-append, take, Option, Some, None, refl, sym, ap, ◌∙◌, subst, arith}
-use Rattle.std.proofs.lemmas.Bool.{false≢true}
-use Rattle.std.proofs.lemmas.Bool.Decides.{nat_tests}
-use Rattle.std.proofs.lemmas.List.{map-append, take-append-le, take_all, take_at}
+use Rattle.std.proofs.Common.{◌≡◌, ℕ, ◌==◌, Bool, true, false, not, ◌&&◌, List, [], ◌∷◌, ◌++◌, length, take, Option, Some, None, refl, sym, ap, ◌∙◌, subst, arith}
+use Rattle.std.proofs.lemmas.Bool.{and_parts, eqb-true, not-true}
+use Rattle.std.proofs.lemmas.List.{map-append, take_at}
 use Rattle.fab_base.specs.declared.object.Object.{Object}
 use Rattle.fab_base.specs.declared.object.Oid.{Oid}
 use Rattle.fab_base.specs.declared.object.Tid.{Tid}
 use Rattle.fab_base.specs.declared.object.Value.{Value}
 use Rattle.fab_base.specs.FlatMap.{FlatMap, is_same, map_of, put}
 use Rattle.fab_base.proofs.NameOrder.{one_name}
+use Rattle.fab_integrity.proofs.Tids.{tid_is as one_tid}
 use Rattle.fab_map.proofs.Rows.{put_more}
 use Rattle.fab_language.specs.Meaning.{Meant}
 use Rattle.fab_meaning.specs.declared.paused.Paused.{Paused}
 use Rattle.fab_meaning.specs.declared.paused.Turn.{Turn}
 use Rattle.fab_meaning.specs.Jobs.{Job, answered}
-use Rattle.fab_meaning.specs.Turns.{IsOver, IsPausedAt, Turns, Waits}
+use Rattle.fab_meaning.specs.Turns.{IsOver, IsPausedAt, Turns}
 use Rattle.fab_protocol.specs.Versions.{Row, Rows, is_made_in, is_tid, objects_of}
 use Rattle.fab_release.specs.Bundles.{erased_of}
 use Rattle.fab_rights.specs.Computed.{has_bit}
@@ -22,27 +22,7 @@ use Rattle.fab_settings.specs.Settings.{request_at}
 use Rattle.fab_tree.specs.declared.resolved.Request.{Request}
 use Rattle.fab_known.specs.declared.known.Last.{Last}
 use Rattle.fab_known.specs.Knowing.{Lacks, Runner, ran_by}
-use Rattle.fab_known.specs.Lasts.{IsAnswer, IsKnown, IsLast, IsRun, IsTurned, PausesSo, job_over}
-
--- ---- tests
-
-both : (a b : Bool) → (a && b) ≡ true → (a ≡ true) × (b ≡ true)
-both true true e = (refl, refl)
-both true false e = absurd (false≢true e)
-both false b e = absurd (false≢true e)
-
-not_so : (b : Bool) → not b ≡ true → b ≡ false
-not_so true e = absurd (false≢true e)
-not_so false e = refl
-
-number_is : (m n : ℕ) → (m == n) ≡ true → m ≡ n
-number_is m n e = grind (arith, nat_tests)
-
-one_tid : (t u : Tid) → is_tid t u ≡ true → t ≡ u
-one_tid t u e =
-    let first = both (t.worker == u.worker) ((t.boot == u.boot) && (t.number == u.number)) e in
-    let rest = both (t.boot == u.boot) (t.number == u.number) first.1 in
-    λ i. record { worker = number_is t.worker u.worker first.0 i; boot = number_is t.boot u.boot rest.0 i; number = number_is t.number u.number rest.1 i }
+use Rattle.fab_known.specs.Lasts.{IsAnswer, IsLast, IsRun, IsTurned, PausesSo, job_over}
 
 -- ---- the object that lacked is known behind the rows of the last run
 
@@ -57,44 +37,24 @@ is_answer rows before row last number t x split e copy =
     let b = is_tid last.tid t in
     let c = length before == last.rows in
     let d = is_same row.0 last.pause.oid in
-    let one = both (a && b && c && d) (not (is_made_in t last.pause.oid)) e in
-    let two = both (a && b && c) d one.0 in
-    let three = both (a && b) c two.0 in
-    let four = both a b three.0 in
-    let front : take last.rows rows ≡ before = ap (take last.rows) split ∙ take_at before (row ∷ []) last.rows (number_is (length before) last.rows three.1) in
+    let one = and_parts (a && b && c && d) (not (is_made_in t last.pause.oid)) e in
+    let two = and_parts (a && b && c) d one.0 in
+    let three = and_parts (a && b) c two.0 in
+    let four = and_parts a b three.0 in
+    let front : take last.rows rows ≡ before = ap (take last.rows) split ∙ take_at before (row ∷ []) last.rows (eqb-true (length before) last.rows three.1) in
     record {
       version = row.1;
-      number_is = number_is last.number number four.0;
+      number_is = eqb-true last.number number four.0;
       tid_is = one_tid last.tid t four.1;
       rows_are = split ∙ (λ i. sym front i ++ (one_name row.0 last.pause.oid two.1 i, row.1, sym copy i) ∷ []);
-      unmade = not_so (is_made_in t last.pause.oid) one.1;
+      unmade = not-true (is_made_in t last.pause.oid) one.1;
     }
-
--- ---- rows that are known
-
-pub still_known : (r : Runner) (rows : Rows) (row : Row) (given : List Value) (last : Option Last) → IsKnown r rows given last → IsKnown r (rows ++ row ∷ []) given last
-still_known r rows row given None h = tt
-still_known r rows row given (Some last) h = record {
-  few = let n = length-append rows (row ∷ []) in let few = h.few in omega arith;
-  run = subst (λ (front : Rows). IsRun r front given last.number last.tid last.pause) (sym (take-append-le last.rows rows (row ∷ []) h.few)) h.run;
-}
-
-pub all_known : (r : Runner) (rows : Rows) (given : List Value) (number : ℕ) (t : Tid) (p : Paused) (many : ℕ) → many ≡ length rows → IsRun r rows given number t p
-    → IsKnown r rows given (Some (record { pause = p; number = number; tid = t; rows = many }))
-all_known r rows given number t p many is h = record {
-  few = omega (arith, is);
-  run = subst (λ (front : Rows). IsRun r front given number t p) (sym (take_all many rows (omega (arith, is)))) h;
-}
 
 -- ---- what comes of a run
 
 module _ (r : Runner) (given : List Value) (number : ℕ) (t : Tid) where
   abbrev over : FlatMap → Option Request → Meant
   over known q = erased_of (has_bit r.seen.labels) (has_bit r.seen.classes) r.program q t known given
-
-  -- there is no such request
-  pub none_turned : (rows : Rows) → request_at r.program t.worker number ≡ None → IsTurned r rows given number t None
-  none_turned rows none = subst (λ (q : Option Request). IsOver (over (map_of (objects_of rows)) q).ending) (sym none) tt
 
   pub turned : (rows : Rows) (request : Request) → request_at r.program t.worker number ≡ Some request → (o : Option Paused) → PausesSo (job_over r rows given request t) o
       → IsTurned r rows given number t o
@@ -108,10 +68,6 @@ module _ (r : Runner) (given : List Value) (number : ℕ) (t : Tid) where
   module _ (rows : Rows) (last : Last) (x : Object) (a : IsAnswer rows last number t x) (is : IsLast r rows given last) where
     abbrev before : Job
     before = job_over r (take last.rows rows) given is.run.request last.tid
-
-    -- a run goes on with it
-    pub waits : Waits last.pause
-    waits = record { job = before; paused = is.run.paused; unmade = ap (λ (u : Tid). is_made_in u last.pause.oid) a.tid_is ∙ a.unmade }
 
     one_more : map_of (objects_of rows) ≡ put last.pause.oid x (map_of (objects_of (take last.rows rows)))
     one_more =

@@ -1,6 +1,6 @@
 -- Objects by name and version: what is found, and what one more leaves.
 use Rattle.std.proofs.Common.{◌≡◌, ℕ, Bool, true, false, ◌&&◌, ◌==◌, cond, if◌then◌else◌, List, [], ◌∷◌, ◌++◌, map, Some, refl, sym, ap, ◌∙◌, arith}
-use Rattle.std.proofs.lemmas.Bool.{false≢true}
+use Rattle.std.proofs.lemmas.Bool.{eqb-true, false≢true}
 use Rattle.std.specs.Map.{lookup}
 use Rattle.std.proofs.lemmas.Bool.Decides.{nat_tests}
 use Rattle.indexmap.specs.IndexMap.{insert_entry}
@@ -24,14 +24,11 @@ place o version = record { oid = o; version = version }
 eq_is : (o : Oid) (version : ℕ) (p : Place) → places.TheImpl.ghosts.eq (place o version) p ≡ is_at o version p
 eq_is o version p = grind (arith, nat_tests)
 
-number_is : (m n : ℕ) → (m == n) ≡ true → m ≡ n
-number_is m n e = grind (arith, nat_tests)
-
 one_place : (o : Oid) (version : ℕ) (p : Place) → is_at o version p ≡ true → p ≡ place o version
 one_place o version p e = by (is_same p.oid o) (p.version == version) refl refl e
   where
     by : (a b : Bool) → is_same p.oid o ≡ a → (p.version == version) ≡ b → (a && b) ≡ true → p ≡ place o version
-    by true true f g h = λ i. record { oid = one_name p.oid o f i; version = number_is p.version version g i }
+    by true true f g h = λ i. record { oid = one_name p.oid o f i; version = eqb-true p.version version g i }
     by true false f g h = absurd (false≢true h)
     by false b f g h = absurd (false≢true h)
 

@@ -12,8 +12,9 @@ use fab_base::{Items, NoMemory, Oid, Tid};
 use std::alloc::Global;
 use std::marker::Model;
 
-/// So many of the newest may stand in the list.
-const FEW: usize = 8;
+/// So many of the newest may stand in the list: as many as there are nodes, since an honest worker has
+/// one transaction at a time prepared.
+const FEW: usize = 64;
 
 /// Transactions with their items, each tid once, in the order of holding. Contracts see them, and
 /// for how many more there is room without taking memory.
@@ -21,7 +22,7 @@ const FEW: usize = 8;
 /// The newest stand in a list, where room is made beforehand, and the others in indexes, which find one of
 /// them, or those that bar a name, without a walk. `settle` leaves few in the list, if there is memory, so
 /// behind it what is asked takes the time of a look-up and of a walk over these few, however many are held.
-/// What comes and goes while it is among the newest costs no more than in a list alone.
+/// What comes and goes while few are held costs no more than in a list alone.
 #[derive(Debug)]
 pub struct Locks {
     indexed: Indexed,
@@ -67,8 +68,8 @@ impl Locks {
         Ok(self.beside.push((tid, items))?)
     }
 
-    /// Puts the transactions into the indexes, but for the newest where they are few. What finds no memory
-    /// there stays in the list.
+    /// Puts the transactions of the list into the indexes, where they are more than few. What finds no
+    /// memory there stays in the list.
     pub fn settle(&mut self)
         ensures held { self.new.held ≡ self.old.held }
         ensures spare { self.old.spare ≤ self.new.spare }
@@ -90,7 +91,7 @@ impl Locks {
         }
     }
 
-    /// Lets a transaction go, and gives back its items. It takes no memory.
+    /// Lets a transaction go, and gives back its items. It wants no memory.
     pub fn free(&mut self, tid: Tid) -> Option<Items>
         ensures items { MatchOption result (prepared_as tid self.old.held ≡ []) (λ items. prepared_as tid self.old.held ≡ (tid, items) ∷ []) }
         ensures held { self.new.held ≡ without tid self.old.held }
@@ -111,7 +112,7 @@ impl Locks {
         }
     }
 
-    /// Lets all transactions of a worker go. It takes no memory.
+    /// Lets all transactions of a worker go. It wants no memory.
     pub fn free_all(&mut self, worker: u16)
         ensures held { self.new.held ≡ filter (λ p. not (p.0.worker == worker)) self.old.held }
         ensures spare { self.old.spare ≤ self.new.spare }

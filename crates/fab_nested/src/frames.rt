@@ -113,7 +113,7 @@ impl<'a> Frames<'a> {
         Ok(())
     }
 
-    /// The heap is saved, for `abort` to go back to.
+    /// The heap is saved, for `abort` to go back to. It takes memory for a mark, whatever was changed.
     pub fn enter(&mut self) -> Result<(), NoMemory>
         ensures ok { OnOk result (self.new ≡ entered self.old) }
         ensures err { OnErr result (self.new ≡ self.old) }
@@ -226,7 +226,8 @@ impl<'a> Frames<'a> {
         }
     }
 
-    /// Keeps the heap as it is, and gives up the one that was saved last.
+    /// Keeps the heap as it is, and gives up the one that was saved last. It takes no memory, and so is
+    /// never an error. The log stays until no heap is saved.
     pub fn merge(&mut self) -> Result<(), NoMemory>
         ensures ok { OnOk result (self.new ≡ merged self.old) }
         ensures err { OnErr result (self.new ≡ self.old) }

@@ -10,7 +10,7 @@ use std::marker::Model;
 const MAX_OBJECTS: usize = 1024;
 
 /// What was touched, in order: each pair of a site and an object once. Contracts see it as the list
-/// of these pairs. The objects among them stand in a set of their own.
+/// of these pairs. The objects among them stand as names of their own.
 #[derive(Drop)]
 pub struct Touches {
     noted: Names<(u16, Oid)>,

@@ -41,7 +41,7 @@ impl Drop for NodePlan {
 }
 
 impl NodePlan {
-    /// Makes the change that is planned, and answers its step. It takes no memory.
+    /// Makes the change that is planned, and answers its step. It wants no memory.
     pub(crate) fn accept(self, alloc: Global, role: &mut Role) -> Step
         requires plan { (g : GivenModel) × (x : Standing) × (act : Act) × (n : ℕ) × IsPlanOf g x act n role.old self }
         ensures step { (g : GivenModel) (x : Standing) (act : Act) (n : ℕ) → IsPlanOf g x act n role.old self → result ≡ step_of act }

@@ -270,7 +270,7 @@ impl<'a> State<'a> {
         }
     }
 
-    /// Saves the heap, and gives a copy of the locals.
+    /// Saves the heap, and gives a copy of the locals. Without memory nothing is saved.
     pub(crate) fn enter(&mut self) -> Result<Vec<Value>, NoMemory>
         ensures locals { IfOk result (λ v. v.items ≡ self.old.state.locals) }
         ensures saved { OnOk result (self.new ≡ saving self.old) }
@@ -289,7 +289,7 @@ impl<'a> State<'a> {
         self.frames.abort();
     }
 
-    /// Gives up the heap that was saved last.
+    /// Gives up the heap that was saved last. It takes no memory, and so is never an error.
     pub(crate) fn merge(&mut self) -> Result<(), NoMemory>
         ensures merged { OnOk result (self.new ≡ merged self.old) }
         ensures fuel { self.new.state.fuel ≡ self.old.state.fuel }

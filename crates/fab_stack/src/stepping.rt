@@ -62,7 +62,8 @@ impl<T: Drop> From<AllocFailed<T>> for Fall {
 /// How many calls may be open at once.
 const DEPTH: u32 = 64;
 
-/// The stack with which a method begins, over these locals.
+/// The stack with which a method begins, over these locals. Want of memory alone is an error; whether
+/// the state has the locals then isn't told.
 pub fn begun<'a>(
     state: &mut State<'_>,
     first: &'a Method,
@@ -83,7 +84,9 @@ pub fn begun<'a>(
     Ok(stack)
 }
 
-/// Runs what is left to do, to the end or until an object lacks.
+/// Runs what is left to do, to the end or until an object lacks. Want of memory alone is an error, and
+/// may come in the midst of a step: nothing is told then of the stack and the state, and whoever wants
+/// the run begins it anew.
 pub fn run<'a, A: Acts>(
     acts: &A,
     program: &'a Resolved,
@@ -370,7 +373,8 @@ fn attempt<'a>(
 }
 
 /// Calls the method of a number. It is entered where so many calls more may be open; where it is
-/// skipped, or there is none, the caller goes on with the rest of its block.
+/// skipped, or there is none, the caller goes on with the rest of its block. An error is want of
+/// memory, or that no more calls may be open, which ends the run, of a method that there isn't, too.
 #[inline(never)]
 fn enter<'a, A: Acts>(
     acts: &A,

@@ -66,7 +66,7 @@ fn apply(table: &mut Table, locks: &mut Locks, tid: Tid)
     }
 }
 
-/// What a record says is kept, where there is the room that it needs. It takes no memory.
+/// What a record says is kept, where there is the room that it needs. It wants no memory.
 pub fn keep_record(table: &mut Table, locks: &mut Locks, senders: &mut Vec<Sender>, entry: Entry)
     requires new { IsNew entry locks.old.held }
     requires room { HasSpare entry table.old.spare locks.old.spare }

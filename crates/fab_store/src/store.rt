@@ -150,7 +150,7 @@ impl Store {
         plan_of(self.alloc, said)
     }
 
-    /// Keeps what a record says. It takes no memory.
+    /// Keeps what a record says. It wants no memory.
     pub(crate) fn keep(&mut self, entry: Entry)
         requires can { CanKeep self.old.rights self.old.node entry self.old.shelf }
         requires room { HasRoomFor entry self.old }
@@ -161,7 +161,7 @@ impl Store {
         keep_record(&mut self.table, &mut self.locks, &mut self.senders, entry);
     }
 
-    /// Does what was planned of the store as it is, and answers its step. It takes no memory.
+    /// Does what was planned of the store as it is, and answers its step. It wants no memory.
     pub fn accept(&mut self, plan: StorePlan) -> Step
         requires can { CanKeepSaid self.old.rights self.old.node plan.entry self.old.shelf }
         requires room { HasRoom plan.entry self.old }

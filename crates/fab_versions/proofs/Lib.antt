@@ -1,5 +1,5 @@
 pub mod Found
 pub mod Merged
-pub mod Trees
+pub mod Standing
 pub mod Whole
 pub mod Written

@@ -1,6 +1,7 @@
 //! The current objects of a store with their versions, by name.
 #![tactic(auto)]
 
+mod blocks;
 mod row_list;
 mod table;
 

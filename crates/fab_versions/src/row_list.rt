@@ -1,7 +1,8 @@
 //! Rows in a vector, in the order of names.
-ghost use Rattle.std.specs.Prelude.{◌≡◌, ◌+◌, ◌<◌, ◌≤◌, [], None, Some, MatchOption, IsTrue, IsSome, IsOk, is_some, IfOk, IfErr, IfSome, IfNone, OnOk, OnErr, length};
+ghost use Rattle.std.specs.Prelude.{◌≡◌, ◌+◌, ◌<◌, ◌≤◌, [], ◌++◌, None, Some, MatchOption, IsTrue, IsSome, IsOk, is_some, IfOk, IfErr, IfSome, IfNone, OnOk, OnErr, length};
 ghost use Rattle.fab_protocol.specs.Tables.{row_of, placed, placed_all, ascends};
 ghost use Rattle.fab_protocol.specs.Versions.{name_of};
+ghost use Rattle.fab_versions.specs.Blocked.{AreBefore, IsCut};
 ghost use Rattle.fab_versions.specs.Places.{IsAt, IsGap};
 
 use fab_base::{NoMemory, Object, Oid};
@@ -70,13 +71,6 @@ impl RowList {
         self.rows.len()
     }
 
-    /// The rows, in the order of names.
-    pub(crate) fn as_slice(&self) -> &[(Oid, u32, Object)]
-        ensures { result.now ≡ self.now.rows }
-    {
-        self.rows.as_slice()
-    }
-
     /// The version and the object of this name, where it is there.
     pub(crate) fn get(&self, oid: Oid) -> Option<(u32, &Object)>
         ensures found { MatchOption result (row_of name_of self.now.rows oid ≡ None) (λ found. row_of name_of self.now.rows oid ≡ Some (oid, found.0, found.1.now)) }
@@ -121,6 +115,88 @@ impl RowList {
         }
     }
 
+    /// Puts an object at a version, in the place of the one of its name or beside the others. A new name
+    /// is refused where there are so many rows and where there is no memory: then the object comes back.
+    pub(crate) fn put_few(
+        &mut self,
+        most: usize,
+        oid: Oid,
+        version: u32,
+        object: Object,
+    ) -> Result<(), Object>
+        ensures ok { OnOk result (self.new.rows ≡ placed name_of (oid, version, object) self.old.rows) }
+        ensures err { OnErr result (self.new.rows ≡ self.old.rows) }
+        ensures sure { length self.old.rows < most → 0 < self.old.spare → IsOk result }
+        ensures absent { OnErr result (row_of name_of self.old.rows oid ≡ None) }
+        ensures back { IfErr result (λ back. back ≡ object) }
+    {
+        match place(&self.rows, oid) {
+            Ok(at) => {
+                self.rows[at] = (oid, version, object);
+                Ok(())
+            }
+            Err(at) => {
+                if most <= self.rows.len() {
+                    return Err(object);
+                }
+                match self.rows.insert(at, (oid, version, object)) {
+                    Ok(()) => Ok(()),
+                    Err(refused) => {
+                        let (_, _, back) = refused.value;
+                        Err(back)
+                    }
+                }
+            }
+        }
+    }
+
+    /// Whether there are rows, and this name goes behind the last of them.
+    pub(crate) fn ends_before(&self, oid: Oid) -> bool
+        ensures { IsTrue result → (0 < length self.now.rows) × AreBefore oid self.now.rows }
+    {
+        match place(&self.rows, oid) {
+            Ok(_) => false,
+            Err(at) => 0 < at && at == self.rows.len(),
+        }
+    }
+
+    /// Takes the upper half of the rows out, and says with which name it begins. `None` where there are
+    /// fewer than two rows, or no memory: then the rows stay.
+    pub(crate) fn cut(&mut self) -> Option<(Oid, RowList)>
+        ensures none { IfNone result (self.new.rows ≡ self.old.rows) }
+        ensures cut { IfSome result (λ upper. IsCut self.old.rows self.new.rows upper.0 upper.1.rows) }
+        ensures room { IfSome result (λ upper. length upper.1.rows ≤ self.new.spare) }
+    {
+        let at = self.rows.len() / 2;
+        if at == 0 {
+            return None;
+        }
+        let name = self.rows[at].0;
+        match self.rows.split_off(at) {
+            Ok(upper) => Some((name, RowList { rows: upper })),
+            Err(_) => None,
+        }
+    }
+
+    /// Rows go behind the others, for which there is room.
+    pub(crate) fn join(&mut self, upper: RowList)
+        requires room { length upper.rows ≤ self.old.spare }
+        requires ascending { IsTrue (ascends name_of (self.old.rows ++ upper.rows)) }
+        ensures { self.new.rows ≡ self.old.rows ++ upper.rows }
+    {
+        let mut rows = upper.into_vec();
+        let _ = self.rows.append(&mut rows);
+    }
+
+    /// A list of the same rows. Each object is copied once.
+    pub(crate) fn copy(&self, alloc: Global) -> Result<RowList, NoMemory>
+        ensures { IfOk result (λ copy. copy.rows ≡ self.now.rows) }
+    {
+        Ok(RowList {
+            rows: copied(alloc, self.rows.as_slice())?,
+        })
+    }
+
     /// Takes the last row out. It takes no memory.
     pub(crate) fn pop(&mut self) -> Option<(Oid, u32, Object)>
         ensures none { IfNone result (self.new ≡ self.old) }
@@ -153,6 +229,20 @@ impl RowList {
     {
         self.rows.reserve(more as usize)
     }
+}
+
+/// The same rows. Each object is copied once.
+fn copied(alloc: Global, rows: &[(Oid, u32, Object)]) -> Result<Vec<(Oid, u32, Object)>, NoMemory>
+    ensures { IfOk result (λ copy. copy.items ≡ rows.now) }
+{
+    let mut copy = Vec::new(alloc);
+    copy.reserve(rows.len())?;
+    let mut rest = rows;
+    'rows: while let Some((row, after)) = rest.split_first() {
+        copy.push((row.0, row.1, row.2.copy(alloc)?))?;
+        rest = after;
+    }
+    Ok(copy)
 }
 
 /// Where the row of this name stands, or where it would go.

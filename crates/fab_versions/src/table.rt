@@ -1,13 +1,13 @@
 //! Objects with their versions, in the order of names.
-ghost use Rattle.std.specs.Prelude.{◌≡◌, ◌+◌, ◌<◌, ◌≤◌, [], None, Some, MatchOption, IsTrue, IsSome, IsOk, IfOk, IfErr, OnOk, OnErr};
-ghost use Rattle.fab_protocol.specs.Tables.{row_of, placed, placed_all, ascends};
+ghost use Rattle.std.specs.Prelude.{◌≡◌, ◌+◌, ◌<◌, ◌≤◌, [], None, Some, MatchOption, IsTrue, IsSome, IsOk, IfOk, OnOk, OnErr};
+ghost use Rattle.fab_protocol.specs.Tables.{row_of, placed, ascends};
 ghost use Rattle.fab_protocol.specs.Versions.{name_of, version_of, risen, begun};
-ghost use Rattle.fab_versions.specs.Holdings.{rows_in, rows_of};
+ghost use Rattle.fab_versions.specs.Holdings.{rows_of};
 
+use crate::blocks::Blocks;
 use crate::row_list::RowList;
 use fab_base::{NoMemory, Object, Oid, Seq};
 use std::alloc::Global;
-use std::collections::BTreeMap;
 use std::marker::Model;
 
 /// As long as there are fewer rows, they stand in a list.
@@ -17,13 +17,13 @@ const FEW: usize = 1024;
 /// and for how many more there is room without taking memory.
 ///
 /// Few rows stand in a list alone, where a look-up is a binary search and a new name moves the rows
-/// behind it. More go into a tree, so to find one or to put one takes time that grows as the logarithm
-/// of their number. A tree can't be asked for room beforehand. Where it finds no memory for a new name,
-/// the row stays in the list, which can: the spare room is the list's. At the next put such rows go
-/// into the tree, if there is memory then.
+/// behind it. More go into a tree of blocks, so to find one or to put one takes time that grows as the
+/// logarithm of their number. A tree can't be asked for room beforehand. Where it finds no memory for a
+/// new name, the row stays in the list, which can: the spare room is the list's. At the next put such
+/// rows go into the tree, if there is memory then.
 #[derive(Debug)]
 pub struct Table {
-    tree: BTreeMap<Oid, (u32, Object)>,
+    tree: Blocks,
     beside: RowList,
 }
 
@@ -38,7 +38,7 @@ impl Model for Table {
 
     ghost Value = { Holding };
 
-    ghost view = { λ t. record { rows = rows_of t.tree.entries t.beside.rows; spare = t.beside.spare } };
+    ghost view = { λ t. record { rows = rows_of t.tree t.beside.rows; spare = t.beside.spare } };
 }
 
 impl Table {
@@ -47,7 +47,7 @@ impl Table {
         ensures { result ≡ record { rows = []; spare = 0 } }
     {
         Table {
-            tree: BTreeMap::new(alloc),
+            tree: Blocks::new(alloc),
             beside: RowList::new(alloc),
         }
     }
@@ -58,10 +58,7 @@ impl Table {
     {
         match self.beside.get(oid) {
             Some((version, object)) => Some((version, object)),
-            None => match self.tree.get(&oid) {
-                Some(leaf) => Some((leaf.0, &leaf.1)),
-                None => None,
-            },
+            None => self.tree.get(oid),
         }
     }
 
@@ -86,7 +83,7 @@ impl Table {
         ensures there { IsSome (row_of name_of self.old.rows oid) → IsOk result }
         ensures same_room { IsSome (row_of name_of self.old.rows oid) → self.old.spare ≤ self.new.spare }
     {
-        if self.tree.is_empty() && self.beside.len() < FEW {
+        if self.tree.has_no_block() && self.beside.len() < FEW {
             self.beside.put(oid, version, object)?;
             return Ok(());
         }
@@ -112,12 +109,12 @@ impl Table {
         ensures there { IsSome (row_of name_of self.old.rows oid) → IsOk result }
         ensures same_room { IsSome (row_of name_of self.old.rows oid) → self.old.spare ≤ self.new.spare }
     {
-        walks_in_order(&self.tree);
+        self.tree.walk_in_order();
         if self.beside.has(oid) {
             self.beside.put(oid, version, object)?;
             return Ok(());
         }
-        match put_in_tree(&mut self.tree, oid, version, object) {
+        match self.tree.put_if_room(oid, version, object) {
             Ok(()) => Ok(()),
             Err(object) => {
                 self.beside.put(oid, version, object)?;
@@ -154,11 +151,10 @@ impl Table {
         ensures rows { IfOk result (λ copy. copy.rows ≡ self.now.rows) }
         ensures ascending { IsTrue (ascends name_of self.now.rows) }
     {
-        walks_in_order(&self.tree);
-        let mut copy = Table::new(alloc);
-        put_leaves(alloc, &mut copy, &self.tree)?;
-        put_rows(alloc, &mut copy, self.beside.as_slice())?;
-        Ok(copy)
+        self.tree.walk_in_order();
+        let tree = self.tree.copy(alloc)?;
+        let beside = self.beside.copy(alloc)?;
+        Ok(Table { tree, beside })
     }
 
     /// The rows, in the order of names. No object is copied.
@@ -167,11 +163,11 @@ impl Table {
         ensures ascending { IsTrue (ascends name_of self.rows) }
     {
         let Table { tree, beside } = self;
-        walks_in_order(&tree);
-        if tree.is_empty() {
+        tree.walk_in_order();
+        if tree.has_no_block() {
             return Ok(Seq::from_vec(beside.into_vec()));
         }
-        let mut rows = RowList::from_vec(rows_in(alloc, tree)?);
+        let mut rows = RowList::from_vec(tree.into_rows(alloc)?);
         rows.put_all(beside.into_vec())?;
         Ok(Seq::from_vec(rows.into_vec()))
     }
@@ -188,87 +184,16 @@ pub fn next_version(version: u32) -> u32
     }
 }
 
-/// Does nothing: it is there for what its contract says of the order of a tree.
-fn walks_in_order(tree: &BTreeMap<Oid, (u32, Object)>)
-    ensures { IsTrue (ascends name_of (rows_in tree.now.entries)) }
-{
-    let _ = tree.len();
-}
-
-/// Puts an object into a tree. Where there is no memory for its name, the tree stays as it was, and
-/// the object comes back.
-#[tactic(auto, using(crate::proofs::Trees::no_row))]
-fn put_in_tree(
-    tree: &mut BTreeMap<Oid, (u32, Object)>,
-    oid: Oid,
-    version: u32,
-    object: Object,
-) -> Result<(), Object>
-    ensures ok { OnOk result (rows_in tree.new.entries ≡ placed name_of (oid, version, object) (rows_in tree.old.entries)) }
-    ensures err { OnErr result (tree.new.entries ≡ tree.old.entries) }
-    ensures absent { OnErr result (row_of name_of (rows_in tree.old.entries) oid ≡ None) }
-    ensures back { IfErr result (λ back. back ≡ object) }
-{
-    match tree.insert(oid, (version, object)) {
-        Ok(_) => Ok(()),
-        Err(refused) => {
-            let (_, (_, back)) = refused.value;
-            Err(back)
-        }
-    }
-}
-
 /// Rows go from a list into a tree, the last first, as far as there is memory.
-fn move_into_tree(tree: &mut BTreeMap<Oid, (u32, Object)>, list: &mut RowList)
-    ensures rows { rows_of tree.new.entries list.new.rows ≡ rows_of tree.old.entries list.old.rows }
+fn move_into_tree(tree: &mut Blocks, list: &mut RowList)
+    ensures rows { rows_of tree.new list.new.rows ≡ rows_of tree.old list.old.rows }
     ensures spare { list.old.spare ≤ list.new.spare }
 {
     'rows: while let Some((oid, version, object)) = list.pop() {
-        walks_in_order(tree);
-        if let Err(back) = put_in_tree(tree, oid, version, object) {
+        tree.walk_in_order();
+        if let Err(back) = tree.put_if_room(oid, version, object) {
             let _ = list.put(oid, version, back);
             return;
         }
     }
-}
-
-/// Copies of the rows of a tree are put into a table.
-fn put_leaves(
-    alloc: Global,
-    table: &mut Table,
-    tree: &BTreeMap<Oid, (u32, Object)>,
-) -> Result<(), NoMemory>
-    ensures { OnOk result (table.new.rows ≡ placed_all name_of (rows_in tree.now.entries) table.old.rows) }
-{
-    for (oid, leaf) in tree {
-        table.put(*oid, leaf.0, leaf.1.copy(alloc)?)?;
-    }
-    Ok(())
-}
-
-/// Copies of rows are put into a table.
-fn put_rows(alloc: Global, table: &mut Table, rows: &[(Oid, u32, Object)]) -> Result<(), NoMemory>
-    ensures { OnOk result (table.new.rows ≡ placed_all name_of rows.now table.old.rows) }
-{
-    let mut rest = rows;
-    'rows: while let Some((row, after)) = rest.split_first() {
-        table.put(row.0, row.1, row.2.copy(alloc)?)?;
-        rest = after;
-    }
-    Ok(())
-}
-
-/// The rows of a tree, in its order. No object is copied.
-fn rows_in(
-    alloc: Global,
-    tree: BTreeMap<Oid, (u32, Object)>,
-) -> Result<Vec<(Oid, u32, Object)>, NoMemory>
-    ensures { IfOk result (λ rows. rows.items ≡ rows_in tree.entries) }
-{
-    let mut rows = Vec::new(alloc);
-    rows.reserve(tree.len())?;
-    for (oid, (version, object)) in tree {
-        rows.push((oid, version, object))?;
-    }
-    Ok(rows)
 }

@@ -1,0 +1,2 @@
+pub mod Rises
+mod CommitsExamples

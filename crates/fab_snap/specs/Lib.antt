@@ -1,0 +1,4 @@
+pub mod Commits
+pub mod Shown
+pub mod Rule
+pub mod Ends

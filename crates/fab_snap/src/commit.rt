@@ -1,0 +1,32 @@
+//! Commits.
+ghost use Rattle.std.specs.Prelude.{◌≡◌, IfOk};
+
+use fab_base::{NoMemory, Object, Oid, Seq};
+use std::alloc::Global;
+
+/// What one commit leaves: each name that it wrote or made, with its version and its object.
+#[derive(Debug, Drop)]
+pub struct Commit {
+    pub leaves: Seq<(Oid, u32, Object)>,
+}
+
+impl Commit {
+    /// An equal commit. Each object is copied once.
+    pub fn copy(&self, alloc: Global) -> Result<Commit, NoMemory>
+        ensures { IfOk result (λ copy. copy ≡ self.now) }
+    {
+        Ok(Commit {
+            leaves: copies(alloc, self.leaves.as_slice())?,
+        })
+    }
+}
+
+fn copies(alloc: Global, leaves: &[(Oid, u32, Object)]) -> Result<Seq<(Oid, u32, Object)>, NoMemory>
+    ensures { IfOk result (λ copies. copies ≡ leaves.now) }
+{
+    let mut copies = Seq::new(alloc);
+    for leaf in leaves {
+        copies.push((leaf.0, leaf.1, leaf.2.copy(alloc)?))?;
+    }
+    Ok(copies)
+}
