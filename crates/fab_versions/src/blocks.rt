@@ -17,9 +17,11 @@ const MOST: usize = 1024;
 ///
 /// They stand in blocks, each a vector under a lower bound of its names, and the blocks in a tree. So a
 /// look-up is a short walk and a binary search, and a new name moves the rows of one block at most.
-/// Names that come in their order fill their blocks; others leave them half empty at worst. The nodes
-/// of a tree are half empty where keys come in their order, but with so few keys that is little. The
-/// first block is under the least name, so that each name has a block.
+/// Names that come in their order fill their blocks, in front of others that stay, too. In another order
+/// a cut leaves half a block and 64 rows, and names that go behind a full block, the last first, have a
+/// block each, which costs them what a plain tree would. The nodes of a tree are half empty where keys
+/// come in their order, but with so few keys that is little. The first block is under the least name, so
+/// that each name has a block.
 #[derive(Debug)]
 pub(crate) struct Blocks {
     alloc: Global,
@@ -158,8 +160,8 @@ fn put_in_block(
 
 /// Makes room for a new name where its block is full, in time that grows with the block. A name that
 /// goes behind the last row gets an empty block, so that names in their order leave full blocks behind
-/// them, and else the block's upper half moves to a block of its own. Where there is no block, an empty
-/// one is made under the least name. Without memory nothing changes.
+/// them, and else the rows from its place on, or nearly so, move to a block of their own. Where there is
+/// no block, an empty one is made under the least name. Without memory nothing changes.
 fn make_room(alloc: Global, tree: &mut BTreeMap<Oid, RowList>, oid: Oid)
     requires { InBlocks tree.old.entries }
     ensures rows { rows_in tree.new.entries ≡ rows_in tree.old.entries }
@@ -170,7 +172,7 @@ fn make_room(alloc: Global, tree: &mut BTreeMap<Oid, RowList>, oid: Oid)
             if block.ends_before(oid) {
                 open(alloc, tree, oid);
             } else {
-                split(tree, key);
+                split(tree, key, oid);
             }
         }
         None => {
@@ -198,8 +200,9 @@ fn open(alloc: Global, tree: &mut BTreeMap<Oid, RowList>, key: Oid)
     let _ = tree.insert(key, RowList::new(alloc));
 }
 
-/// The upper half of a block moves to a block of its own. Without memory nothing changes.
-fn split(tree: &mut BTreeMap<Oid, RowList>, key: Oid)
+/// The upper rows of a block, from the place of a new name on, move to a block of their own. Without
+/// memory nothing changes.
+fn split(tree: &mut BTreeMap<Oid, RowList>, key: Oid, oid: Oid)
     requires { InBlocks tree.old.entries }
     ensures rows { rows_in tree.new.entries ≡ rows_in tree.old.entries }
     ensures in_order { InBlocks tree.new.entries }
@@ -207,7 +210,7 @@ fn split(tree: &mut BTreeMap<Oid, RowList>, key: Oid)
     let Some(block) = tree.get_mut(&key) else {
         return;
     };
-    let Some((middle, upper)) = block.cut() else {
+    let Some((middle, upper)) = block.cut(oid) else {
         return;
     };
     if let Err(refused) = tree.insert(middle, upper) {

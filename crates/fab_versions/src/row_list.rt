@@ -1,5 +1,5 @@
 //! Rows in a vector, in the order of names.
-ghost use Rattle.std.specs.Prelude.{◌≡◌, ◌+◌, ◌<◌, ◌≤◌, [], ◌++◌, None, Some, MatchOption, IsTrue, IsSome, IsOk, is_some, IfOk, IfErr, IfSome, IfNone, OnOk, OnErr, length};
+ghost use Rattle.std.specs.Prelude.{◌≡◌, ◌+◌, ◌/◌, ◌<◌, ◌≤◌, [], ◌++◌, None, Some, MatchOption, IsTrue, IsSome, IsOk, is_some, IfOk, IfErr, IfSome, IfNone, OnOk, OnErr, length};
 ghost use Rattle.fab_protocol.specs.Tables.{row_of, placed, placed_all, ascends};
 ghost use Rattle.fab_protocol.specs.Versions.{name_of};
 ghost use Rattle.fab_versions.specs.Blocked.{AreBefore, IsCut};
@@ -8,6 +8,9 @@ ghost use Rattle.fab_versions.specs.Places.{IsAt, IsGap};
 use fab_base::{NoMemory, Object, Oid};
 use std::alloc::Global;
 use std::marker::Model;
+
+/// No fewer rows than these go to a block of their own, where there are twice as many.
+const FEWEST: usize = 64;
 
 /// Objects with their versions, each name once, in the order of names. Contracts see these rows,
 /// and for how many more there is room without taking memory. A new name moves all rows behind it,
@@ -160,14 +163,14 @@ impl RowList {
         }
     }
 
-    /// Takes the upper half of the rows out, and says with which name it begins. `None` where there are
-    /// fewer than two rows, or no memory: then the rows stay.
-    pub(crate) fn cut(&mut self) -> Option<(Oid, RowList)>
+    /// Takes the upper rows out, from the place of a new name on (`place_to_cut`), and says with which name
+    /// they begin. `None` where there are fewer than two rows, or no memory: then the rows stay.
+    pub(crate) fn cut(&mut self, oid: Oid) -> Option<(Oid, RowList)>
         ensures none { IfNone result (self.new.rows ≡ self.old.rows) }
         ensures cut { IfSome result (λ upper. IsCut self.old.rows self.new.rows upper.0 upper.1.rows) }
         ensures room { IfSome result (λ upper. length upper.1.rows ≤ self.new.spare) }
     {
-        let at = self.rows.len() / 2;
+        let at = place_to_cut(&self.rows, oid);
         if at == 0 {
             return None;
         }
@@ -243,6 +246,22 @@ fn copied(alloc: Global, rows: &[(Oid, u32, Object)]) -> Result<Vec<(Oid, u32, O
         rest = after;
     }
     Ok(copy)
+}
+
+/// Where to cut for a new name: at its place, so that the rows behind it don't move again for those that
+/// follow it, but not below the half, and not among the last 64, so that no part has few rows.
+fn place_to_cut(rows: &[(Oid, u32, Object)], oid: Oid) -> usize
+    requires { IsTrue (ascends name_of rows.now) }
+    ensures half { length rows.now / 2 ≤ result }
+    ensures inside { 0 < result → result < length rows.now }
+{
+    let half = rows.len() / 2;
+    let last = rows.len().saturating_sub(FEWEST);
+    let at = match place(rows, oid) {
+        Ok(at) => at,
+        Err(at) => at,
+    };
+    at.min(last).max(half)
 }
 
 /// Where the row of this name stands, or where it would go.
