@@ -59,7 +59,11 @@ put("cached.fab", HEAD + WALK % "" + "run{" + LISTS + "session w1{" + SIX + "}ca
 # ---- transfers of four workers in turn between accounts at two stores, fourteen events each
 
 
-def transfers(name, n):
+# what a store does behind all else: the same bundle with this at its end and without it tell what a recovery costs
+RECOVERED = "crash s1;recover s1;"
+
+
+def transfers(name, n, end=""):
     workers = [f"w{i}" for i in range(1, 5)]
     text = ["principal Bank;"] + [f"worker {x};" for x in workers] + ["store s1;store s2;"] + [f"{x} actsfor Bank;" for x in [*workers, "s1", "s2"]]
     text += ["label T={Bank->;Bank<-};class Account label T access T{int balance;}"
@@ -68,28 +72,31 @@ def transfers(name, n):
     text += [f"session {x}{{" + "".join(f"transfer(a{x},b{x},{1 + j % 7});" for j in range(n // 4)) + "}" for x in workers]
     one = "begin W;resume W;deliver W s1;deliver s1 W;resume W;deliver W s2;deliver s2 W;resume W;deliver W s1;deliver W s2;deliver s1 W;deliver s2 W;deliver W s1;deliver W s2;"
     turn = "".join(one.replace("W", x) for x in workers)
-    put(name, "".join(text) + "schedule{" + turn * (n // 4) + "}}\n")
+    put(name, "".join(text) + "schedule{" + turn * (n // 4) + end + "}}\n")
 
 
 transfers("transfers-56000.fab", 4_000)
 transfers("transfers-99960.fab", 7_140)
+transfers("transfers-99960-recovered.fab", 7_140, RECOVERED)
 
 # ---- many workers in turn make 256 objects a request at one store: a new name goes into the midst of the others
 
 
-def made(name, workers, requests):
+def made(name, workers, requests, end=""):
     names = [f"w{i}" for i in range(workers)]
     text = "principal Bank;" + "".join(f"worker {x};" for x in names) + "store s1;" + "".join(f"{x} actsfor Bank;" for x in [*names, "s1"])
     text += "label T={Bank->;Bank<-};class Node label T access T{int v;}method make(int n:T)begin T{int i:T=0;Node c:T=null;while(i<n){c=new Node@s1(i);i=i+1;}}run{"
     counts = [len(range(j, requests, workers)) for j in range(workers)]
     text += "".join(f"session {x}{{" + "make(256);" * count + "}" for x, count in zip(names, counts))
     one = "begin W;resume W;deliver W s1;deliver s1 W;deliver W s1;"
-    put(name, text + "schedule{" + "".join(one.replace("W", names[j % workers]) for j in range(requests)) + "}}\n")
+    put(name, text + "schedule{" + "".join(one.replace("W", names[j % workers]) for j in range(requests)) + end + "}}\n")
 
 
 made("made-100096.fab", 31, 391)
 made("made-50176.fab", 31, 196)
 made("made-one-worker.fab", 1, 391)
+made("made-100096-recovered.fab", 31, 391, RECOVERED)
+made("made-one-worker-recovered.fab", 1, 391, RECOVERED)
 
 # ---- transactions of a hostile worker that stay prepared, each reads so many objects that nobody writes
 
@@ -123,17 +130,20 @@ def posted(lines):
     return ("".join(f'post {x}->s1"{bytes_}";' for x, bytes_ in lines), "".join(f"post {x};deliver {x} s1;" for x, _ in lines))
 
 
-def prepared(name, count, transactions, reads, body, request, times, events):
+def prepared(name, count, transactions, reads, body, request, times, events, end=""):
     others, store, head = hostile(count)
     roots = "root a:Node@s1(1000000,null);root b:Node@s1(0,null);" + "".join(f"root k{i}:Node@s1({i},null);" for i in range(8)) + listed(1024)
     held = [oid(store, 0, 2 + i) for i in range(8)]
     lines = [(others[j % count], prepare(1 + j % count, 1 + j // count, sorted(held[(j + i) % 8] for i in range(reads)))) for j in range(transactions)]
     posts, come = posted(lines)
-    put(name, head + body + "run{" + roots + "session w1{" + request * times + "}" + posts + "schedule{" + come + events * times + "}}\n")
+    put(name, head + body + "run{" + roots + "session w1{" + request * times + "}" + posts + "schedule{" + come + events * times + end + "}}\n")
 
 
 prepared("prepared-10000.fab", 30, 10_000, 4, MOVE, "move(a,b,1);", 1_000, MOVES)
 prepared("prepared-5000.fab", 30, 5_000, 4, MOVE, "move(a,b,1);", 1_000, MOVES)
+prepared("prepared-5000-recovered.fab", 30, 5_000, 4, MOVE, "move(a,b,1);", 1_000, MOVES, RECOVERED)
+for n in [10, 100, 1_000]:
+    prepared(f"prepared-{n}.fab", 30, n, 4, MOVE, "move(a,b,1);", 1, MOVES)
 prepared("prepared-large.fab", 30, 5_000, 4, WALK % "", "walk(r0);", 4, fetched(1024))
 
 # ---- honest workers that stop where they have prepared 256 new objects each
@@ -153,18 +163,19 @@ stopped("stopped.fab", 30, 5_000)
 # ---- the same, given up in the order of preparing, or in the other
 
 
-def released(name, transactions, forth):
+def released(name, transactions, forth, end=""):
     count = 30
     others, store, head = hostile(count)
     lines = [(others[j % count], prepare(1 + j % count, 1 + j // count, [oid(store, 0, j % 8)])) for j in range(transactions)]
     order = range(transactions) if forth else reversed(range(transactions))
     lines += [(others[j % count], ended(7, 1 + j % count, 1 + j // count)) for j in order]
     posts, come = posted(lines)
-    put(name, head + "run{" + "".join(f"root k{i}:Node@s1({i},null);" for i in range(8)) + posts + "schedule{" + come + "}}\n")
+    put(name, head + "run{" + "".join(f"root k{i}:Node@s1({i},null);" for i in range(8)) + posts + "schedule{" + come + end + "}}\n")
 
 
 released("released-forth.fab", 5_000, True)
 released("released-back.fab", 5_000, False)
+released("released-forth-recovered.fab", 5_000, True, RECOVERED)
 
 # ---- recoveries in a replay, and fetches
 

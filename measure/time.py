@@ -153,4 +153,5 @@ def main():
         print(f"{name:<22}{' '.join(words):<10}{seconds:>9.3f}{(millions or ['-'])[0]:>11}{memory:>7.1f}  {status}")
 
 
-main()
+if __name__ == "__main__":
+    main()

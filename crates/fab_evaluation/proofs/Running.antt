@@ -1,6 +1,6 @@
 -- From the run of a request to what it means.
-use Rattle.std.proofs.Common.{◌≡◌, Bool, true, false, ◌||◌, List, [], ◌∷◌, ◌++◌, Option, Some, None, Result, Ok, Err, IfOk, refl, sym, ap, ◌∙◌, subst}
-use Rattle.std.specs.Prelude.{slice_get}
+use Rattle.std.proofs.Common.{◌≡◌, Bool, true, false, ◌||◌, if◌then◌else◌, List, [], ◌∷◌, ◌++◌, Option, Some, None, Result, Ok, Err, IfOk, refl, sym, ap, ◌∙◌, subst}
+use Rattle.std.specs.Prelude.{filter, slice_get}
 use Rattle.std.specs.declared.alloc.AllocError.{AllocError}
 use Rattle.std.proofs.lemmas.List.Concat.{flat_map-cons}
 use Rattle.std.proofs.lemmas.List.Folds.{list_any-append}
@@ -9,7 +9,8 @@ use Rattle.fab_base.specs.declared.object.Oid.{Oid}
 use Rattle.fab_base.specs.declared.object.Tid.{Tid}
 use Rattle.fab_base.specs.FlatMap.{FlatMap, ascends, get, is_among, is_same, put, put_all}
 use Rattle.fab_base.proofs.NameOrder.{one_name}
-use Rattle.fab_map.proofs.Rows.{ascends-put_all, get-put_other, get-put_same, same_from_get}
+use Rattle.fab_map.proofs.Made.{distinct_from_ascends, first_of, get-put_all}
+use Rattle.fab_map.proofs.Rows.{ascends-put_all, same_from_get}
 use Rattle.fab_tree.specs.declared.resolved.Method.{Method}
 use Rattle.fab_tree.specs.declared.resolved.Request.{Request}
 use Rattle.fab_tree.specs.declared.resolved.Resolved.{Resolved}
@@ -24,7 +25,7 @@ use Rattle.fab_left.specs.Acts.{meanings}
 use Rattle.fab_left.specs.Left as left
 use Rattle.fab_left.specs.Left.{AllStem, Means, Place, at_start, rest}
 use Rattle.fab_left.proofs.Beginning.{all_known, plain_begins, plain_none}
-use Rattle.fab_nested.specs.Effects.{object_at, objects_at}
+use Rattle.fab_nested.proofs.Over.{ascends_only, get_only}
 use Rattle.fab_stack.specs.declared.halt.End.TheVariants as end
 use Rattle.fab_stack.specs.declared.stepping.Way.{Way}
 use Rattle.fab_stack.specs.declared.stepping.Way.TheVariants.{Over, Lacks}
@@ -35,48 +36,11 @@ use Rattle.fab_evaluation.specs.Singles.{IsSingle, changes_at, ending_of}
 
 -- ---- what was changed, put into the map
 
--- the objects of these names in one map, put into another that has all others, make it the same
-module _ (map : FlatMap) (o : Oid) where
-  -- the other may have what isn't under one of these names, and an object is there under each
-  record Joins (names : List Oid) (known : FlatMap) : Type 0 where
-    there : is_among o names ≡ true → HasOne map o
-    same : is_among o names ≡ false → get known o ≡ get map o
-
-  abbrev Settles : List Oid → FlatMap → Type 0
-  Settles names known = get (put_all (objects_at map names) known) o ≡ get map o
-
-  -- with one name more in front
-  in_front : (p : Oid) (names : List Oid) (known : FlatMap) → Joins (p ∷ names) known → ((k : FlatMap) → Joins names k → Settles names k)
-      → (found : Option Object) → get map p ≡ found → (b : Bool) → is_same p o ≡ b
-      → get (put_all (object_at p found ++ objects_at map names) known) o ≡ get map o
-  in_front p names known j next None e true i =
-      let x = j.there (ap (λ b. b || is_among o names) i) in let no : None ≡ Some x.0 = sym e ∙ ap (get map) (one_name p o i) ∙ x.1 in cc
-  in_front p names known j next None e false i =
-      next known (record { there = λ h. j.there (ap (λ b. b || is_among o names) i ∙ h); same = λ h. j.same (ap (λ b. b || is_among o names) i ∙ h) })
-  in_front p names known j next (Some x) e true i =
-      next (put p x known)
-      (record {
-        there = λ h. j.there (ap (λ b. b || is_among o names) i);
-        same = λ h. ap (get (put p x known)) (sym (one_name p o i)) ∙ get-put_same p x known ∙ sym e ∙ ap (get map) (one_name p o i);
-      })
-  in_front p names known j next (Some x) e false i =
-      next (put p x known)
-      (record {
-        there = λ h. j.there (ap (λ b. b || is_among o names) i ∙ h);
-        same = λ h. get-put_other p o x known i ∙ j.same (ap (λ b. b || is_among o names) i ∙ h);
-      })
-
-  settled : (names : List Oid) (known : FlatMap) → Joins names known → Settles names known
-  settled [] known j = j.same refl
-  settled (p ∷ names) known j =
-      ap (λ rows. get (put_all rows known) o) (flat_map-cons (λ (q : Oid). object_at q (get map q)) p names)
-      ∙ in_front p names known j (λ k h. settled names k h) (get map p) refl (is_same p o) refl
-
-either : (a b : Bool) → (a || b) ≡ (b || a)
-either true true = refl
-either true false = refl
-either false true = refl
-either false false = refl
+-- the object of a name that was changed is found among those that were put, and else the one that was there
+module _ (map known : FlatMap) (o : Oid) (t : Oid → Bool) (there : t o ≡ true → HasOne map o) (same : t o ≡ false → get known o ≡ get map o) where
+  put_or_there : (b : Bool) → t o ≡ b → first_of (if b then get map o else None) (get known o) ≡ get map o
+  put_or_there true e = let x = there e in ap (λ v. first_of v (get known o)) x.1 ∙ sym x.1
+  put_or_there false e = same e
 
 module _ (program : Resolved) (known : FlatMap) (request : Request) (up : ascends known ≡ true) where
   abbrev done : Meant
@@ -85,31 +49,33 @@ module _ (program : Resolved) (known : FlatMap) (request : Request) (up : ascend
   changes : OnlyChanges known done
   changes = (leaves known program (tid_of request) request 1000000).changes
 
-  among_changed : (o : Oid) → is_among o (done.written ++ done.made) ≡ (is_among o done.made || is_among o done.written)
-  among_changed o = list_any-append (λ (p : Oid). is_same p o) done.written done.made ∙ either (is_among o done.written) (is_among o done.made)
+  was_changed : Oid → Bool
+  was_changed o = is_among o done.made || is_among o done.written
 
-  changes_make : put_all (objects_at done.map (done.written ++ done.made)) known ≡ done.map
+  changes_make : put_all (filter (λ row. was_changed row.0) done.map) known ≡ done.map
   changes_make =
-      same_from_get (put_all (objects_at done.map (done.written ++ done.made)) known) done.map
-      (ascends-put_all (objects_at done.map (done.written ++ done.made)) known up) (changes.ascending up)
-      (λ o. settled done.map o (done.written ++ done.made) known
-      (record { there = λ e. changes.there o (sym (among_changed o) ∙ e); same = λ e. sym (changes.others o (sym (among_changed o) ∙ e)) }))
+      let rows = filter (λ row. was_changed row.0) done.map in
+      let sorted : ascends rows ≡ true = ascends_only was_changed done.map (changes.ascending up) in
+      same_from_get (put_all rows known) done.map (ascends-put_all rows known up) (changes.ascending up)
+      (λ o.
+      get-put_all rows known o (distinct_from_ascends rows sorted)
+      ∙ ap (λ v. first_of v (get known o)) (get_only was_changed done.map o)
+      ∙ put_or_there done.map known o was_changed (changes.there o) (λ e. sym (changes.others o e)) (was_changed o) refl)
 
-  behind : (e : Ending) → put_all (if_ended e (objects_at done.map (done.written ++ done.made)) []) known ≡ if_ended e done.map known
+  behind : (e : Ending) → put_all (if_ended e (filter (λ row. was_changed row.0) done.map) []) known ≡ if_ended e done.map known
   behind (Ended v) = changes_make
   behind Failed = refl
   behind (Stopped stop) = refl
   behind (Missing site o) = refl
 
   -- a run that ended as it is meant to, with what it left
-  pub single_of : (way : Way) (q : State) (r : Result Single AllocError) → done ≡ meant_at (ending_of way) q → IfOk r (λ s. s.ending ≡ ending_of way)
-      → IfOk r (λ s. s.changed ≡ changes_at (ending_of way) q.heap) → IfOk r (IsSingle program known request)
-  single_of way q (Err e) is ending changed = tt
-  single_of way q (Ok s) is ending changed = record {
+  pub single_of : (way : Way) (q : State) (s : Single) → done ≡ meant_at (ending_of way) q → s.ending ≡ ending_of way
+      → s.changed ≡ changes_at (ending_of way) q.heap → IsSingle program known request s
+  single_of way q s is ending changed = record {
     ending = ending ∙ sym (ap (λ (m : Meant). m.ending) is);
     map =
         ap (λ (rows : FlatMap). put_all rows known)
-        (changed ∙ sym (ap (λ (m : Meant). if_ended m.ending (objects_at m.map (m.written ++ m.made)) []) is))
+        (changed ∙ sym (ap (λ (m : Meant). if_ended m.ending (filter (λ row. is_among row.0 m.made || is_among row.0 m.written) m.map) []) is))
         ∙ behind done.ending;
   }
 

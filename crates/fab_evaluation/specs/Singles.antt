@@ -1,5 +1,5 @@
 -- What a request comes to over a map.
-use Rattle.std.specs.Prelude.{◌≡◌, ◌++◌, [], Ok, Err}
+use Rattle.std.specs.Prelude.{◌≡◌, [], Ok, Err}
 use Rattle.fab_base.specs.FlatMap.{FlatMap, put_all}
 use Rattle.fab_tree.specs.declared.resolved.Resolved.{Resolved}
 use Rattle.fab_tree.specs.declared.resolved.Request.{Request}
@@ -8,7 +8,7 @@ use Rattle.fab_language.specs.declared.ending.Ending.TheVariants.{Ended, Missing
 use Rattle.fab_language.specs.Heaps.{Heap}
 use Rattle.fab_language.specs.Meaning.{ending_at}
 use Rattle.fab_language.specs.Evaluation.{if_ended, meant, map_behind}
-use Rattle.fab_nested.specs.Effects.{objects_at}
+use Rattle.fab_nested.specs.Nested.{changed_in}
 use Rattle.fab_stack.specs.declared.stepping.Way.{Way}
 use Rattle.fab_stack.specs.declared.stepping.Way.TheVariants.{Over, Lacks}
 use Rattle.fab_stack.specs.Gives.{end_of}
@@ -27,4 +27,4 @@ ending_of (Lacks site o fuel pairs objects) = Missing site o
 
 -- what a request changed that ended so and left this heap: nothing, unless it ended
 abbrev pub changes_at : Ending → Heap → FlatMap
-changes_at ending h = if_ended ending (objects_at h.rows (h.written ++ h.made)) []
+changes_at ending h = if_ended ending (changed_in h) []

@@ -12,8 +12,8 @@ use std::alloc::Global;
 
 const FUEL: u32 = 1_000_000;
 
-/// How a request ended, and the objects that it leaves in the place of others and then those that it
-/// made, as they then stand.
+/// How a request ended, and the objects that it leaves in the place of others and those that it made, as
+/// they then stand, in the order of names.
 #[derive(Drop)]
 pub(crate) struct Single {
     pub(crate) ending: Ending,
@@ -48,29 +48,28 @@ pub(crate) fn run_one(
     let locals = locals_at_start(first, args)?;
     let mut stack = begun(&mut state, first, locals)?;
     let way = run(&Plain, program, first, &mut stack, &mut state)?;
-    single_at(alloc, way, &state)
+    Ok(single_at(alloc, way, state))
 }
 
 /// What a run came to, from the state at its end. An object that lacks ends it.
-fn single_at(alloc: Global, way: Way, state: &State<'_>) -> Result<Single, NoMemory>
-    ensures ending { IfOk result (λ s. s.ending ≡ ending_of way) }
-    ensures changed { IfOk result (λ s. s.changed ≡ changes_at (ending_of way) state.now.state.heap) }
+fn single_at(alloc: Global, way: Way, state: State<'_>) -> Single
+    ensures ending { result.ending ≡ ending_of way }
+    ensures changed { result.changed ≡ changes_at (ending_of way) state.entry.state.heap }
 {
     let ending = match way {
         Way::Over(Ok(value)) => {
-            let changed = state.changes()?;
-            return Ok(Single {
+            return Single {
                 ending: Ending::Ended(value),
-                changed,
-            });
+                changed: state.into_changed(),
+            };
         }
         Way::Over(Err(End::Failed)) => Ending::Failed,
         Way::Over(Err(End::Stopped(stop))) => Ending::Stopped(stop),
         Way::Over(Err(End::Missing { site, oid })) => Ending::Missing { site, oid },
         Way::Lacks { site, oid, .. } => Ending::Missing { site, oid },
     };
-    Ok(Single {
+    Single {
         ending,
         changed: Seq::new(alloc),
-    })
+    }
 }

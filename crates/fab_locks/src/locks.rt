@@ -12,7 +12,7 @@ use fab_base::{Items, NoMemory, Oid, Tid};
 use std::alloc::Global;
 use std::marker::Model;
 
-/// So many of the newest may stand in the list: as many as there are nodes, since an honest worker has
+/// So many of the newest may stand in the list: more than there are nodes, 32, since an honest worker has
 /// one transaction at a time prepared.
 const FEW: usize = 64;
 

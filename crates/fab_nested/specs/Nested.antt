@@ -6,7 +6,7 @@ use Rattle.fab_base.specs.declared.object.Value.{Value}
 use Rattle.fab_base.specs.declared.object.Stop.{Stop}
 use Rattle.fab_base.specs.declared.object.Stop.TheVariants.{Reads, Writes}
 use Rattle.fab_base.specs.FlatMap.{FlatMap, is_same, map_of}
-use Rattle.fab_language.specs.Heaps.{Heap, Reach, gone, full, found, reach, replaced, created, with_row, is_among}
+use Rattle.fab_language.specs.Heaps.{Heap, Reach, gone, full, found, reach, replaced, created, with_row, is_among, is_changed}
 use Rattle.fab_language.specs.Meaning.{field_of, with_field, unchanged}
 
 -- objects as they were answered, each with its version
@@ -114,3 +114,7 @@ writes_in versions written rows = map (λ row. (row.0, version_of versions row.0
 -- the rows of a map whose names were made
 abbrev pub creates_in : List Oid → FlatMap → FlatMap
 creates_in made rows = filter (λ row. is_among row.0 made) rows
+
+-- the rows of a heap whose names were written or made
+abbrev pub changed_in : Heap → FlatMap
+changed_in h = filter (λ row. is_changed row.0 h) h.rows

@@ -7,7 +7,7 @@ ghost use Rattle.fab_base.specs.FlatMap.{ascends, get, is_same};
 ghost use Rattle.fab_language.specs.Heaps.{found, full, index_at, is_among, is_changed, reach_in, touched};
 ghost use Rattle.fab_nested.specs.Calls.{Gives};
 ghost use Rattle.fab_nested.specs.Effects.{objects_at};
-ghost use Rattle.fab_nested.specs.Nested.{aborted, answered, create, creates_in, entered, merged, names_of, nested_of, nested_over, read, write, writes_in};
+ghost use Rattle.fab_nested.specs.Nested.{aborted, answered, changed_in, create, creates_in, entered, merged, names_of, nested_of, nested_over, read, write, writes_in};
 
 use crate::answers::{copies, version_of, versions_of, with_field};
 use crate::copies::{map_copy, put_all_found, put_rows};
@@ -313,6 +313,21 @@ impl<'a> Frames<'a> {
         )?;
         put_all_found(alloc, &mut rows, &objects.changed, objects.made.as_slice())?;
         Ok(rows)
+    }
+
+    /// The objects that were written or made, in the order of names. None is copied.
+    pub fn into_changed(self) -> Seq<(Oid, Object)>
+        ensures { result ≡ changed_in self.entry.now }
+    {
+        let Frames {
+            versions: _,
+            known: _,
+            objects,
+            log: _,
+            marks: _,
+            touches: _,
+        } = self;
+        Seq::from_vec(objects.into_rows())
     }
 
     /// All objects as they are now, and the names that were written and made.

@@ -115,6 +115,18 @@ impl Objects {
         }
     }
 
+    /// The objects, in the order of names. None is copied.
+    pub(crate) fn into_rows(self) -> Vec<(Oid, Object)>
+        ensures { result.items ≡ self.changed }
+    {
+        let Objects {
+            changed,
+            written: _,
+            made: _,
+        } = self;
+        changed.into_rows()
+    }
+
     /// Undoes a change. It takes no memory.
     pub(crate) fn undo(&mut self, change: Change)
         ensures { heap_of self.new ≡ before change (heap_of self.old) }

@@ -6,7 +6,7 @@ ghost use Rattle.fab_erasure.specs.Erased.{take_given};
 ghost use Rattle.fab_language.specs.Heaps.{touched};
 ghost use Rattle.fab_language.specs.Meaning.{assign, charge, create, local, noted_down, read, write};
 ghost use Rattle.fab_nested.specs.Effects.{objects_at};
-ghost use Rattle.fab_nested.specs.Nested.{names_of, writes_in, creates_in};
+ghost use Rattle.fab_nested.specs.Nested.{changed_in, names_of, writes_in, creates_in};
 ghost use Rattle.fab_stack.specs.Points.{Lacks, aborted, merged, point_at_start, point_before, point_over, saving, with_answer, with_locals};
 ghost use Rattle.fab_stack.specs.Gives.{Gives, halt_at};
 
@@ -330,6 +330,23 @@ impl<'a> State<'a> {
         ensures ascends { ascends self.now.state.heap.rows ≡ true }
     {
         self.frames.changes()
+    }
+
+    /// The objects that were written or made, in the order of names. None is copied.
+    pub fn into_changed(self) -> Seq<(Oid, Object)>
+        ensures { result ≡ changed_in self.entry.state.heap }
+    {
+        let State {
+            alloc: _,
+            tid: _,
+            fuel: _,
+            locals: _,
+            frames,
+            downs: _,
+            given: _,
+            taken: _,
+        } = self;
+        frames.into_changed()
     }
 
     /// All objects as they are now, and the names that were written and made.
