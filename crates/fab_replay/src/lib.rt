@@ -23,6 +23,6 @@ pub use honest::honest_nodes;
 pub use integral::is_integral;
 pub use isolated::is_isolated;
 pub use laws::{no_fault_is_hidden, replays_are_exact, runs_have_one_answer, views_are_public};
-pub use replayed::{Replayed, Wanted};
+pub use replayed::{Replayed, Told, Wanted};
 pub use trust::{first_unkept, is_trusted, trust_in};
 pub use view::view_into;
