@@ -102,7 +102,7 @@ text_of g (Run x) moves = told_of x g moves
 text_of g (View nodes seen part) moves = view_of g nodes moves
 text_of g (Trust nodes part) moves = trust_of g (has_bit part.labels) (has_bit part.classes) moves
 
--- the same, with these counts where something is read beside the run
+-- what is wanted, with these counts where something is read beside the run
 abbrev pub with_counts : Wanted → List ℕ → Wanted
 with_counts (Run (told.Reads reading before)) counts = Run (told.Reads reading counts)
 with_counts wanted counts = wanted
