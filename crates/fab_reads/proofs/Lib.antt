@@ -1,1 +1,2 @@
+mod ReadsExamples
 pub mod Walking

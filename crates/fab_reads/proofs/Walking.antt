@@ -1,5 +1,5 @@
 -- A walk over commits goes on from where it stands.
-use Rattle.std.proofs.Common.{◌≡◌, ℕ, Bool, zero, suc, ◌+◌, ◌-◌, ◌≤◌, List, [], ◌∷◌, ◌++◌, length, map, take, drop, refl, sym, ap, ◌∙◌, subst, append_assoc, append-nil, arith}
+use Rattle.std.proofs.Common.{◌≡◌, ℕ, Bool, zero, suc, ◌-◌, ◌≤◌, List, [], ◌∷◌, ◌++◌, length, map, take, drop, refl, sym, ap, ◌∙◌, subst, append_assoc, append-nil, arith}
 use Rattle.std.specs.List.{fold, AllByRecursion}
 use Rattle.fab_base.specs.declared.object.Oid.{Oid}
 use Rattle.fab_base.specs.declared.object.Value.{Value}
@@ -8,7 +8,7 @@ use Rattle.fab_net.specs.declared.note.Commit.{Commit}
 use Rattle.fab_rights.specs.declared.rights.Rights.{Rights}
 use Rattle.fab_serial.specs.Replays.{behind}
 use Rattle.fab_settings.specs.Settings.{setting_of}
-use Rattle.fab_reads.specs.Reads.{NeverFall, lines_from, read_line, values_after}
+use Rattle.fab_reads.specs.Reads.{lines_from, read_line, values_after}
 use Rattle.fab_reads.specs.Walks.{values_there}
 
 -- ---- steps over a list
@@ -61,12 +61,12 @@ pub line_more : (r : Resolved) (V : ℕ → List Value) (out new all : List ℕ)
     → rest ≡ k ∷ ks → next ≡ suc number → values ≡ V k → new ≡ out ++ read_line r next k values → out ++ lines_from r V (suc number) rest ≡ all
     → new ++ lines_from r V (suc next) ks ≡ all
 line_more r V out new all number next k values ks rest rest_is next_is values_is new_is h =
+    let here : out ++ lines_from r V (suc number) (k ∷ ks) ≡ all = subst (λ (l : List ℕ). out ++ lines_from r V (suc number) l ≡ all) rest_is h in
+    let numbered : out ++ lines_from r V next (k ∷ ks) ≡ all = subst (λ (n : ℕ). out ++ lines_from r V n (k ∷ ks) ≡ all) (sym next_is) here in
     ap (λ l. l ++ lines_from r V (suc next) ks) new_is
     ∙ append_assoc out (read_line r next k values) (lines_from r V (suc next) ks)
-    ∙ ap (λ vs. out ++ read_line r next k vs ++ lines_from r V (suc next) ks) values_is
-    ∙ ap (λ n. out ++ read_line r n k (V k) ++ lines_from r V (suc n) ks) next_is
-    ∙ ap (λ l. out ++ lines_from r V (suc number) l) (sym rest_is)
-    ∙ h
+    ∙ ap (λ (vs : List Value). out ++ (read_line r next k vs ++ lines_from r V (suc next) ks)) values_is
+    ∙ numbered
 
 -- nothing is left
 pub all_read : {A B : Type 0} (f : A → B) (rows all : List B) (rest : List A) → length rest ≡ 0 → rows ++ map f rest ≡ all → rows ≡ all

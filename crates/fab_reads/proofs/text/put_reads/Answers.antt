@@ -1,4 +1,4 @@
-use Rattle.std.proofs.Common.{◌≡◌, ◌≤◌, ◌-◌, ◌+◌, ℕ, suc, List, ◌∷◌, ◌++◌, length, sym, ap, subst, ◌∙◌, arith}
+use Rattle.std.proofs.Common.{◌-◌, suc, ◌++◌, length, sym, ap, subst, ◌∙◌, arith}
 use Rattle.fab_base.specs.FlatMap.{get}
 use Rattle.fab_rights.specs.Computed.{has_bit}
 use Rattle.fab_reads.specs.Reads.{NeverFall, fields_of, reads_text}
@@ -21,8 +21,8 @@ loop-count-preserved c =
       here = at.here ∙ sym at.same;
       number = omega (arith, long, before);
       lines = line_more c.args.program.now (values_there c.args.program.now (has_bit c.args.classes) c.args.commits.now c.args.oid) c.loop-count.out c.put_read.new.out _
-      c.loop-count.number (length c.args.counts.now - length c.in-Some.after.now) c.in-Some.count.now c.values_in.result.now c.in-Some.after.now c.loop-count.rest.now rest_is
-      (omega (arith, long, before)) (c.values_in.ensures ∙ ap (λ m. fields_of (get m c.args.oid)) at.here) c.in_ok-put_read.ensures i.lines;
+          c.loop-count.number (length c.args.counts.now - length c.in-Some.after.now) c.in-Some.count.now c.values_in.result.now c.in-Some.after.now c.loop-count.rest.now rest_is
+          (omega (arith, long, before)) (c.values_in.ensures ∙ ap (λ m. fields_of (get m c.args.oid)) at.here) c.in_ok-put_read.ensures i.lines;
     }
 
 pub returns : goal.returns

@@ -1,5 +1,4 @@
-use Rattle.std.proofs.Common.{◌≡◌, ◌≤◌, ℕ, List, ◌∷◌, sym, ap, subst, ◌∙◌, map}
-use Rattle.std.specs.List.{AllByRecursion}
+use Rattle.std.proofs.Common.{sym, ap, subst, ◌∙◌, map}
 use Rattle.fab_base.specs.FlatMap.{get}
 use Rattle.fab_rights.specs.Computed.{has_bit}
 use Rattle.fab_reads.specs.Reads.{NeverFall, fields_of}
@@ -19,8 +18,8 @@ loop-count-preserved c =
       rising = rising.1;
       here = at.here ∙ sym at.same;
       read = one_more (values_there c.args.program.now (has_bit c.args.classes) c.args.commits.now c.args.oid) c.loop-count.rows c.push.new.self _ c.in-Some.count.now
-      c.in_ok-from_slice.field-0 c.in-Some.after.now c.loop-count.rest.now rest_is c.in_ok-push.ensures.ok
-      (c.in_ok-from_slice.ensures ∙ c.values_in.ensures ∙ ap (λ m. fields_of (get m c.args.oid)) at.here) i.read;
+          c.in_ok-from_slice.field-0 c.in-Some.after.now c.loop-count.rest.now rest_is c.in_ok-push.ensures.ok
+          (c.in_ok-from_slice.ensures ∙ c.values_in.ensures ∙ ap (λ m. fields_of (get m c.args.oid)) at.here) i.read;
     }
 
 pub returns : goal.returns
