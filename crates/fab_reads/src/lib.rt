@@ -2,5 +2,10 @@
 #![tactic(auto)]
 
 mod reading;
+mod text;
+mod values;
+mod walk;
 
 pub use reading::Reading;
+pub use text::put_reads;
+pub use values::values_after;
