@@ -17,6 +17,7 @@ use Rattle.fab_labelling.specs.Refusals.{IsFirstRefusal}
 use Rattle.fab_labelling.proofs.OneRefusal.{one_refusal}
 use Rattle.fab_command.specs.declared.command.Command.{Command}
 use Rattle.fab_command.specs.declared.command.Command.TheVariants.{Check, Evaluate, Flows, Format, Infer, Replay, Run, Trust, View}
+use Rattle.fab_command.specs.declared.command.Telling.TheVariants.{Reads, Report, Summary}
 use Rattle.fab_front.specs.declared.texts.Outcome.TheVariants as outcome
 use Rattle.fab_front.specs.declared.status.Status.{Status}
 use Rattle.fab_front.specs.declared.status.Status.TheVariants.{Ok, Syntax, Name, Label as Labelled, Limit}
@@ -69,7 +70,9 @@ named_labels : (c : Command) (s : Start) {A : Type 0} → AsksLabels c s → Lac
 named_labels Check s asks lacks = absurd lacks
 named_labels Evaluate s asks lacks = absurd lacks
 named_labels Replay s asks lacks = absurd lacks
-named_labels (Run x) s asks lacks = absurd lacks
+named_labels (Run Report) s asks lacks = absurd lacks
+named_labels (Run Summary) s asks lacks = absurd lacks
+named_labels (Run (Reads root times)) s asks lacks = absurd (lacks asks)
 named_labels (View names) s asks lacks = absurd (true≢false (sym asks ∙ lacks))
 named_labels (Trust names) s asks lacks = absurd (true≢false (sym asks ∙ lacks))
 named_labels (Flows a b) s asks lacks = absurd asks

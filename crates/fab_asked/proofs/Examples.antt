@@ -2,7 +2,7 @@
 use Rattle.std.proofs.Common.{◌≡◌, ℕ, List, [], ◌∷◌, ◌++◌, Some, None, refl, codes}
 use Rattle.std.specs.Fmt.{digits}
 use Rattle.fab_command.specs.declared.command.Command.TheVariants.{Flows, Infer, Run, Trust, View}
-use Rattle.fab_command.specs.declared.command.Telling.TheVariants.{Report}
+use Rattle.fab_command.specs.declared.command.Telling.TheVariants.{Reads, Report}
 use Rattle.fab_command.specs.declared.task.Task.TheVariants.{Drill, Generate, Reply}
 use Rattle.fab_asked.specs.Words.{asked}
 
@@ -65,6 +65,58 @@ too_many_nodes = refl
 
 not_in_another_order : asked (codes "view" ∷ codes "a" ∷ codes "b" ∷ []) ≡ Some (Reply (View (codes "b" ∷ codes "a" ∷ []))) → ⊥
 not_in_another_order e = cc
+
+-- ---- a name and a number of reads
+
+watched : asked (codes "watch" ∷ codes "a" ∷ codes "3" ∷ []) ≡ Some (Reply (Run (Reads (codes "a") 3)))
+unfolding digits
+watched = refl
+
+once : asked (codes "watch" ∷ codes "s_1" ∷ codes "1" ∷ []) ≡ Some (Reply (Run (Reads (codes "s_1") 1)))
+unfolding digits
+once = refl
+
+most_reads : asked (codes "watch" ∷ codes "a" ∷ codes "1000" ∷ []) ≡ Some (Reply (Run (Reads (codes "a") 1000)))
+unfolding digits
+most_reads = refl
+
+too_many_reads : asked (codes "watch" ∷ codes "a" ∷ codes "1001" ∷ []) ≡ None
+unfolding digits
+too_many_reads = refl
+
+no_reads : asked (codes "watch" ∷ codes "a" ∷ codes "0" ∷ []) ≡ None
+unfolding digits
+no_reads = refl
+
+reads_with_zero : asked (codes "watch" ∷ codes "a" ∷ codes "03" ∷ []) ≡ None
+unfolding digits
+reads_with_zero = refl
+
+read_keyword : asked (codes "watch" ∷ codes "store" ∷ codes "3" ∷ []) ≡ None
+unfolding digits
+read_keyword = refl
+
+read_number : asked (codes "watch" ∷ codes "3" ∷ codes "3" ∷ []) ≡ None
+unfolding digits
+read_number = refl
+
+reads_first : asked (codes "watch" ∷ codes "3" ∷ codes "a" ∷ []) ≡ None
+unfolding digits
+reads_first = refl
+
+watch_alone : asked (codes "watch" ∷ []) ≡ None
+watch_alone = refl
+
+watch_without_reads : asked (codes "watch" ∷ codes "a" ∷ []) ≡ None
+watch_without_reads = refl
+
+watch_of_two : asked (codes "watch" ∷ codes "a" ∷ codes "b" ∷ codes "3" ∷ []) ≡ None
+watch_of_two = refl
+
+-- a run without a reader is another wish
+no_run : asked (codes "watch" ∷ codes "a" ∷ codes "3" ∷ []) ≡ Some (Reply (Run Report)) → ⊥
+unfolding digits
+no_run e = let other : Some (Reply (Run (Reads (codes "a") 3))) ≡ Some (Reply (Run Report)) = e in cc
 
 -- ---- a number and a size
 

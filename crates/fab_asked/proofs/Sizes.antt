@@ -4,18 +4,18 @@ use Rattle.std.specs.declared.alloc.Global.{Global}
 use Rattle.std.proofs.lemmas.Bool.{leb-true, and_parts}
 use Rattle.fab_command.specs.declared.command.Command.{Command}
 use Rattle.fab_command.specs.declared.task.Task.TheVariants.{Drill, Generate, Reply}
-use Rattle.fab_asked.specs.Numbers.{IsSized, number_of, numbers_of, paired}
+use Rattle.fab_asked.specs.Numbers.{IsSized, number_of, numbers_of, paired, sized}
 use Rattle.fab_asked.specs.Words.{asked, asked_by, command_asked}
 
 abbrev IsInRange : Option (ℕ × ℕ) → Type 0
 IsInRange (Some x) = (1 ≤ x.1) × (x.1 ≤ 1000)
 IsInRange None = Unit {0}
 
-sized_pair : (number size : ℕ) (b : Bool) → (nat_le 1 size && nat_le size 1000) ≡ b → IsInRange (if b then Some (number, size) else None)
+sized_pair : (number size : ℕ) (b : Bool) → (nat_le 1 size && nat_le size 1000) ≡ b → IsInRange (paired (Some number) (if b then Some size else None))
 sized_pair number size false e = tt
 sized_pair number size true e = let h = and_parts (nat_le 1 size) (nat_le size 1000) e in (leb-true 1 size h.0, leb-true size 1000 h.1)
 
-pairs_in : (number size : Option ℕ) → IsInRange (paired number size)
+pairs_in : (number size : Option ℕ) → IsInRange (paired number (sized size))
 pairs_in None size = tt
 pairs_in (Some number) None = tt
 pairs_in (Some number) (Some size) = sized_pair number size (nat_le 1 size && nat_le size 1000) refl

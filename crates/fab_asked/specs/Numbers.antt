@@ -1,5 +1,5 @@
 -- Which words are numbers.
-use Rattle.std.specs.Prelude.{ℕ, ◌==◌, ◌&&◌, ◌||◌, ◌≤◌, Bool, false, nat_le, List, [], ◌∷◌, Option, Some, None, if◌then◌else◌}
+use Rattle.std.specs.Prelude.{ℕ, ◌==◌, ◌&&◌, ◌||◌, ◌≤◌, Bool, false, nat_le, List, [], ◌∷◌, Option, Some, None, option_map, if◌then◌else◌}
 use Rattle.std.specs.Fmt.{decimal}
 use Rattle.std.specs.Str.{bytes_eq}
 use Rattle.std.specs.Str.Parse.{digits_value}
@@ -17,19 +17,22 @@ has_front [] = false
 has_front (b ∷ []) = b == 43
 has_front (b ∷ c ∷ cs) = b == 43 || b == 48
 
--- a size is one from 1 to 1000
-abbrev pub with_size : ℕ → Option ℕ → Option (ℕ × ℕ)
-with_size number (Some size) = if nat_le 1 size && nat_le size 1000 then Some (number, size) else None
-with_size number None = None
+-- a size is a number from 1 to 1000
+abbrev pub sized : Option ℕ → Option ℕ
+sized (Some size) = if nat_le 1 size && nat_le size 1000 then Some size else None
+sized None = None
+
+abbrev pub size_of : List ℕ → Option ℕ
+size_of word = sized (number_of word)
 
 -- a number and a size
 abbrev pub paired : Option ℕ → Option ℕ → Option (ℕ × ℕ)
-paired (Some number) size = with_size number size
+paired (Some number) size = option_map (λ n. (number, n)) size
 paired None size = None
 
 -- the words are a number and a size
 abbrev pub numbers_of : List (List ℕ) → Option (ℕ × ℕ)
-numbers_of (number ∷ size ∷ []) = paired (number_of number) (number_of size)
+numbers_of (number ∷ size ∷ []) = paired (number_of number) (size_of size)
 numbers_of [] = None
 numbers_of (number ∷ []) = None
 numbers_of (number ∷ size ∷ other ∷ others) = None

@@ -5,11 +5,11 @@ use Rattle.std.specs.Str.{bytes_eq}
 use Rattle.std.specs.declared.alloc.Global.{Global}
 use Rattle.fab_command.specs.declared.command.Command.{Command}
 use Rattle.fab_command.specs.declared.command.Command.TheVariants.{Check, Evaluate, Flows, Format, Infer, Replay, Run, Trust, View}
-use Rattle.fab_command.specs.declared.command.Telling.TheVariants.{Report}
+use Rattle.fab_command.specs.declared.command.Telling.TheVariants.{Reads, Report}
 use Rattle.fab_command.specs.declared.task.Task.{Task}
 use Rattle.fab_command.specs.declared.task.Task.TheVariants.{Drill, Generate, Reply}
 use Rattle.fab_asked.specs.Names.{is_name_word}
-use Rattle.fab_asked.specs.Numbers.{numbers_of}
+use Rattle.fab_asked.specs.Numbers.{numbers_of, size_of}
 
 -- the word begins with `-`
 abbrev pub begins_with_dash : List ℕ → Bool
@@ -29,6 +29,17 @@ command_of word =
 -- the command of a word and two operands, which are names
 abbrev pub command_with : List ℕ → List ℕ → List ℕ → Option Command
 command_with word from to = if bytes_eq word (codes "flows") && (is_name_word from && is_name_word to) then Some (Flows from to) else None
+
+-- the command of these operands of `watch`: a name, and how often it is read, a number from 1 to 1000
+abbrev pub reads_of : List ℕ → Option ℕ → Option Command
+reads_of root (Some times) = if is_name_word root then Some (Run (Reads root times)) else None
+reads_of root None = None
+
+abbrev pub watch_of : List (List ℕ) → Option Command
+watch_of (root ∷ times ∷ []) = reads_of root (size_of times)
+watch_of [] = None
+watch_of (root ∷ []) = None
+watch_of (root ∷ times ∷ other ∷ others) = None
 
 -- the nodes of these operands: up to 32 names, of which some may be the same
 abbrev pub nodes_of : List (List ℕ) → Option (List (List ℕ))
@@ -52,7 +63,8 @@ command_among word (from ∷ to ∷ other ∷ others) = None
 abbrev pub command_asked : List ℕ → List (List ℕ) → Option Command
 command_asked word operands =
     if bytes_eq word (codes "view") then view_of operands
-    else (if bytes_eq word (codes "trust") then trust_of operands else command_among word operands)
+    else (if bytes_eq word (codes "trust") then trust_of operands
+    else (if bytes_eq word (codes "watch") then watch_of operands else command_among word operands))
 
 -- what words ask for: the first tells what, and the others are its operands
 abbrev pub asked : List (List ℕ) → Option Task

@@ -2,10 +2,10 @@
 ghost use Rattle.std.specs.Prelude.{◌≡◌, ◌∷◌, IfOk, Some, None, if◌then◌else◌, map};
 ghost use Rattle.std.specs.List.{list_all};
 ghost use Rattle.fab_asked.specs.Names.{is_name_word};
-ghost use Rattle.fab_asked.specs.Words.{asked, command_among, command_asked, command_of, command_with, nodes_of, trust_of, view_of};
+ghost use Rattle.fab_asked.specs.Words.{asked, command_among, command_asked, command_of, command_with, nodes_of, reads_of, trust_of, view_of, watch_of};
 
 use crate::names::is_name;
-use crate::numbers::numbers_of;
+use crate::numbers::{numbers_of, size_of};
 use fab_base::{NoMemory, Seq, Text};
 use fab_command::{Command, Task, Telling};
 use std::alloc::Global;
@@ -103,6 +103,32 @@ fn trust_of(alloc: Global, operands: &[&str]) -> Result<Option<Command>, NoMemor
     }
 }
 
+/// The command of a root that is read so many times, if that is a number.
+fn reads_of(alloc: Global, root: &str, times: Option<u32>) -> Result<Option<Command>, NoMemory>
+    ensures { IfOk result (λ c. c ≡ reads_of root.now times) }
+{
+    let Some(times) = times else {
+        return Ok(None);
+    };
+    if !is_name(alloc, root)? {
+        return Ok(None);
+    }
+    let root = Text::make(alloc, root)?;
+    Ok(Some(Command::Run(Telling::Reads { root, times })))
+}
+
+/// The command of these operands of `watch`.
+fn watch_of(alloc: Global, operands: &[&str]) -> Result<Option<Command>, NoMemory>
+    ensures { IfOk result (λ c. c ≡ watch_of (map (λ v. v.now) operands.now)) }
+{
+    match operands {
+        [] => Ok(None),
+        [_] => Ok(None),
+        [root, times] => reads_of(alloc, root, size_of(times)),
+        [_, _, _, ..] => Ok(None),
+    }
+}
+
 /// The command of a word and its operands.
 fn commanded(alloc: Global, word: &str, operands: &[&str]) -> Result<Option<Command>, NoMemory>
     ensures { IfOk result (λ c. c ≡ command_asked word.now (map (λ v. v.now) operands.now)) }
@@ -111,13 +137,15 @@ fn commanded(alloc: Global, word: &str, operands: &[&str]) -> Result<Option<Comm
         view_of(alloc, operands)
     } else if word == "trust" {
         trust_of(alloc, operands)
+    } else if word == "watch" {
+        watch_of(alloc, operands)
     } else {
         named_among(alloc, word, operands)
     }
 }
 
-/// What a word asks for, with its operands: two names of the language for `flows`, up to 32 for `view` and `trust`, a
-/// number and a size for `gen` and `drill`, and none for the other commands. Whatever else there is asks for nothing.
+/// What a word asks for, with its operands: two names of the language for `flows`, up to 32 for `view` and `trust`, one
+/// and a number of reads for `watch`, a number and a size for `gen` and `drill`, and none for the other commands. Whatever else there is asks for nothing.
 pub fn asked_with(alloc: Global, word: &str, operands: &[&str]) -> Result<Option<Task>, NoMemory>
     ensures { IfOk result (λ t. t ≡ asked (word.now ∷ map (λ v. v.now) operands.now)) }
 {

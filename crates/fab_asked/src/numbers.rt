@@ -1,8 +1,8 @@
 //! Which words are numbers.
 ghost use Rattle.std.specs.Prelude.{◌≡◌, map};
-ghost use Rattle.fab_asked.specs.Numbers.{has_front, number_of, numbers_of};
+ghost use Rattle.fab_asked.specs.Numbers.{has_front, number_of, numbers_of, size_of};
 
-/// The greatest size.
+/// The greatest size, and the most reads.
 const MOST: u32 = 1000;
 
 /// Whether the word begins with `+`, or with a zero that isn't all of it.
@@ -29,6 +29,18 @@ fn number_of(word: &str) -> Option<u32>
     }
 }
 
+/// The size that the word writes: a number from 1 to 1,000.
+pub(crate) fn size_of(word: &str) -> Option<u32>
+    ensures { result ≡ size_of word.now }
+{
+    let size = number_of(word)?;
+    if 1 <= size && size <= MOST {
+        Some(size)
+    } else {
+        None
+    }
+}
+
 /// The number and the size that the words are.
 pub(crate) fn numbers_of(words: &[&str]) -> Option<(u32, u32)>
     ensures { result ≡ numbers_of (map (λ v. v.now) words.now) }
@@ -37,10 +49,6 @@ pub(crate) fn numbers_of(words: &[&str]) -> Option<(u32, u32)>
         return None;
     };
     let number = number_of(number)?;
-    let size = number_of(size)?;
-    if 1 <= size && size <= MOST {
-        Some((number, size))
-    } else {
-        None
-    }
+    let size = size_of(size)?;
+    Some((number, size))
 }

@@ -3,12 +3,14 @@
 use fab_base::{Seq, Text};
 
 /// What is to be told of a run that the nodes of a bundle make by themselves.
-#[derive(Clone, Copy, Debug, PartialEq, Eq)]
+#[derive(Debug, Drop)]
 pub enum Telling {
     /// Its report.
     Report,
     /// One line on its requests, and on what the stores hold behind them.
     Summary,
+    /// Its report, and what somebody reads of the root of this name: so many times beside the run, and once behind it.
+    Reads { root: Text, times: u32 },
 }
 
 /// What may be asked of a bundle.

@@ -4,6 +4,7 @@ use Rattle.std.specs.Fmt.{decimal}
 use Rattle.std.specs.Str.{bytes_eq}
 use Rattle.fab_base.specs.declared.label.Label.{Label}
 use Rattle.fab_base.specs.declared.limit.What.{What}
+use Rattle.fab_base.specs.declared.object.Oid.{Oid}
 use Rattle.fab_tree.specs.declared.start.Start.{Start}
 use Rattle.fab_language.specs.declared.rule.Fault.{Fault}
 use Rattle.fab_language.specs.declared.rule.NameRule.TheVariants.{Unknown}
@@ -13,12 +14,14 @@ use Rattle.fab_labelling.specs.declared.rule.Refusal.{Refusal}
 use Rattle.fab_labelling.specs.Refusals.{IsFirstRefusal}
 use Rattle.fab_command.specs.declared.command.Command.{Command}
 use Rattle.fab_command.specs.declared.command.Command.TheVariants.{Check, Evaluate, Flows, Format, Infer, Replay, Run, Trust, View}
+use Rattle.fab_command.specs.declared.command.Telling.TheVariants.{Reads, Report, Summary}
 use Rattle.fab_front.specs.declared.texts.Outcome.TheVariants as outcome
 use Rattle.fab_front.specs.declared.status.Status.{Status}
 use Rattle.fab_front.specs.declared.status.Status.TheVariants.{Syntax, Name, Label as Labelled, Limit}
 use Rattle.fab_front.specs.Front.{Front}
 use Rattle.fab_front.specs.Lines.{label_line, line, name_line, what_word}
 use Rattle.fab_front.specs.Named.{are_node_names}
+use Rattle.fab_front.specs.Readable.{IsReadable}
 
 -- every command but `fmt` and `infer` asks for the rules of names and types of the text as it stands
 abbrev pub AsksNames : Command → Type 0
@@ -32,12 +35,18 @@ AsksNames (Flows a b) = Unit {0}
 AsksNames Format = ⊥
 AsksNames Infer = ⊥
 
--- `check`, `eval`, `replay`, `run`, `view` and `trust` ask for the rules of labels, these two behind the names of their nodes
+-- one of the roots of this name may be read
+abbrev pub HasReadable : Start → List ℕ → Type 0
+HasReadable s root = (oid : Oid) × IsReadable (resolved s) root oid
+
+-- `check`, `eval`, `replay`, `run`, `view`, `trust` and `watch` ask for the rules of labels, these three behind the names of their nodes and of its root
 abbrev pub AsksLabels : Command → Start → Type 0
 AsksLabels Check s = Unit {0}
 AsksLabels Evaluate s = Unit {0}
 AsksLabels Replay s = Unit {0}
-AsksLabels (Run x) s = Unit {0}
+AsksLabels (Run Report) s = Unit {0}
+AsksLabels (Run Summary) s = Unit {0}
+AsksLabels (Run (Reads root times)) s = HasReadable s root
 AsksLabels (View names) s = are_node_names (resolved s) names ≡ true
 AsksLabels (Trust names) s = are_node_names (resolved s) names ≡ true
 AsksLabels (Flows a b) s = ⊥
@@ -48,11 +57,12 @@ AsksLabels Infer s = ⊥
 abbrev pub label_of : Start → List ℕ → Option Label
 label_of s word = option_map (λ x. x.label) (find (λ x. bytes_eq x.name.text word) (resolved s).labels)
 
--- a word of the command names nothing: one of `flows` is no label, or one of `view` or `trust` is no node
+-- a word of the command names nothing: one of `flows` is no label, one of `view` or `trust` is no node, or that of `watch` is no root that may be read
 abbrev pub LacksName : Command → Start → Type 0
 LacksName (Flows a b) s = (label_of s a ≡ None) ⊎ (label_of s b ≡ None)
 LacksName (View names) s = are_node_names (resolved s) names ≡ false
 LacksName (Trust names) s = are_node_names (resolved s) names ≡ false
+LacksName (Run (Reads root times)) s = HasReadable s root → ⊥
 LacksName _ s = ⊥
 
 -- Refuses command text status written: a text is refused as it comes to no bundle, the same for every command; for the first fault of its names, the

@@ -17,17 +17,19 @@ use Rattle.fab_core.specs.Cores.{CoreModel, is_honest, setting, slot, world_by}
 use Rattle.fab_core.specs.Moved.{faults_in}
 use Rattle.fab_core.specs.Telling.{IsJournalAt, those_in}
 use Rattle.fab_core.specs.Honest.{AreFor, honest_in}
-use Rattle.fab_command.specs.declared.command.Telling.{Telling}
+use Rattle.fab_reads.specs.declared.reading.Reading.{Reading}
+use Rattle.fab_reads.specs.Reads.{AreCountsOf}
 use Rattle.fab_replay.specs.Courses.{HasRun, HasStopped, IsAtStart, IsCourse}
 use Rattle.fab_replay.specs.Integral.{IsExcluded, IsIntegral}
 use Rattle.fab_replay.specs.Isolated.{IsIsolated}
 use Rattle.fab_replay.specs.Trusted.{IsTrusted}
 use Rattle.fab_replay.specs.Kept.{IsCutOff, IsCutShort, IsEntryAt, IsFrontRun, IsOfRun, IsOnWay, IsPossible, IsReplayed, has_mark, unlost, with_more}
 use Rattle.fab_replay.specs.Making.{HaveMade}
-use Rattle.fab_replay.specs.Replays.{IsStopped, StopsIn, Tells, events_of, first_mark, is_scheduled, moves_of}
+use Rattle.fab_replay.specs.Replays.{IsStopped, StopsIn, Tells, commits_of_run, events_of, first_mark, is_scheduled, moves_of, reading_of}
 use Rattle.fab_replay.specs.Running.{AreBehind, AreMarked, AreSure, AreUnfailed, ComesTo, GivesBack, IsBehind, IsEnded, IsMarked, entries_of, failed_by}
 use Rattle.fab_replay.specs.declared.replayed.Replayed.{Replayed}
 use Rattle.fab_replay.specs.declared.replayed.Replayed.TheVariants as r
+use Rattle.fab_replay.specs.declared.replayed.Told.{Told}
 use Rattle.fab_replay.specs.declared.replayed.Wanted.{Wanted}
 use Rattle.fab_replay.specs.declared.replayed.Wanted.TheVariants.{Report, Run, Trust, View}
 use Rattle.fab_replay.specs.declared.running.Ran.{Ran}
@@ -125,7 +127,7 @@ on_way g moves (View nodes seen part) is h = h
 on_way g moves (Trust nodes part) is h = h
 
 -- one that nodes make by themselves keeps the crash lines
-pub lined_way : {x : Telling} (g : GivenModel) (moves : List Move) (wanted : Wanted) → wanted ≡ Run x → KeepsLines (setting g) (lines_of g.program) moves → IsOnWay g wanted moves
+pub lined_way : {x : Told} (g : GivenModel) (moves : List Move) (wanted : Wanted) → wanted ≡ Run x → KeepsLines (setting g) (lines_of g.program) moves → IsOnWay g wanted moves
 lined_way g moves wanted is h = subst (λ w. IsOnWay g w moves) (sym is) h
 
 -- ---- the whole
@@ -214,19 +216,22 @@ sure_behind told first last unfailed h =
     subst (λ (x : GivenModel). AreSure told x last.journals) (sym h.given) (λ n cannot. h.sure n ∙ (unfailed n).sure cannot)
 
 -- the course came there, or stopped
-module _ {x : Telling} (makes : Wanted → Bool) (may : CoreModel → Type 0) (comes : CoreModel → Result CoreModel CoreModel → Type 0) (wanted : Wanted) (told : Option (List (List ℕ)))
-    (first last : CoreModel) (result : Result CoreModel CoreModel) (course : IsCourse makes may comes) (is : wanted ≡ Run x) (made : IsTrue (makes wanted)) (none : first.moves ≡ [])
-    (unfailed : AreUnfailed told first.given first.journals) (came : comes first result) where
-  ends : IfOk result (HasRun first) × IfErr result (HasStopped first)
+module _ {x : Told} (makes : Wanted → Bool) (may : CoreModel → Type 0) (comes : CoreModel → Option Reading → Result (CoreModel × List ℕ) CoreModel → Type 0) (wanted : Wanted) (told : Option (List (List ℕ)))
+    (first : CoreModel) (result : Result (CoreModel × List ℕ) CoreModel) (course : IsCourse makes may comes) (is : wanted ≡ Run x) (made : IsTrue (makes wanted)) (none : first.moves ≡ [])
+    (unfailed : AreUnfailed told first.given first.journals) (came : comes first (reading_of x) result) where
+  abbrev HasCome : CoreModel × List ℕ → Type 0
+  HasCome r = HasRun first r.0 × AreCountsOf (reading_of x) (commits_of_run r.0.given r.0.moves) r.1
+
+  ends : IfOk result HasCome × IfErr result (HasStopped first)
   ends =
       let start : IsAtStart first = record { moves = none; unfailed = λ n. (unfailed n).faults } in
       (course x (subst (λ w. IsTrue (makes w)) is made) first start).1 result came
 
-  pub ran_on : result ≡ Ok last → HasRun first last
-  ran_on was = subst (λ x. IfOk x (HasRun first)) was ends.0
+  pub ran_on : (last : CoreModel × List ℕ) → result ≡ Ok last → HasCome last
+  ran_on last was = subst (λ o. IfOk o HasCome) was ends.0
 
-  pub stopped : result ≡ Err last → HasStopped first last
-  stopped was = subst (λ x. IfErr x (HasStopped first)) was ends.1
+  pub stopped : (last : CoreModel) → result ≡ Err last → HasStopped first last
+  stopped last was = subst (λ o. IfErr o (HasStopped first)) was ends.1
 
 -- what never fails never does where it stopped
 pub sure_stopped : (told : Option (List (List ℕ))) (first last : CoreModel) → AreUnfailed told first.given first.journals → HasStopped first last → AreSure told last.given last.journals

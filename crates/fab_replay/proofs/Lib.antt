@@ -2,6 +2,7 @@
 pub mod Moves
 pub mod Marks
 pub mod Told
+pub mod Counts
 pub mod Behind
 pub mod Accepted
 pub mod Resting
@@ -13,6 +14,7 @@ pub mod Steps
 pub mod Scheduled
 pub mod Viewing
 pub mod Trusting
+pub mod Readable
 pub mod Ends
 pub mod Starting
 pub mod Exact

@@ -1,6 +1,6 @@
 -- Examples of replays, computed.
 use Rattle.std.specs.Prelude.{◌≡◌, ◌<◌, ◌==◌, ℕ, zero, suc, Bool, true, false, List, [], ◌∷◌, ◌++◌, map, take, Option, Some, None, Ok, Err, IfErr, IfOk, codes, pos}
-use Rattle.std.proofs.Common.{refl, sym, ap, ◌∙◌, subst, inl, arith, get_or, length, lit<, true≢false}
+use Rattle.std.proofs.Common.{refl, sym, ap, ◌∙◌, subst, inl, arith, get_or, length, lit<, lit≤, true≢false}
 use Rattle.std.specs.Fmt.{digits}
 use Rattle.std.proofs.lemmas.List.{length-take}
 use Rattle.std.proofs.lemmas.Bool.{eqb-true, false≢true, ne_eqb}
@@ -37,17 +37,19 @@ use Rattle.fab_node.specs.Standing.{GivenModel, JournalModel}
 use Rattle.fab_core.specs.Cores.{CoreModel, marked, setting, unmarked, world_by}
 use Rattle.fab_core.specs.Starts.{Empty, given_by}
 use Rattle.fab_core.specs.Honest.{AreFor, honest_in, honest_up}
-use Rattle.fab_command.specs.declared.command.Telling.{Telling}
-use Rattle.fab_command.specs.declared.command.Telling.TheVariants as telling
 use Rattle.fab_replay.specs.Courses.{HasRun, HasStopped, IsAtStart, IsCourse}
 use Rattle.fab_replay.specs.Integral.{IsExcluded, IsIntegral}
 use Rattle.fab_replay.specs.Kept.{HandsBack, IsEntryAt, IsEntryBehind, IsEntryFresh, IsOnWay, IsPossible, IsStartShort, MakesAll, Unmade, Unwritten, has_mark, unlost, with_more}
 use Rattle.fab_replay.specs.Making.{HasNoJournal}
-use Rattle.fab_replay.specs.Replays.{IsRunOver, is_scheduled, StopsBefore, Tells, event_of, first_mark, moves_of, report_of}
+use Rattle.fab_replay.specs.Replays.{HasCounts, IsRunOver, commits_of_run, is_scheduled, reading_of, reads_of, StopsBefore, Tells, event_of, first_mark, moves_of, report_of}
 use Rattle.fab_replay.specs.Running.{IsMarked}
 use Rattle.fab_replay.specs.declared.replayed.Replayed.TheVariants as r
+use Rattle.fab_replay.specs.declared.replayed.Told.{Told}
+use Rattle.fab_replay.specs.declared.replayed.Told.TheVariants as told
 use Rattle.fab_replay.specs.declared.replayed.Wanted.{Wanted}
 use Rattle.fab_replay.specs.declared.replayed.Wanted.TheVariants.{Report, Run}
+use Rattle.fab_reads.specs.declared.reading.Reading.{Reading}
+use Rattle.fab_reads.specs.Reads.{AreCountsOf}
 use Rattle.fab_replay.proofs.Keeping.{rises}
 use Rattle.fab_replay.proofs.Stopping.{not_begun}
 
@@ -153,7 +155,7 @@ none_of_number_zero : (g : GivenModel) (moves : List Move) → StopsBefore g mov
 none_of_number_zero g moves h = let n = h.number_is in omega (arith, n)
 
 -- a run that nodes make by themselves stands in no schedule
-no_event_is_barred : (g : GivenModel) (x : Telling) (moves : List Move) (number : ℕ) → Tells g (Run x) moves (r.NotEnabled number) → ⊥
+no_event_is_barred : (g : GivenModel) (x : Told) (moves : List Move) (number : ℕ) → Tells g (Run x) moves (r.NotEnabled number) → ⊥
 no_event_is_barred g x moves number h = h
 
 -- behind a run there is a report
@@ -374,7 +376,7 @@ no_more_than_a_set h =
 at_its_begin : IsOnWay g Report []
 at_its_begin = inl (0, refl)
 
-by_themselves : IsOnWay g (Run telling.Report) []
+by_themselves : IsOnWay g (Run told.Report) []
 by_themselves = refl
 
 -- ---- runs that nodes make by themselves: with no request, no post and no crash line nothing is due
@@ -383,17 +385,37 @@ nothing_to_do : IsRunOver g []
 unfolding kept_of shelf_of
 nothing_to_do = record { lined = refl; over = none_is_due (setting g) (lines_of program) (world_by g []) [] (lit< tt) (lit< tt) refl }
 
-its_report : Tells g (Run telling.Report) [] (r.Done (report_of g []))
-its_report = ((nothing_to_do, refl), refl)
+its_report : Tells g (Run told.Report) [] (r.Done (report_of g []))
+its_report = ((nothing_to_do, refl), refl, tt)
 
 -- its summary: t holds one object, which counts 5
-its_summary : Tells g (Run telling.Summary) [] (r.Done (codes "requests 0 committed 0 objects 1 total 5" ++ 10 ∷ []))
+its_summary : Tells g (Run told.Summary) [] (r.Done (codes "requests 0 committed 0 objects 1 total 5" ++ 10 ∷ []))
 unfolding digits kept_of shelf_of
-its_summary = ((nothing_to_do, refl), refl)
+its_summary = ((nothing_to_do, refl), refl, tt)
 
-not_of_another_sum : Tells g (Run telling.Summary) [] (r.Done (codes "requests 0 committed 0 objects 1 total 6" ++ 10 ∷ [])) → ⊥
+not_of_another_sum : Tells g (Run told.Summary) [] (r.Done (codes "requests 0 committed 0 objects 1 total 6" ++ 10 ∷ [])) → ⊥
 unfolding digits kept_of shelf_of
 not_of_another_sum h = let other : 54 ≡ 53 = ap (λ bytes. get_or bytes 39 0) h.1 in omega (arith, other)
+
+-- somebody who reads the root once: nothing is committed, so both reads see the state at the start
+abbrev reader : Reading
+reader = record { oid = record { store = 1; class = 0; worker = 0; boot = 0; number = 0; site = 0 }; classes = 1; times = 1 }
+
+its_reads : Tells g (Run (told.Reads reader (0 ∷ 0 ∷ []))) [] (r.Done (report_of g [] ++ reads_of g reader (0 ∷ 0 ∷ []) []))
+unfolding kept_of shelf_of
+its_reads = ((nothing_to_do, refl), refl, record { many = refl; rising = ((lit≤ tt, tt), tt, tt); whole = refl })
+
+-- no read sees a commit more than there are, and none is left out
+not_of_a_later_state : (bytes : List ℕ) → Tells g (Run (told.Reads reader (0 ∷ 1 ∷ []))) [] (r.Done bytes) → ⊥
+unfolding kept_of shelf_of
+not_of_a_later_state bytes h = let last : ◌≡◌ {A = Option ℕ} (Some 1) (Some 0) = h.2.whole in cc
+
+not_without_the_last : (bytes : List ℕ) → Tells g (Run (told.Reads reader (0 ∷ []))) [] (r.Done bytes) → ⊥
+not_without_the_last bytes h = let one : 1 ≡ 2 = h.2.many in omega (arith, one)
+
+-- before the run there are no counts
+not_yet : HasCounts g (Run (told.Reads reader [])) [] → ⊥
+not_yet h = let none : 0 ≡ 2 = h.many in omega (arith, none)
 
 -- no crash comes that no line makes
 no_crash_by_itself : IsRunOver g (moves_of (e.Crash 1 ∷ e.Recover 1 ∷ [])) → ⊥
@@ -431,13 +453,13 @@ over_behind_failure = record {
   over = none_is_due (setting crashing) (lines_of crashing.program) (world_by crashing failing) failing (lit< tt) (lit< tt) refl;
 }
 
-t_has_failed : Tells crashing (Run telling.Report) failing (r.JournalFault 1 (Some (report_of crashing failing)))
-t_has_failed = ((over_behind_failure, refl), refl)
+t_has_failed : Tells crashing (Run told.Report) failing (r.JournalFault 1 (Some (report_of crashing failing)))
+t_has_failed = ((over_behind_failure, refl), refl, tt)
 
-not_w : (bytes : List ℕ) → Tells crashing (Run telling.Report) failing (r.JournalFault 0 (Some bytes)) → ⊥
+not_w : (bytes : List ℕ) → Tells crashing (Run told.Report) failing (r.JournalFault 0 (Some bytes)) → ⊥
 not_w bytes h = let other : ◌≡◌ {A = Option ℕ} (Some 1) (Some 0) = h.0.1 in cc
 
-not_done : (bytes : List ℕ) → Tells crashing (Run telling.Report) failing (r.Done bytes) → ⊥
+not_done : (bytes : List ℕ) → Tells crashing (Run told.Report) failing (r.Done bytes) → ⊥
 not_done bytes h = let none : ◌≡◌ {A = Option ℕ} (Some 1) None = h.0.1 in cc
 
 -- of the schedule, which is empty, that is no run
@@ -471,19 +493,19 @@ not_of_another_bundle : HasRun (core_of crashing []) (core_of g []) → ⊥
 not_of_another_bundle h = let same : ◌≡◌ {A = ℕ} 0 1 = ap (λ (x : GivenModel). length x.program.crashes) h.given in omega (arith, same)
 
 -- who makes schedules' runs alone is asked nothing, and who always wants memory makes runs of its own
-by_hand_alone : IsCourse is_scheduled (λ first. ⊥) (λ first result. ⊥)
+by_hand_alone : IsCourse is_scheduled (λ first. ⊥) (λ first reading result. ⊥)
 by_hand_alone x makes = absurd (false≢true makes)
 
-wants_memory : IsCourse (λ wanted. true) (λ first. Unit {0}) (λ first result. result ≡ Err first)
+wants_memory : IsCourse (λ wanted. true) (λ first. Unit {0}) (λ first reading result. result ≡ Err first)
 wants_memory x makes first start = (
   tt,
-  λ result is. (subst (λ o. IfOk o (HasRun first)) (sym is) tt, subst (λ o. IfErr o (HasStopped first)) (sym is) (not_begun first start)),
+  λ result is. (subst (λ o. IfOk o (λ r. HasRun first r.0 × AreCountsOf (reading_of x) (commits_of_run r.0.given r.0.moves) r.1)) (sym is) tt, subst (λ o. IfErr o (HasStopped first)) (sym is) (not_begun first start)),
 )
 
 -- who stays at the start doesn't, where a crash is due
-not_who_stays : IsCourse (λ wanted. true) (λ first. Unit {0}) (λ first result. result ≡ Ok first) → ⊥
-not_who_stays h = not_before_the_crash ((h telling.Report refl (core_of crashing []) (at_start crashing)).1 (Ok (core_of crashing [])) refl).0
+not_who_stays : IsCourse (λ wanted. true) (λ first. Unit {0}) (λ first reading result. result ≡ Ok (first, [])) → ⊥
+not_who_stays h = not_before_the_crash ((h told.Report refl (core_of crashing []) (at_start crashing)).1 (Ok (core_of crashing [], [])) refl).0.0
 
 -- and who goes on from no start is none
-not_without_a_start : IsCourse (λ wanted. true) (λ first. ⊥) (λ first result. result ≡ Err first) → ⊥
-not_without_a_start h = (h telling.Summary refl (core_of g []) (at_start g)).0
+not_without_a_start : IsCourse (λ wanted. true) (λ first. ⊥) (λ first reading result. result ≡ Err first) → ⊥
+not_without_a_start h = (h told.Summary refl (core_of g []) (at_start g)).0

@@ -1,12 +1,14 @@
 -- What is asked of whoever makes runs that nodes make by themselves.
-use Rattle.std.specs.Prelude.{◌≡◌, ℕ, Bool, IsTrue, [], Result, IfErr, IfOk}
-use Rattle.fab_command.specs.declared.command.Telling.{Telling}
+use Rattle.std.specs.Prelude.{◌≡◌, ℕ, Bool, IsTrue, List, [], Option, Result, IfErr, IfOk}
+use Rattle.fab_reads.specs.declared.reading.Reading.{Reading}
+use Rattle.fab_reads.specs.Reads.{AreCountsOf}
 use Rattle.fab_settings.specs.Settings.{lines_of}
 use Rattle.fab_world.specs.Crashing.{KeepsLines}
 use Rattle.fab_core.specs.Cores.{CoreModel, setting, slot}
 use Rattle.fab_core.specs.Moved.{faults_in, sure_in}
-use Rattle.fab_replay.specs.Replays.{IsRunOver}
+use Rattle.fab_replay.specs.Replays.{IsRunOver, commits_of_run, reading_of}
 use Rattle.fab_replay.specs.Running.{AreMarked}
+use Rattle.fab_replay.specs.declared.replayed.Told.{Told}
 use Rattle.fab_replay.specs.declared.replayed.Wanted.{Wanted}
 use Rattle.fab_replay.specs.declared.replayed.Wanted.TheVariants.{Run}
 
@@ -31,7 +33,9 @@ pub record HasStopped (first last : CoreModel) : Type 0 where
   pub marked : AreMarked last.moves last.journals
   pub sure : (n : ℕ) → sure_in (slot last.journals n) ≡ sure_in (slot first.journals n)
 
--- Who makes such runs goes on from each start, and comes to the end of one; or memory runs out, and the nodes are handed back where they stopped.
-abbrev pub IsCourse : (Wanted → Bool) → (CoreModel → Type 0) → (CoreModel → Result CoreModel CoreModel → Type 0) → Type 0
-IsCourse makes may comes = (x : Telling) → IsTrue (makes (Run x)) → (first : CoreModel) → IsAtStart first
-    → may first × ((result : Result CoreModel CoreModel) → comes first result → IfOk result (HasRun first) × IfErr result (HasStopped first))
+-- Who makes such runs goes on from each start, and comes to the end of one, with the counts of its commits where something is read beside it; or
+-- memory runs out, and the nodes are handed back where they stopped.
+abbrev pub IsCourse : (Wanted → Bool) → (CoreModel → Type 0) → (CoreModel → Option Reading → Result (CoreModel × List ℕ) CoreModel → Type 0) → Type 0
+IsCourse makes may comes = (x : Told) → IsTrue (makes (Run x)) → (first : CoreModel) → IsAtStart first
+    → may first × ((result : Result (CoreModel × List ℕ) CoreModel) → comes first (reading_of x) result
+    → IfOk result (λ r. HasRun first r.0 × AreCountsOf (reading_of x) (commits_of_run r.0.given r.0.moves) r.1) × IfErr result (HasStopped first))

@@ -18,7 +18,7 @@ use Rattle.fab_core.specs.Starts.{IsFresh, IsLeft}
 use Rattle.fab_replay.specs.Integral.{IsExcluded, IsIntegral}
 use Rattle.fab_replay.specs.Isolated.{IsIsolated}
 use Rattle.fab_replay.specs.Trusted.{IsTrusted}
-use Rattle.fab_replay.specs.Replays.{StopsIn, Tells, events_of, first_mark, moves_of}
+use Rattle.fab_replay.specs.Replays.{StopsIn, Tells, events_of, first_mark, moves_of, with_counts}
 use Rattle.fab_replay.specs.declared.replayed.Replayed.{Replayed}
 use Rattle.fab_replay.specs.declared.replayed.Replayed.TheVariants as r
 use Rattle.fab_replay.specs.declared.replayed.Wanted.{Wanted}
@@ -154,6 +154,10 @@ abbrev pub IsReplayed : GivenModel → Wanted → Replayed → Makers → Makers
 IsReplayed g wanted (r.JournalFault node None) old new =
     IsTrue (is_honest g node) × (HasNoHeader g node old new ⊎ (IsCutOff g wanted (Some node) old new × MakesAll g old new × (new.faults ≡ old.faults)))
 IsReplayed g wanted answer old new = IsOfRun g wanted answer old new × MakesAll g old new × (new.faults ≡ old.faults)
+
+-- the same, with the counts of the run where something is read beside it
+abbrev pub IsMade : GivenModel → Wanted → Replayed → Makers → Makers → Type 0
+IsMade g wanted answer old new = (counts : List ℕ) × IsReplayed g (with_counts wanted counts) answer old new
 
 -- Memory ran out, and no journal had failed: before there was a run, or behind moves without a mark.
 abbrev pub IsCutShort : GivenModel → Wanted → Makers → Makers → Type 0

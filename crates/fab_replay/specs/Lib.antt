@@ -3,6 +3,7 @@ pub mod Integral
 pub mod Isolated
 pub mod Kept
 pub mod Making
+pub mod Reading
 pub mod Replays
 pub mod Running
 pub mod Trusted

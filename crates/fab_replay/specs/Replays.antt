@@ -6,16 +6,18 @@ use Rattle.fab_tree.specs.declared.resolved.Step.TheVariants as s
 use Rattle.fab_tree.specs.declared.resolved.Event.{Event as Scheduled}
 use Rattle.fab_tree.specs.declared.resolved.Event.TheVariants as t
 use Rattle.fab_net.specs.declared.event.Event.{Event}
+use Rattle.fab_net.specs.declared.note.Commit.{Commit}
 use Rattle.fab_net.specs.declared.event.Event.TheVariants as e
 use Rattle.fab_net.specs.declared.event.Inner.{Inner}
 use Rattle.fab_net.specs.declared.event.Inner.TheVariants as i
-use Rattle.fab_command.specs.declared.command.Telling.{Telling}
-use Rattle.fab_command.specs.declared.command.Telling.TheVariants as telling
+use Rattle.fab_reads.specs.declared.reading.Reading.{Reading}
+use Rattle.fab_reads.specs.Reads.{AreCounts, reads_text, values_after}
 use Rattle.fab_drill.specs.Summary.{summary_of}
 use Rattle.fab_trace.specs.Report.{report}
 use Rattle.fab_rights.specs.Computed.{has_bit}
 use Rattle.fab_world.specs.Machine.{Move, Enabled, at_start, enabled, form_of, logs}
 use Rattle.fab_world.specs.Crashing.{IsOver, KeepsLines}
+use Rattle.fab_world.specs.Serial.{commits_in}
 use Rattle.fab_settings.specs.Settings.{lines_of}
 use Rattle.fab_node.specs.Standing.{GivenModel}
 use Rattle.fab_core.specs.Cores.{marked, setting, unmarked, world_by}
@@ -28,6 +30,8 @@ use Rattle.fab_release.specs.Bundles.{public_part}
 use Rattle.fab_replay.specs.Isolated.{IsSeeing}
 use Rattle.fab_replay.specs.Trusted.{IsTrusting, trusted_in}
 use Rattle.fab_replay.specs.declared.replayed.Replayed.{Replayed}
+use Rattle.fab_replay.specs.declared.replayed.Told.{Told}
+use Rattle.fab_replay.specs.declared.replayed.Told.TheVariants as told
 use Rattle.fab_replay.specs.declared.replayed.Wanted.{Wanted}
 use Rattle.fab_replay.specs.declared.replayed.Wanted.TheVariants.{Report, Run, Trust, View}
 use Rattle.fab_replay.specs.declared.replayed.Replayed.TheVariants as r
@@ -64,10 +68,25 @@ report_of g moves = report g.program (logs (setting g) (at_start (setting g)) mo
 abbrev pub summary_of_run : GivenModel → List Move → List ℕ
 summary_of_run g moves = summary_of (all_held g (world_by g moves)) (all_outcomes g (world_by g moves))
 
+-- the commits of all its workers, in the order of their decisions
+abbrev pub commits_of_run : GivenModel → List Move → List Commit
+commits_of_run g moves = commits_in (setting g) (λ n. false) moves
+
+-- what somebody reads of one object beside it, where the reads saw the states behind so many commits
+abbrev pub reads_of : GivenModel → Reading → List ℕ → List Move → List ℕ
+reads_of g reading counts moves = reads_text g.program (values_after (setting g) (has_bit reading.classes) (commits_of_run g moves) reading.oid) counts
+
 -- what is to be told of a run that nodes make by themselves
-abbrev pub told_of : Telling → GivenModel → List Move → List ℕ
-told_of telling.Report g moves = report_of g moves
-told_of telling.Summary g moves = summary_of_run g moves
+abbrev pub told_of : Told → GivenModel → List Move → List ℕ
+told_of told.Report g moves = report_of g moves
+told_of told.Summary g moves = summary_of_run g moves
+told_of (told.Reads reading counts) g moves = report_of g moves ++ reads_of g reading counts moves
+
+-- what is to be read beside it
+abbrev pub reading_of : Told → Option Reading
+reading_of told.Report = None
+reading_of told.Summary = None
+reading_of (told.Reads reading counts) = Some reading
 
 -- what those outside a set of nodes have sent into it
 abbrev pub view_of : GivenModel → ℕ → List Move → List ℕ
@@ -82,6 +101,16 @@ text_of g Report moves = report_of g moves
 text_of g (Run x) moves = told_of x g moves
 text_of g (View nodes seen part) moves = view_of g nodes moves
 text_of g (Trust nodes part) moves = trust_of g (has_bit part.labels) (has_bit part.classes) moves
+
+-- what is wanted, with these counts where something is read beside the run
+abbrev pub with_counts : Wanted → List ℕ → Wanted
+with_counts (Run (told.Reads reading before)) counts = Run (told.Reads reading counts)
+with_counts wanted counts = wanted
+
+-- where something is read beside the run, these are counts of its commits
+abbrev pub HasCounts : GivenModel → Wanted → List Move → Type 0
+HasCounts g (Run (told.Reads reading counts)) moves = AreCounts reading.times (commits_of_run g moves) counts
+HasCounts g wanted moves = Unit {0}
 
 -- for `view`: the hostile nodes are in the set, this is what it sees, and this is what everybody may know
 pub record IsReadyToView (g : GivenModel) (nodes : ℕ) (seen : Seen) (part : Resolved) : Type 0 where
@@ -154,9 +183,9 @@ IsStopped g _ moves number = StopsBefore g moves number
 
 -- what an answer tells of the moves, with the text that is wanted of a run
 abbrev pub Tells : GivenModel → Wanted → List Move → Replayed → Type 0
-Tells g wanted moves (r.Done bytes) = IsWhole g wanted moves × (bytes ≡ text_of g wanted moves)
+Tells g wanted moves (r.Done bytes) = IsWhole g wanted moves × (bytes ≡ text_of g wanted moves) × HasCounts g wanted moves
 Tells g wanted moves (r.NotEnabled number) = IsStopped g wanted moves number
-Tells g wanted moves (r.JournalFault node (Some bytes)) = IsFaulty g wanted moves node × (bytes ≡ text_of g wanted moves)
+Tells g wanted moves (r.JournalFault node (Some bytes)) = IsFaulty g wanted moves node × (bytes ≡ text_of g wanted moves) × HasCounts g wanted moves
 Tells g wanted moves (r.JournalFault node None) = ⊥
 
 -- it does tell of them

@@ -1,23 +1,25 @@
 //! What is answered to a run.
 
-ghost use Rattle.std.specs.Prelude.{◌≡◌, find, IfOk, IsTrue};
+ghost use Rattle.std.specs.Prelude.{◌≡◌, ◌++◌, find, IfOk, IsTrue, OnOk};
 ghost use Rattle.std.specs.Option.{option_map};
 ghost use Rattle.fab_lines.specs.Numbered.{AreNumbered};
 ghost use Rattle.fab_net.specs.Events.{node_at as node_in};
-ghost use Rattle.fab_replay.specs.Replays.{IsReady, IsRunOver, IsTold, is_scheduled, report_of, summary_of_run, text_of, told_of};
+ghost use Rattle.fab_reads.specs.Reads.{AreCounts};
+ghost use Rattle.fab_replay.specs.Replays.{HasCounts, IsReady, IsRunOver, IsTold, commits_of_run, is_scheduled, reads_of, report_of, summary_of_run, text_of, told_of};
 ghost use Rattle.fab_replay.specs.Running.{ComesTo};
 ghost use Rattle.fab_replay.specs.declared.replayed.Wanted.TheVariants as wants;
 
-use crate::replayed::{Replayed, Wanted};
+use crate::replayed::{Replayed, Told, Wanted};
 use crate::running::Ran;
 use crate::trust::trust_of;
 use crate::view::view_of;
 use fab_base::{NoMemory, Seq};
-use fab_command::Telling;
 use fab_core::Core;
 use fab_device::Journal;
 use fab_drill::print_summary;
 use fab_net::{Logged, node_at};
+use fab_reads::{Reading, put_reads};
+use fab_serial::commits;
 use fab_trace::print_report;
 use fab_tree::resolved::Resolved;
 use std::alloc::Global;
@@ -46,24 +48,73 @@ fn summary_of<J: Journal>(alloc: Global, core: &Core<J>) -> Result<Seq<u8>, NoMe
     print_summary(alloc, &held, &outcomes)
 }
 
+/// Writes what somebody read of one object beside the run, behind what is there.
+fn put_reads_of<J: Journal>(
+    alloc: Global,
+    out: &mut Seq<u8>,
+    core: &Core<J>,
+    program: &Resolved,
+    reading: Reading,
+    counts: &[u32],
+) -> Result<(), NoMemory>
+    requires program { program.now ≡ core.now.given.program }
+    requires numbered { AreNumbered program.now.roots }
+    requires counts { AreCounts reading.times (commits_of_run core.now.given core.now.moves) counts.now }
+    ensures { OnOk result (out.new ≡ out.old ++ reads_of core.now.given reading counts.now core.now.moves) }
+{
+    core.is_a_run();
+    let commits = commits(alloc, core.log())?;
+    put_reads(
+        alloc,
+        out,
+        program,
+        reading.classes,
+        commits.as_slice(),
+        reading.oid,
+        counts,
+    )
+}
+
+/// The report of the run so far, and what somebody read of one object beside it.
+fn reads_of<J: Journal>(
+    alloc: Global,
+    core: &Core<J>,
+    program: &Resolved,
+    reading: Reading,
+    counts: &[u32],
+) -> Result<Seq<u8>, NoMemory>
+    requires program { program.now ≡ core.now.given.program }
+    requires numbered { AreNumbered program.now.roots }
+    requires counts { AreCounts reading.times (commits_of_run core.now.given core.now.moves) counts.now }
+    ensures { IfOk result (λ bytes. bytes ≡ report_of core.now.given core.now.moves ++ reads_of core.now.given reading counts.now core.now.moves) }
+{
+    let mut text = report_of(alloc, core, program)?;
+    put_reads_of(alloc, &mut text, core, program, reading, counts)?;
+    Ok(text)
+}
+
 /// What is to be told of the run so far.
 fn told_of<J: Journal>(
     alloc: Global,
     core: &Core<J>,
     program: &Resolved,
-    telling: Telling,
+    told: &Told,
 ) -> Result<Seq<u8>, NoMemory>
     requires program { program.now ≡ core.now.given.program }
     requires numbered { AreNumbered program.now.roots }
-    ensures { IfOk result (λ bytes. bytes ≡ told_of telling core.now.given core.now.moves) }
+    requires counts { HasCounts core.now.given (wants.Run told.now) core.now.moves }
+    ensures { IfOk result (λ bytes. bytes ≡ told_of told.now core.now.given core.now.moves) }
 {
-    match telling {
-        Telling::Report => report_of(alloc, core, program),
-        Telling::Summary => summary_of(alloc, core),
+    match told {
+        Told::Report => report_of(alloc, core, program),
+        Told::Summary => summary_of(alloc, core),
+        Told::Reads { reading, counts } => {
+            reads_of(alloc, core, program, *reading, counts.as_slice())
+        }
     }
 }
 
-/// The text that is wanted of the run so far.
+/// The text that is wanted of a schedule's run so far.
 fn text_of<J: Journal>(
     alloc: Global,
     core: &Core<J>,
@@ -73,11 +124,12 @@ fn text_of<J: Journal>(
     requires program { program.now ≡ core.now.given.program }
     requires numbered { AreNumbered program.now.roots }
     requires ready { IsReady core.now.given wanted.now }
+    requires scheduled { IsTrue (is_scheduled wanted.now) }
     ensures { IfOk result (λ bytes. bytes ≡ text_of core.now.given wanted.now core.now.moves) }
 {
     match wanted {
         Wanted::Report => report_of(alloc, core, program),
-        Wanted::Run(telling) => told_of(alloc, core, program, *telling),
+        Wanted::Run(_) => unreachable!(),
         Wanted::View { nodes, seen, part } => view_of(alloc, core, program, *nodes, seen, part),
         Wanted::Trust { part, .. } => trust_of(alloc, core, program, part),
     }
@@ -125,13 +177,14 @@ pub(crate) fn first_mark(log: &[Logged]) -> Option<u16>
 pub(crate) fn answer_of_run<J: Journal>(
     alloc: Global,
     core: &Core<J>,
-    telling: Telling,
+    told: &Told,
 ) -> Result<Replayed, NoMemory>
-    requires { IsRunOver core.now.given core.now.moves }
-    ensures { IfOk result (IsTold core.now.given (wants.Run telling) core.now.moves) }
+    requires over { IsRunOver core.now.given core.now.moves }
+    requires counts { HasCounts core.now.given (wants.Run told.now) core.now.moves }
+    ensures { IfOk result (IsTold core.now.given (wants.Run told.now) core.now.moves) }
 {
     core.is_a_run();
-    let report = told_of(alloc, core, core.start(), telling)?;
+    let report = told_of(alloc, core, core.start(), told)?;
     match first_mark(core.log()) {
         Some(node) => Ok(Replayed::JournalFault {
             node,

@@ -7,7 +7,7 @@ ghost use Rattle.fab_tree.specs.declared.start.Start.{Start};
 ghost use Rattle.fab_core.specs.Honest.{honest_in};
 ghost use Rattle.fab_core.specs.Starts.{given_by};
 ghost use Rattle.fab_replay.specs.Courses.{IsCourse};
-ghost use Rattle.fab_replay.specs.Kept.{IsCutShort, IsPossible, IsReplayed};
+ghost use Rattle.fab_replay.specs.Kept.{IsCutShort, IsMade, IsPossible};
 ghost use Rattle.fab_replay.specs.Replays.{IsReady, is_scheduled};
 ghost use Rattle.fab_replay.specs.declared.replayed.Wanted.TheVariants as wants;
 
@@ -16,12 +16,12 @@ use crate::beginning::started;
 use crate::ending::finished;
 use crate::honest::honest_nodes;
 use crate::journals::Unstarted;
-use crate::replayed::{Replayed, Wanted};
+use crate::replayed::{Replayed, Told, Wanted};
 use crate::whole::replay;
-use fab_base::NoMemory;
-use fab_command::Telling;
+use fab_base::{NoMemory, Seq};
 use fab_core::Core;
 use fab_device::{Journal, Journals};
+use fab_reads::Reading;
 use fab_rights::Rights;
 use fab_tree::resolved::Resolved;
 use std::alloc::{AllocError, Global};
@@ -30,7 +30,8 @@ use std::sync::Arc;
 /// How runs are made: what comes between the start and the end of one that nodes make by themselves. A course
 /// knows no more of either than that both are a `T`, since what threads do with it stands in a closure.
 pub trait Course<T> {
-    ghost use Rattle.std.specs.Prelude.{Bool, Result};
+    ghost use Rattle.std.specs.Prelude.{Bool, List, Option, Result, ℕ};
+    ghost use Rattle.fab_reads.specs.declared.reading.Reading.{Reading};
     ghost use Rattle.fab_replay.specs.declared.replayed.Wanted.{Wanted};
 
     /// What may be wanted of its runs.
@@ -39,13 +40,14 @@ pub trait Course<T> {
     /// Whether it goes on from this start.
     ghost may: { Self → T → Type 0 };
 
-    /// Whether it may come to this from there.
-    ghost comes: { Self → T → Result T T → Type 0 };
+    /// Whether it may come to this from there, where this is read beside it.
+    ghost comes: { Self → T → Option Reading → Result (T × List ℕ) T → Type 0 };
 
-    /// Goes on to the end. Without memory it hands back where it stopped.
-    fn come(&self, start: T) -> Result<T, T>
+    /// Goes on to the end, with the counts of the reads, if something is read beside it: how many commits each saw.
+    /// Without memory it hands back where it stopped.
+    fn come(&self, start: T, reading: Option<Reading>) -> Result<(T, Seq<u32>), T>
         requires { may self.now start }
-        ensures { comes self.now start result };
+        ensures { comes self.now start reading result };
 }
 
 /// Schedules alone, by the calling thread: it goes nowhere by itself.
@@ -53,16 +55,16 @@ pub trait Course<T> {
 pub struct ByHand;
 
 impl<T> Course<T> for ByHand {
-    ghost use Rattle.std.specs.Prelude.{◌≡◌, Ok};
+    ghost use Rattle.std.specs.Prelude.{◌≡◌, Err};
 
     ghost makes = { is_scheduled };
 
     ghost may = { λ course start. Unit {0} };
 
-    ghost comes = { λ course start end. end ≡ Ok start };
+    ghost comes = { λ course start reading end. end ≡ Err start };
 
-    fn come(&self, start: T) -> Result<T, T> {
-        Ok(start)
+    fn come(&self, start: T, _reading: Option<Reading>) -> Result<(T, Seq<u32>), T> {
+        Err(start)
     }
 }
 
@@ -72,17 +74,18 @@ pub struct ByCall<F> {
     pub call: F,
 }
 
-impl<T, F: Fn(T) -> Result<T, T>> Course<T> for ByCall<F> {
-    ghost use Rattle.std.specs.Prelude.{true};
+impl<T, F: Fn(T, Option<Reading>) -> Result<(T, Seq<u32>), T>> Course<T> for ByCall<F> {
+    ghost use Rattle.std.specs.Prelude.{Option, true};
+    ghost use Rattle.fab_reads.specs.declared.reading.Reading.{Reading};
 
     ghost makes = { λ wanted. true };
 
-    ghost may = { λ course start. F.pre course.call start };
+    ghost may = { λ course start. (reading : Option Reading) → F.pre course.call start reading };
 
-    ghost comes = { λ course start end. F.post course.call start end };
+    ghost comes = { λ course start reading end. F.post course.call start reading end };
 
-    fn come(&self, start: T) -> Result<T, T> {
-        (self.call)(start)
+    fn come(&self, start: T, reading: Option<Reading>) -> Result<(T, Seq<u32>), T> {
+        (self.call)(start, reading)
     }
 }
 
@@ -95,16 +98,16 @@ fn by_themselves<C: Course<Core<M::Item>>, M: Journals>(
     bundle: &Resolved,
     nodes: &[u16],
     wanted: &Wanted,
-    telling: Telling,
+    told: &Told,
     journals: &mut M,
 ) -> Result<Replayed, NoMemory>
-    requires run { wanted.now ≡ wants.Run telling }
+    requires run { wanted.now ≡ wants.Run told.now }
     requires made { IsTrue (C.makes wanted.now) }
     requires course { IsCourse C.makes (C.may course.now) (C.comes course.now) }
     requires accepted { (s : Start) × (resolved s ≡ program.value) × IsAcceptedWith s rights }
     requires bundle { bundle.now ≡ program.value }
     requires nodes { nodes.now ≡ honest_in (given_by program.value rights) }
-    ensures answer { IfOk result (λ answer. IsReplayed (given_by program.value rights) wanted.now answer (M.seen journals.old) (M.seen journals.new)) }
+    ensures answer { IfOk result (λ answer. IsMade (given_by program.value rights) wanted.now answer (M.seen journals.old) (M.seen journals.new)) }
     ensures possible { IfOk result (IsPossible (M.seen journals.old).may_fail program.value) }
     ensures later { (M.seen journals.old).faults ≤ (M.seen journals.new).faults }
     ensures memory { OnErr result (IsCutShort (given_by program.value rights) wanted.now (M.seen journals.old) (M.seen journals.new)) }
@@ -117,10 +120,12 @@ fn by_themselves<C: Course<Core<M::Item>>, M: Journals>(
         }
         Err(Unstarted::Memory) => return Err(AllocError),
     };
-    match course.come(core) {
-        Ok(core) => {
-            let answer = answer_of_run(alloc, &core, telling);
-            finished(core, bundle, nodes, wanted, answer, journals)
+    match course.come(core, told.reading()) {
+        Ok((core, counts)) => {
+            let told = told.with_counts(counts);
+            let answer = answer_of_run(alloc, &core, &told);
+            let wanted = Wanted::Run(told);
+            finished(core, bundle, nodes, &wanted, answer, journals)
         }
         Err(core) => finished(core, bundle, nodes, wanted, Err(AllocError), journals),
     }
@@ -129,7 +134,8 @@ fn by_themselves<C: Course<Core<M::Item>>, M: Journals>(
 /// A run of an accepted bundle, with what is wanted of it: of its schedule, or one that nodes make by themselves,
 /// as the course does. Each honest node has a journal, in which the run begins with its header. Behind the run each
 /// journal is given back, in the order of the nodes, before there is an answer; where a header couldn't be written or
-/// memory ran out, too. A journal's fault is told whether memory ran out or not.
+/// memory ran out, too. A journal's fault is told whether memory ran out or not. Where something is to be read beside the run, the answer has its
+/// counts.
 pub fn make_run<C: Course<Core<M::Item>>, M: Journals>(
     alloc: Global,
     course: &C,
@@ -142,7 +148,7 @@ pub fn make_run<C: Course<Core<M::Item>>, M: Journals>(
     requires course { IsCourse C.makes (C.may course.now) (C.comes course.now) }
     requires accepted { (s : Start) × (resolved s ≡ program.value) × IsAcceptedWith s rights }
     requires ready { IsReady (given_by program.value rights) wanted.now }
-    ensures answer { IfOk result (λ answer. IsReplayed (given_by program.value rights) wanted.now answer (M.seen journals.old) (M.seen journals.new)) }
+    ensures answer { IfOk result (λ answer. IsMade (given_by program.value rights) wanted.now answer (M.seen journals.old) (M.seen journals.new)) }
     ensures possible { IfOk result (IsPossible (M.seen journals.old).may_fail program.value) }
     ensures later { (M.seen journals.old).faults ≤ (M.seen journals.new).faults }
     ensures memory { OnErr result (IsCutShort (given_by program.value rights) wanted.now (M.seen journals.old) (M.seen journals.new)) }
@@ -151,7 +157,7 @@ pub fn make_run<C: Course<Core<M::Item>>, M: Journals>(
     let nodes = honest_nodes(alloc, &program, &rights)?;
     let bundle = program.clone()?;
     match wanted {
-        Wanted::Run(telling) => by_themselves(
+        Wanted::Run(told) => by_themselves(
             alloc,
             course,
             program,
@@ -159,7 +165,7 @@ pub fn make_run<C: Course<Core<M::Item>>, M: Journals>(
             &bundle,
             nodes.as_slice(),
             wanted,
-            *telling,
+            told,
             journals,
         ),
         Wanted::Report | Wanted::View { .. } | Wanted::Trust { .. } => replay(

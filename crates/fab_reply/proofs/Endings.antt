@@ -25,7 +25,7 @@ use Rattle.fab_reply.specs.Headline.{Headline, IsPartFor, IsWholeFor}
 use Rattle.fab_reply.specs.Replays.{given_of}
 use Rattle.fab_reply.proofs.Replaying.{done_headline, fault_headline, no_fault, replay_unfailed}
 use Rattle.fab_reply.proofs.Replying.{no_reply, said_reply, usage_reply}
-use Rattle.fab_reply.proofs.Wishes.{runs_by}
+use Rattle.fab_reply.proofs.Wishes.{root_asked, runs_by}
 
 all_some : {A : Type 0} {P : A → Type 0} (o : Option A) → ((x : A) → P x) → IfSome o P
 all_some None f = tt
@@ -86,8 +86,8 @@ short_run (faulty g h k) = short g.is
 
 -- its text has no reply, and so has the text that there was
 none_of_run : {command : Option Command} {text reply : List ℕ} {status : Status} → Ran command text status reply → (s : Status) (r : List ℕ) → Replies command text s r → ⊥
-none_of_run (sound {x = x} g h k) = no_reply g x h
-none_of_run (faulty {x = x} g h k) = no_reply g x h
+none_of_run (sound {x = x} {s = z} g h k) = no_reply g x h (root_asked z x k.wanted k.asked)
+none_of_run (faulty {x = x} {s = z} g h k) = no_reply g x h (root_asked z x k.wanted k.asked)
 
 read_run : {command : Command} (l l' : Option (List ℕ)) {text reply : List ℕ} {status : Status} → Consumes l l' text → IsAtEnd l' ⊎ (length text ≡ 4194305)
     → Ran (Some command) text status reply → IfSome l (λ xs. (s : Status) (r : List ℕ) → Replies (Some command) xs s r → ⊥)
@@ -102,13 +102,13 @@ no_other : {command : Option Command} (l l' : Option (List ℕ)) {text reply : L
 no_other l l' {text = text} {reply = reply} (unasked k) by = elim by [ ]
 no_other l l' (read t) by = read_run l l' t.taken t.whole by
 
--- where the bundle of a text is accepted, its run has no reply
+-- where the bundle of a text is accepted, and its root may be read, its run has no reply
 refused_run : (command : Option Command) (xs reply : List ℕ) (status : Status) → IsReply command xs status reply → IsComplete command status xs
-refused_run command xs reply status k s rights x is g accepted =
+refused_run command xs reply status k s rights x is g accepted asks =
     let r : IsReply (Some (Run x)) xs status reply = subst (λ c. IsReply c xs status reply) is k in
     let front = r.front in
     let f : IsFront xs (outcome.Bundle s) = subst (IsFront xs) (sym (front.1.only (outcome.Bundle s) g)) front.1 in
-    no_reply f x accepted status reply r.is
+    no_reply f x accepted asks status reply r.is
 
 -- ---- the clauses
 
@@ -142,16 +142,16 @@ module _ (command : Option Command) (l l' w w' : Option (List ℕ)) (old new : M
   through {status = status} e =
       elim e.replies [
         | one_reply replies ↦ some_more l (λ xs k. refused_run command xs e.reply status k) (told l l' e.input replies)
-        | interrupted by ↦ all_some l (λ xs s rights x is g k. fault_refuses_not by)
-        | ran by ↦ all_some l (λ xs s rights x is g k. run_refuses_not by)
+        | interrupted by ↦ all_some l (λ xs s rights x is g k asks. fault_refuses_not by)
+        | ran by ↦ all_some l (λ xs s rights x is g k asks. run_refuses_not by)
       ]
 
   pub completely : (status : Status) → Ends command status l l' w w' old new → status ≢ ReadFault → IfSome l (IsComplete command status)
   completely Ok e f = through e
   completely Usage e f = through e
   completely ReadFault e f = absurd (f refl)
-  completely WriteFault e f = all_some l (λ xs s rights x is g k. tt)
-  completely Memory e f = all_some l (λ xs s rights x is g k. tt)
+  completely WriteFault e f = all_some l (λ xs s rights x is g k asks. tt)
+  completely Memory e f = all_some l (λ xs s rights x is g k asks. tt)
   completely (Syntax at) e f = through e
   completely (Limit what) e f = through e
   completely (Name x at) e f = through e

@@ -12,6 +12,9 @@ use Rattle.fab_core.specs.Cores.{marked, setting, unmarked}
 use Rattle.fab_command.specs.declared.command.Command.TheVariants.{Check, Replay, Run}
 use Rattle.fab_command.specs.declared.command.Telling.{Telling}
 use Rattle.fab_command.specs.declared.command.Telling.TheVariants as telling
+use Rattle.fab_language.specs.declared.rule.NameRule.TheVariants.{Unknown}
+use Rattle.fab_front.specs.Refused.{HasReadable}
+use Rattle.fab_replay.specs.declared.replayed.Told.TheVariants as told
 use Rattle.fab_replay.specs.Replays.{IsRunOver, events_of, moves_of, summary_of_run}
 use Rattle.fab_replay.specs.declared.replayed.Replayed.TheVariants as replays
 use Rattle.fab_front.specs.declared.texts.Outcome.TheVariants as outcome
@@ -63,7 +66,7 @@ two_in_no_schedule g none h = no_event h.before h.event h.more (sym none ∙ h.e
 
 its_summary : (s : Start) (rights : Rights) → IsRun (setting (given_of s rights)) [] → IsRunOver (given_of s rights) []
     → RunsTo s rights telling.Summary (replays.Done (summary_of_run (given_of s rights) []))
-its_summary s rights run over = record { moves = []; run = run; told = ((over, refl), refl) }
+its_summary s rights run over = record { wanted = told.Summary; asked = tt; moves = []; run = run; told = ((over, refl), refl, tt) }
 
 not_for_its_report : (s : Start) (rights : Rights) (x : Telling) (bytes : List ℕ) → RunsTo s rights x (replays.JournalFault 1 None) → ⊥
 not_for_its_report s rights x bytes h = h.told
@@ -74,16 +77,21 @@ none_is_barred s rights x h = h.told
 -- ---- what isn't refused
 
 done_or_not : (text : List ℕ) (x : Telling) → IsComplete (Some (Run x)) status.Memory text
-done_or_not text x s rights y is front accepted = tt
+done_or_not text x s rights y is front accepted asks = tt
 
-not_refused : (text : List ℕ) (s : Start) (rights : Rights) (x : Telling) → Front text (outcome.Bundle s) → IsAcceptedWith s rights
-    → IsComplete (Some (Run x)) (status.Syntax 0) text → ⊥
-not_refused text s rights x front accepted h = h s rights x refl front accepted
+not_refused : (text : List ℕ) (s : Start) (rights : Rights) → Front text (outcome.Bundle s) → IsAcceptedWith s rights
+    → IsComplete (Some (Run telling.Report)) (status.Syntax 0) text → ⊥
+not_refused text s rights front accepted h = h s rights telling.Report refl front accepted tt
 
-not_barred : (text : List ℕ) (s : Start) (rights : Rights) (x : Telling) → Front text (outcome.Bundle s) → IsAcceptedWith s rights
-    → IsComplete (Some (Run x)) (status.NotEnabled 1) text → ⊥
-not_barred text s rights x front accepted h = h s rights x refl front accepted
+-- nor is `watch`, where the root may be read
+not_unknown : (text : List ℕ) (s : Start) (rights : Rights) (root : List ℕ) → Front text (outcome.Bundle s) → IsAcceptedWith s rights → HasReadable s root
+    → IsComplete (Some (Run (telling.Reads root 3))) (status.Name Unknown 9) text → ⊥
+not_unknown text s rights root front accepted has h = h s rights (telling.Reads root 3) refl front accepted has
+
+not_barred : (text : List ℕ) (s : Start) (rights : Rights) → Front text (outcome.Bundle s) → IsAcceptedWith s rights
+    → IsComplete (Some (Run telling.Summary)) (status.NotEnabled 1) text → ⊥
+not_barred text s rights front accepted h = h s rights telling.Summary refl front accepted tt
 
 -- of other commands it says nothing
 of_check : (text : List ℕ) → IsComplete (Some Check) (status.Syntax 0) text
-of_check text s rights x is front accepted = cc
+of_check text s rights x is front accepted asks = cc

@@ -1,5 +1,5 @@
 -- The report that was written is read back.
-use Rattle.std.proofs.Common.{◌≡◌, ℕ, List, Some, refl, ap, subst}
+use Rattle.std.proofs.Common.{◌≡◌, ℕ, List, Some, refl, subst}
 use Rattle.std.specs.Io.KnownBytes.{Appends}
 use Rattle.fab_base.specs.declared.token.Token.{Token}
 use Rattle.fab_base.specs.Tokens.{Lexes}
@@ -12,15 +12,18 @@ use Rattle.fab_node.specs.Standing.{GivenModel}
 use Rattle.fab_command.specs.declared.command.Command.{Command}
 use Rattle.fab_command.specs.declared.command.Telling.TheVariants as telling
 use Rattle.fab_command.specs.declared.command.Command.TheVariants.{Replay, Run}
-use Rattle.fab_replay.specs.Replays.{text_of, told_of}
+use Rattle.fab_replay.specs.Reading.{IsReadingOf}
+use Rattle.fab_replay.specs.Replays.{HasCounts, commits_of_run, text_of}
+use Rattle.fab_replay.specs.declared.replayed.Told.TheVariants as told
 use Rattle.fab_replay.specs.declared.replayed.Wanted.{Wanted}
 use Rattle.fab_replay.specs.declared.replayed.Wanted.TheVariants.{Report, Run as ByNodes, Trust as Trusted, View as Viewed}
+use Rattle.fab_reads.specs.Reads.{AreCounts}
 use Rattle.fab_shown.specs.Shown.{report_of}
 use Rattle.fab_shown.proofs.Shown.{read_back}
 use Rattle.fab_front.specs.declared.texts.Outcome.TheVariants as outcome
 use Rattle.fab_front.specs.Front.{Front, whole}
 use Rattle.fab_reply.specs.Headline.{IsOfFault, IsOfSchedule, IsPartFor, IsWholeFor}
-use Rattle.fab_reply.specs.Printed.{AreReadBack, AreReadBackOf}
+use Rattle.fab_reply.specs.Printed.{AreReadBack, AreReadBackOf, AreWatched, IsWatched}
 use Rattle.fab_reply.specs.Replays.{Wants, given_of}
 
 -- the tokens of a text that comes to a bundle
@@ -44,7 +47,9 @@ of_replay s rights moves (Viewed nodes seen part) h = absurd h
 of_replay s rights moves (Trusted nodes part) h = absurd h
 
 of_run : WantsReport (Run telling.Report)
-of_run s rights moves (ByNodes x) h = ap (λ y. told_of y (given_of s rights) moves) h
+of_run s rights moves (ByNodes told.Report) h = refl
+of_run s rights moves (ByNodes told.Summary) h = absurd h
+of_run s rights moves (ByNodes (told.Reads reading counts)) h = absurd h
 of_run s rights moves Report h = absurd h
 of_run s rights moves (Viewed nodes seen part) h = absurd h
 of_run s rights moves (Trusted nodes part) h = absurd h
@@ -60,10 +65,39 @@ are_read_back_of c P wanted_text left left' written written' h =
       read_back h.text front.tokens h.start h.rights h.moves front.cut front.is h.accepted h.run,
     )
 
+-- what was read beside a run
+are_watched : (P : List ℕ → ℕ → GivenModel → List Move → Type 0) → AreWatched P
+are_watched P root times left left' written written' h =
+    by h.wanted (subst (λ x. Wants h.start x h.wanted) (same_command (Run (telling.Reads root times)) h.asked h.command_is) h.wants) h.reported h.counted
+  where
+    abbrev g : GivenModel
+    g = given_of h.start h.rights
+
+    by : (w : Wanted) → Wants h.start (Run (telling.Reads root times)) w → Appends written written' (text_of g w h.moves) → HasCounts g w h.moves
+        → IsWatched root times (P root times) left left' written written' h
+    by (ByNodes (told.Reads reading counts)) wants all counted =
+        let front = cut_of h.spelled in
+        let asked : IsReadingOf (resolved h.start) root times reading = wants in
+        record {
+          reading = reading;
+          asked = asked;
+          counts = counts;
+          counted = subst (λ n. AreCounts n (commits_of_run g h.moves) counts) asked.times_are counted;
+          shown = all;
+          readable = read_back h.text front.tokens h.start h.rights h.moves front.cut front.is h.accepted h.run;
+        }
+    by (ByNodes told.Report) wants all counted = absurd wants
+    by (ByNodes told.Summary) wants all counted = absurd wants
+    by Report wants all counted = absurd wants
+    by (Viewed nodes seen part) wants all counted = absurd wants
+    by (Trusted nodes part) wants all counted = absurd wants
+
 pub are_read_back : AreReadBack
 are_read_back = record {
   whole = are_read_back_of Replay IsOfSchedule of_replay;
   in_part = λ node. are_read_back_of Replay (IsOfFault node) of_replay;
   ran = are_read_back_of (Run telling.Report) (IsWholeFor (Some (Run telling.Report))) of_run;
   ran_on = λ node. are_read_back_of (Run telling.Report) (IsPartFor (Some (Run telling.Report)) node) of_run;
+  watched = are_watched (λ root times. IsWholeFor (Some (Run (telling.Reads root times))));
+  watched_on = λ node. are_watched (λ root times. IsPartFor (Some (Run (telling.Reads root times))) node);
 }

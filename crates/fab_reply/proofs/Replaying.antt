@@ -12,6 +12,7 @@ use Rattle.fab_rights.specs.declared.rights.Rights.{Rights}
 use Rattle.fab_settings.specs.Settings.{IsAcceptedWith}
 use Rattle.fab_replay.specs.declared.replayed.Replayed.{Replayed}
 use Rattle.fab_replay.specs.declared.replayed.Replayed.TheVariants as replays
+use Rattle.fab_replay.specs.declared.replayed.Told.{Told}
 use Rattle.fab_replay.specs.declared.replayed.Wanted.{Wanted}
 use Rattle.fab_replay.specs.declared.replayed.Wanted.TheVariants.{Report, Run as ByNodes, Trust as Trusted, View as Viewed}
 use Rattle.fab_replay.specs.Kept.{IsCutShort, IsOfRun, IsPossible, IsReplayed}
@@ -21,10 +22,10 @@ use Rattle.fab_front.specs.declared.status.Status.TheVariants.{Ok, JournalFault}
 use Rattle.fab_front.specs.Front.{Front, IsFront}
 use Rattle.fab_world.specs.Machine.{Move}
 use Rattle.fab_node.specs.Standing.{GivenModel}
-use Rattle.fab_replay.specs.Replays.{IsFaulty, is_scheduled, text_of as text_by}
+use Rattle.fab_replay.specs.Replays.{HasCounts, IsFaulty, is_scheduled, text_of as text_by}
 use Rattle.fab_reply.specs.Headline.{Headline, IsPartFor, IsWholeFor}
 use Rattle.fab_front.specs.Reading.{ReadsText}
-use Rattle.fab_reply.specs.Replays.{Wants, given_of}
+use Rattle.fab_reply.specs.Replays.{IsToldOf, Wants, given_of}
 use Rattle.fab_reply.specs.Reply.{Answers, one_reply, interrupted, ran, in_run, without_text, sound, faulty, AreCut, cut_short, untouched, AreLeft, IsCut, cut, unmade, IsInput, read, IsJournalFault, IsNotEnabled, IsReplay, status_of, text_of}
 use Rattle.fab_replay.proofs.Ends.{stopped_short}
 use Rattle.fab_reply.proofs.Replying.{barred_reply, replay_reply}
@@ -48,12 +49,13 @@ module _ {text : List ℕ} {start : Start} (f : IsFront text (outcome.Bundle sta
   replay_answered command wanted wants s (replays.JournalFault node None) old new h = interrupted (without_text wanted wants f.is accepted h.0)
 
   -- so does one that the nodes make by themselves
-  run_answered : (x : Telling) (answer : Replayed) (old new : Makers) → IsReplayed (given_of start rights) (ByNodes x) answer old new
+  run_answered : (x : Telling) (y : Told) → IsToldOf start x y → (answer : Replayed) (old new : Makers) → IsReplayed (given_of start rights) (ByNodes y) answer old new
       → Answers (Some (Run x)) text (status_of answer) (text_of answer)
-  run_answered x (replays.Done reply) old new (h, made, e) = ran (sound f accepted (record { moves = h.moves; run = h.run; told = h.told }))
-  run_answered x (replays.NotEnabled event) old new (h, made, e) = absurd h.told
-  run_answered x (replays.JournalFault node (Some reply)) old new (h, made, e) = ran (faulty f accepted (record { moves = h.moves; run = h.run; told = h.told }))
-  run_answered x (replays.JournalFault node None) old new h = interrupted (without_text (ByNodes x) refl f.is accepted h.0)
+  run_answered x y asked (replays.Done reply) old new (h, made, e) = ran (sound f accepted (record { wanted = y; asked = asked; moves = h.moves; run = h.run; told = h.told }))
+  run_answered x y asked (replays.NotEnabled event) old new (h, made, e) = absurd h.told
+  run_answered x y asked (replays.JournalFault node (Some reply)) old new (h, made, e) =
+      ran (faulty f accepted (record { wanted = y; asked = asked; moves = h.moves; run = h.run; told = h.told }))
+  run_answered x y asked (replays.JournalFault node None) old new h = interrupted (without_text (ByNodes y) asked f.is accepted h.0)
 
   pub answered : (command : Command) (wanted : Wanted) → Wants start command wanted → (answer : Replayed) (old new : Makers)
       → IsReplayed (given_of start rights) wanted answer old new → Answers (Some command) text (status_of answer) (text_of answer)
@@ -124,7 +126,8 @@ module _ (l l' w w' : Option (List ℕ)) (old new : Makers) (command : Command) 
   headlined : (P : GivenModel → List Move → Type 0) (start : Start) (rights : Rights) (wanted : Wanted) (answer : Replayed) (text reply report : List ℕ)
       (h : IsOfRun (given_of start rights) wanted answer old new) → Wants start command wanted
       → ReadsText l l' text → Front text (outcome.Bundle start) → IsAcceptedWith start rights → P (given_of start rights) h.moves
-      → report ≡ text_by (given_of start rights) wanted h.moves → reply ≡ report → Appends w w' reply → Headline (Some command) P l l' w w'
+      → (report ≡ text_by (given_of start rights) wanted h.moves) × HasCounts (given_of start rights) wanted h.moves → reply ≡ report → Appends w w' reply
+      → Headline (Some command) P l l' w w'
   headlined P start rights wanted answer text reply report h wants input front accepted events of is all = record {
     text = text;
     start = start;
@@ -139,7 +142,8 @@ module _ (l l' w w' : Option (List ℕ)) (old new : Makers) (command : Command) 
     wants = wants;
     run = h.run;
     events = events;
-    reported = subst (Appends w w') (is ∙ of) all;
+    reported = subst (Appends w w') (is ∙ of.0) all;
+    counted = of.1;
     integral = h.integral;
     isolated = h.isolated;
     trusted = h.trusted;
@@ -151,7 +155,7 @@ module _ (l l' w w' : Option (List ℕ)) (old new : Makers) (command : Command) 
       → reply ≡ text_of answer → Appends w w' reply → Headline (Some command) (IsWholeFor (Some command)) l l' w w'
   done_headlined start rights wanted (replays.Done report) text reply wants input front accepted (h, made, n) e is all =
       headlined (IsWholeFor (Some command)) start rights wanted (replays.Done report) text reply report h wants input front accepted
-      (whole_for start (given_of start rights) h.moves command wanted wants h.told.0) h.told.1 is all
+      (whole_for start (given_of start rights) h.moves command wanted wants h.told.0) (h.told.1, h.told.2) is all
   done_headlined start rights wanted (replays.NotEnabled event) text reply wants input front accepted h e is all = absurd (cc)
   done_headlined start rights wanted (replays.JournalFault node report) text reply wants input front accepted h e is all = absurd (cc)
 
@@ -170,7 +174,7 @@ module _ (l l' w w' : Option (List ℕ)) (old new : Makers) (command : Command) 
   fault_headlined start rights wanted (replays.JournalFault n (Some report)) node text reply wants input front accepted (h, made, k) e is all =
       let same : n ≡ node = cc in
       inr (headlined (IsPartFor (Some command) node) start rights wanted (replays.JournalFault n (Some report)) text reply report h wants input front accepted
-      (part_for start (given_of start rights) h.moves node command wanted wants (subst (λ m. IsFaulty (given_of start rights) wanted h.moves m) same h.told.0)) h.told.1 is all)
+      (part_for start (given_of start rights) h.moves node command wanted wants (subst (λ m. IsFaulty (given_of start rights) wanted h.moves m) same h.told.0)) (h.told.1, h.told.2) is all)
   fault_headlined start rights wanted (replays.JournalFault n None) node text reply wants input front accepted h e is all =
       inl (nothing_more w w' (subst (Appends w w') is all))
 

@@ -14,7 +14,7 @@ use Rattle.fab_front.specs.declared.status.Status.TheVariants.{NotEnabled, Ok, R
 use Rattle.fab_front.specs.Front.{Front, IsFront}
 use Rattle.fab_front.specs.Lines.{barred_line, line, robust_line}
 use Rattle.fab_front.specs.Named.{are_node_names}
-use Rattle.fab_front.specs.Refused.{LacksName, syntax, limit, misnamed, unknown, mislabelled}
+use Rattle.fab_front.specs.Refused.{AsksLabels, LacksName, syntax, limit, misnamed, unknown, mislabelled}
 use Rattle.fab_front.proofs.Faults.{none_first}
 use Rattle.fab_front.proofs.Outcomes.{no_limit, not_bundle, same_bundle}
 use Rattle.fab_front.proofs.Refusals.{none_refused}
@@ -36,7 +36,7 @@ use Rattle.fab_fitting.proofs.Rights.{one_rights}
 use Rattle.fab_reply.specs.Replays.{IsSetOf, IsUnrobust, ReplaysTo, Wants, given_of}
 use Rattle.fab_reply.specs.Reply.{Replies, usage, said, replayed, barred, unrobust, inferred, IsReply, status_of, text_of}
 use Rattle.fab_reply.proofs.Trusting.{one_unkept, robust_is_kept}
-use Rattle.fab_reply.proofs.Wishes.{names_found, runs_by, same_text, tells_alike}
+use Rattle.fab_reply.proofs.Wishes.{names_found, root_found, runs_by, same_text, tells_alike}
 
 pub usage_reply : (text : List ℕ) → IsReply None text Usage (line (codes "usage"))
 usage_reply text = record { is = usage; only = λ s r. go s r; front = tt }
@@ -72,7 +72,7 @@ module _ {text : List ℕ} {start : Start} (f : IsFront text (outcome.Bundle sta
 
   -- what one command wants of the bundle's runs is one text
   one_text : {b : Start} (rights : Rights) (c : Command) (u wanted : Wanted) → IsAcceptedWith start rights → b ≡ start → Wants b c u → Wants start c wanted
-      → (moves : List Move) → text_by (given_of start rights) u moves ≡ text_by (given_of start rights) wanted moves
+      → IsTrue (is_scheduled u) → (moves : List Move) → text_by (given_of start rights) u moves ≡ text_by (given_of start rights) wanted moves
   one_text {b} rights c u wanted accepted e h k = same_text start rights c u wanted accepted (subst (λ z. Wants z c u) e h) k
 
   -- of a robust bundle no guard is told, and `trust` wants runs of these alone
@@ -149,7 +149,7 @@ module _ {text : List ℕ} {start : Start} (f : IsFront text (outcome.Bundle sta
     one_replay {b} {q} c u w x y v n g k l m noted told =
         let e = same g in
         let here : ReplaysTo start rights u x = subst (λ z. ReplaysTo start z u x) (rights_of q rights e k.rights_are accepted.rights_are) (subst (λ z. ReplaysTo z q u x) e l) in
-        let tells = tells_alike (given_of start rights) u w here.moves x noted here.scheduled m.scheduled (one_text rights c u w accepted e v n here.moves) here.told in
+        let tells = tells_alike (given_of start rights) u w here.moves x noted here.scheduled m.scheduled (one_text rights c u w accepted e v n here.scheduled here.moves) here.told in
         one_answer (given_of start rights) w here.moves m.moves x y m.scheduled here.run m.run tells m.told noted told
 
     module _ (command : Command) (wanted : Wanted) (wants : Wants start command wanted) where
@@ -174,17 +174,17 @@ module _ {text : List ℕ} {start : Start} (f : IsFront text (outcome.Bundle sta
           go {c} {u} w m s r (unrobust {names = names} {x = y} n g k l o) = is_robust names u w y g o
           go w m s r (inferred x) = absurd w
 
-  -- a text whose bundle is accepted has no reply for `run`
+  -- a text whose bundle is accepted, and whose root may be read, has no reply for `run`
   unscheduled : (b : Start) (x : Telling) {A : Type 0} (u : Wanted) → Wants b (Run x) u → IsTrue (is_scheduled u) → A
   unscheduled b x (ByNodes y) w e = absurd (cc)
   unscheduled b x Report w e = absurd w
   unscheduled b x (Viewed nodes seen part) w e = absurd w
   unscheduled b x (Trusted nodes part) w e = absurd w
 
-  pub no_reply : {A : Type 0} {rights : Rights} (x : Telling) → IsAcceptedWith start rights → (s : Status) (r : List ℕ) → Replies (Some (Run x)) text s r → A
-  no_reply x accepted s r (said k) = not_said (ByNodes x) refl accepted s r k
-  no_reply x accepted s r (replayed {wanted = u} {s = b} w g k l) = unscheduled b x u w l.scheduled
-  no_reply x accepted s r (barred {wanted = u} {s = b} w g k l) = unscheduled b x u w l.scheduled
+  pub no_reply : {A : Type 0} {rights : Rights} (x : Telling) → IsAcceptedWith start rights → AsksLabels (Run x) start → (s : Status) (r : List ℕ) → Replies (Some (Run x)) text s r → A
+  no_reply x accepted asks s r (said k) = nothing_said tt (root_found start x asks) accepted.named accepted.labelled s r k
+  no_reply x accepted asks s r (replayed {wanted = u} {s = b} w g k l) = unscheduled b x u w l.scheduled
+  no_reply x accepted asks s r (barred {wanted = u} {s = b} w g k l) = unscheduled b x u w l.scheduled
 
 -- ---- what is said without a run
 

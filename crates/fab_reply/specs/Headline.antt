@@ -12,7 +12,7 @@ use Rattle.fab_core.specs.Cores.{setting}
 use Rattle.fab_command.specs.declared.command.Command.{Command}
 use Rattle.fab_command.specs.declared.command.Command.TheVariants.{Run}
 use Rattle.fab_replay.specs.declared.replayed.Wanted.{Wanted}
-use Rattle.fab_replay.specs.Replays.{IsRunOver, StopsIn, events_of, first_mark, moves_of, text_of}
+use Rattle.fab_replay.specs.Replays.{HasCounts, IsRunOver, StopsIn, events_of, first_mark, moves_of, text_of}
 use Rattle.fab_replay.specs.Integral.{IsExcluded, IsIntegral}
 use Rattle.fab_replay.specs.Isolated.{IsIsolated}
 use Rattle.fab_replay.specs.Trusted.{IsTrusted}
@@ -41,7 +41,8 @@ IsPartFor (Some (Run x)) node g moves = IsRunOver g moves × (first_mark moves �
 IsPartFor _ node g moves = IsOfFault node g moves
 
 -- A text was read that spells an accepted bundle, and what was written is the text that the command wants of one run from its start, of which P
--- holds: for `replay` and `run` its report. And for every set of nodes that contains the hostile ones, each object whose integrity excludes the set holds
+-- holds: for `replay` and `run` its report, and for `watch` that and what is read of a root, each time behind so many commits of the run: these numbers
+-- never fall, and the last is that of all. And for every set of nodes that contains the hostile ones, each object whose integrity excludes the set holds
 -- what replaying the committed requests of the others in the order of their decisions gives, each at most once; and what trusted replay of these requests
 -- gives, in which of what was answered endorsed values alone have part; and each node outside the set has sent each node of it exactly the public
 -- replay of the release record.
@@ -60,6 +61,7 @@ pub record Headline (command : Option Command) (P : GivenModel → List Move →
   pub run : IsRun (setting (given_of start rights)) moves
   pub events : P (given_of start rights) moves
   pub reported : Appends written written' (text_of (given_of start rights) wanted moves)
+  pub counted : HasCounts (given_of start rights) wanted moves
   pub integral : (nodes : ℕ) (ex : ℕ → Bool) → IsExcluded (given_of start rights) nodes ex → IsIntegral (given_of start rights) moves (has_bit nodes) ex
   pub isolated : IsIsolated (given_of start rights) moves
   pub trusted : IsTrusted (given_of start rights) moves

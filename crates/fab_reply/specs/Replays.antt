@@ -17,7 +17,12 @@ use Rattle.fab_core.specs.Starts.{given_by}
 use Rattle.fab_command.specs.declared.command.Command.{Command}
 use Rattle.fab_command.specs.declared.command.Telling.{Telling}
 use Rattle.fab_command.specs.declared.command.Command.TheVariants.{Check, Evaluate, Flows, Format, Infer, Replay, Run, Trust, View}
+use Rattle.fab_command.specs.declared.command.Telling.TheVariants as telling
 use Rattle.fab_front.specs.Named.{are_node_names, is_named}
+use Rattle.fab_front.specs.Refused.{HasReadable}
+use Rattle.fab_replay.specs.Reading.{IsReadingOf}
+use Rattle.fab_replay.specs.declared.replayed.Told.{Told}
+use Rattle.fab_replay.specs.declared.replayed.Told.TheVariants as told
 use Rattle.fab_replay.specs.declared.replayed.Replayed.{Replayed}
 use Rattle.fab_replay.specs.declared.replayed.Wanted.{Wanted}
 use Rattle.fab_replay.specs.declared.replayed.Wanted.TheVariants.{Report, Run as ByNodes, Trust as Trusted, View as Viewed}
@@ -34,11 +39,25 @@ pub record ReplaysTo (s : Start) (rights : Rights) (wanted : Wanted) (answer : R
   pub told : Tells (given_of s rights) wanted moves answer
   pub scheduled : IsTrue (is_scheduled wanted)
 
+-- what is to be told of a run that the nodes make by themselves: of `watch` its report, and what is read of the root of this name
+abbrev pub IsToldOf : Start → Telling → Told → Type 0
+IsToldOf s telling.Report told.Report = Unit {0}
+IsToldOf s telling.Summary told.Summary = Unit {0}
+IsToldOf s (telling.Reads root times) (told.Reads reading counts) = IsReadingOf (resolved s) root times reading
+IsToldOf s telling.Report told.Summary = ⊥
+IsToldOf s telling.Report (told.Reads reading counts) = ⊥
+IsToldOf s telling.Summary told.Report = ⊥
+IsToldOf s telling.Summary (told.Reads reading counts) = ⊥
+IsToldOf s (telling.Reads root times) told.Report = ⊥
+IsToldOf s (telling.Reads root times) told.Summary = ⊥
+
 -- there are moves of a run that the bundle's nodes make by themselves of which the answer tells so
 pub record RunsTo (s : Start) (rights : Rights) (x : Telling) (answer : Replayed) : Type 0 where
+  pub wanted : Told
+  pub asked : IsToldOf s x wanted
   pub moves : List Move
   pub run : IsRun (setting (given_of s rights)) moves
-  pub told : Tells (given_of s rights) (ByNodes x) moves answer
+  pub told : Tells (given_of s rights) (ByNodes wanted) moves answer
 
 -- the words are names of nodes, and these are those nodes and the hostile ones
 pub record AreNamed (s : Start) (names : List (List ℕ)) (nodes : ℕ) : Type 0 where
@@ -51,7 +70,7 @@ pub record AreDistrusted (s : Start) (names : List (List ℕ)) (nodes : ℕ) (pa
   pub robust : IsRobust (resolved s)
   pub trusts : IsTrustedBy (resolved s) nodes (has_bit part.labels) (has_bit part.classes)
 
--- what a command wants: `replay` the report of the schedule's run, `run` what it tells of a run that the nodes make by themselves, `view` what was sent
+-- what a command wants: `replay` the report of the schedule's run, `run` and `watch` what they tell of a run that the nodes make by themselves, `view` what was sent
 -- in the schedule's run into the set of the nodes that it names and of the hostile ones, and `trust`, of a robust bundle, trusted replay without that set
 abbrev pub Wants : Start → Command → Wanted → Type 0
 Wants s Replay Report = Unit {0}
@@ -59,7 +78,7 @@ Wants s Replay (ByNodes x) = ⊥
 Wants s Replay (Viewed nodes seen part) = ⊥
 Wants s Replay (Trusted nodes part) = ⊥
 Wants s (Run x) Report = ⊥
-Wants s (Run x) (ByNodes y) = y ≡ x
+Wants s (Run x) (ByNodes y) = IsToldOf s x y
 Wants s (Run x) (Viewed nodes seen part) = ⊥
 Wants s (Run x) (Trusted nodes part) = ⊥
 Wants s (View names) Report = ⊥
@@ -81,10 +100,11 @@ abbrev pub CanMake : (Wanted → Bool) → Option Command → Type 0
 CanMake makes None = Unit {0}
 CanMake makes (Some command) = (s : Start) (wanted : Wanted) → Wants s command wanted → IsTrue (makes wanted)
 
--- these are the nodes of the command's set, if it has one
+-- these are the nodes of the command's set, if it has one; the root of `watch` may be read
 abbrev pub IsSetOf : Start → Command → ℕ → Type 0
 IsSetOf s (View names) nodes = AreNamed s names nodes
 IsSetOf s (Trust names) nodes = AreNamed s names nodes
+IsSetOf s (Run (telling.Reads root times)) nodes = HasReadable s root
 IsSetOf s _ nodes = Unit {0}
 
 -- `trust` asks for robust declassifications

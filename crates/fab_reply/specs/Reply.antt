@@ -14,6 +14,7 @@ use Rattle.fab_front.specs.declared.texts.Outcome.TheVariants as outcome
 use Rattle.fab_front.specs.Front.{Front, IsFront}
 use Rattle.fab_front.specs.Lines.{barred_line, line, robust_line}
 use Rattle.fab_front.specs.Named.{are_node_names}
+use Rattle.fab_front.specs.Refused.{AsksLabels}
 use Rattle.fab_answers.specs.Says.{Says}
 use Rattle.fab_inferred.specs.Infers.{Infers}
 use Rattle.fab_front.specs.Reading.{ReadsText, WritesFront}
@@ -210,10 +211,10 @@ IsNoRefusal WriteFault = Unit {0}
 IsNoRefusal (JournalFault node) = Unit {0}
 IsNoRefusal _ = ⊥
 
--- where `run` is asked of a text that has an accepted bundle, it isn't refused
+-- where `run` is asked of a text that has an accepted bundle, or `watch` of one whose root may be read, it isn't refused
 abbrev pub IsComplete : Option Command → Status → List ℕ → Type 0
 IsComplete command status text =
-    (s : Start) (rights : Rights) (x : Telling) → command ≡ Some (Run x) → Front text (outcome.Bundle s) → IsAcceptedWith s rights → IsNoRefusal status
+    (s : Start) (rights : Rights) (x : Telling) → command ≡ Some (Run x) → Front text (outcome.Bundle s) → IsAcceptedWith s rights → AsksLabels (Run x) s → IsNoRefusal status
 
 -- this status and the whole reply, or memory ran out, or the sink or a journal failed
 abbrev pub ComesTo : Status → Status → Option (List ℕ) → Option (List ℕ) → List ℕ → Type 0

@@ -6,7 +6,8 @@ ghost use Rattle.fab_language.specs.Numbers.{resolved as resolved_of};
 ghost use Rattle.fab_front.specs.Front.{IsFront};
 ghost use Rattle.fab_tree.specs.declared.start.Start.{Start as AnyStart};
 ghost use Rattle.fab_front.specs.Accepted.{IsAccepted};
-ghost use Rattle.fab_front.specs.Refused.{LacksName};
+ghost use Rattle.fab_command.specs.declared.command.Command.TheVariants as asks;
+ghost use Rattle.fab_front.specs.Refused.{AsksLabels, LacksName};
 ghost use Rattle.fab_front.specs.declared.accepted.Accepted.TheVariants.{Bundle as Whole};
 ghost use Rattle.fab_answers.specs.Says.{MakesRuns};
 ghost use Rattle.fab_authority.specs.Authority.{HasFew};
@@ -14,21 +15,25 @@ ghost use Rattle.fab_flows.specs.Numbers.{HasPrincipals};
 ghost use Rattle.fab_labelling.specs.Claims.{IsWellLabelled};
 ghost use Rattle.fab_reply.specs.Replays.{CanMake, IsSetOf, IsUnrobust, KeepsRobust, Wants, given_of};
 ghost use Rattle.fab_replay.specs.Courses.{IsCourse};
+ghost use Rattle.fab_places.specs.Places.{HasNumbers};
 ghost use Rattle.fab_replay.specs.Replays.{IsReady};
+ghost use Rattle.fab_replay.specs.View.{CanBeSeen};
 ghost use Rattle.fab_rights.specs.declared.rights.Rights.{Rights as AnyRights};
 ghost use Rattle.fab_settings.specs.Settings.{IsAcceptedWith};
 ghost use Rattle.fab_reply.specs.Reply.{Answers, AreLeft, IsCut, IsNotEnabled, status_of, text_of};
 ghost use Rattle.fab_front.specs.declared.texts.Outcome.TheVariants.{Bundle};
 
 use fab_base::{NoMemory, Seq};
-use fab_command::Command;
+use fab_command::{Command, Telling};
 use fab_core::Core;
 use fab_device::Journals;
 use fab_front::{
     Accepted, Status, accept, barred_line, mislabelled, named, refused, unknown, unrobust,
 };
 use fab_listing::{hostile_nodes, nodes_named};
-use fab_replay::{Course, Replayed, Wanted, first_unkept, make_run, trust_in, view_into};
+use fab_replay::{
+    Course, Replayed, Told, Wanted, first_unkept, make_run, read_in, trust_in, view_into,
+};
 use fab_setup::accepted_setup;
 use fab_tree::Start;
 use fab_tree::resolved::Resolved;
@@ -53,26 +58,62 @@ fn told(alloc: Global, answer: Replayed) -> Result<(Status, Seq<u8>), NoMemory>
     }
 }
 
-/// The nodes that a command names, and the hostile ones; nothing where a word names no node.
-fn set_of(program: &Resolved, command: &Command) -> Option<u64>
+/// The nodes that a command names, and the hostile ones; nothing where a word names no node, or no root that may be
+/// read.
+fn set_of(
+    alloc: Global,
+    program: &Resolved,
+    command: &Command,
+) -> Result<Option<u64>, NoMemory>
     requires runs { MakesRuns (Some command.now) }
-    ensures { (s : AnyStart) → program.now ≡ resolved_of s → MatchOption result (LacksName command.now s) (IsSetOf s command.now) }
+    requires seen { CanBeSeen program.now }
+    requires numbers { HasNumbers program.now }
+    ensures { IfOk result (λ set. (s : AnyStart) → program.now ≡ resolved_of s → MatchOption set (LacksName command.now s) (IsSetOf s command.now)) }
 {
     match command {
         Command::View { nodes } => match nodes_named(program, nodes.as_slice()) {
-            Some(named) => Some(named | hostile_nodes(program)),
-            None => None,
+            Some(named) => Ok(Some(named | hostile_nodes(program))),
+            None => Ok(None),
         },
         Command::Trust { nodes } => match nodes_named(program, nodes.as_slice()) {
-            Some(named) => Some(named | hostile_nodes(program)),
-            None => None,
+            Some(named) => Ok(Some(named | hostile_nodes(program))),
+            None => Ok(None),
         },
-        _ => Some(0),
+        Command::Run(Telling::Reads { root, times }) => {
+            match read_in(alloc, program, root, *times)? {
+                Some(_) => Ok(Some(0)),
+                None => Ok(None),
+            }
+        }
+        _ => Ok(Some(0)),
+    }
+}
+
+/// What is to be told of runs that the nodes make by themselves.
+fn told_of(alloc: Global, start: &Start, telling: &Telling) -> Result<Wanted, NoMemory>
+    requires within { first_passed start.now ≡ Nothing }
+    requires right { faults start.now ≡ [] }
+    requires named { AsksLabels (asks.Run telling.now) start.now }
+    ensures { IfOk result (λ w. Wants start.now (asks.Run telling.now) w × ((rights : AnyRights) → IsAcceptedWith start.now rights → IsReady (given_of start.now rights) w)) }
+{
+    match telling {
+        Telling::Report => Ok(Wanted::Run(Told::Report)),
+        Telling::Summary => Ok(Wanted::Run(Told::Summary)),
+        Telling::Reads { root, times } => match named(alloc, start)? {
+            Ok(program) => match read_in(alloc, &program, root, *times)? {
+                Some(reading) => Ok(Wanted::Run(Told::Reads {
+                    reading,
+                    counts: Seq::new(alloc),
+                })),
+                None => unreachable!(),
+            },
+            Err(_) => unreachable!(),
+        },
     }
 }
 
 /// What a command wants of runs of the bundle: for `view`, what its set sees and what everybody may know; for
-/// `trust`, which labels and classes exclude its set.
+/// `trust`, which labels and classes exclude its set; for `watch`, what is read.
 fn wanted_of(alloc: Global, start: &Start, command: &Command, set: u64) -> Result<Wanted, NoMemory>
     requires runs { MakesRuns (Some command.now) }
     requires within { first_passed start.now ≡ Nothing }
@@ -90,7 +131,7 @@ fn wanted_of(alloc: Global, start: &Start, command: &Command, set: u64) -> Resul
             Ok(program) => trust_in(alloc, &program, set),
             Err(_) => unreachable!(),
         },
-        Command::Run(telling) => Ok(Wanted::Run(*telling)),
+        Command::Run(telling) => told_of(alloc, start, telling),
         _ => Ok(Wanted::Report),
     }
 }
@@ -146,8 +187,8 @@ fn unkept(alloc: Global, program: &Resolved, command: &Command) -> Result<Option
     }
 }
 
-/// What a command that makes a run replies to a text with this bundle, which is accepted, and whose nodes its words
-/// name.
+/// What a command that makes a run replies to a text with this bundle, which is accepted, and whose nodes or root
+/// its words name.
 fn accepted<C: Course<Core<M::Item>>, M: Journals>(
     alloc: Global,
     course: &C,
@@ -176,7 +217,7 @@ fn accepted<C: Course<Core<M::Item>>, M: Journals>(
     }
 }
 
-/// What a command that makes a run, as `replay`, `run`, `view` and `trust` do, replies to a text with this bundle.
+/// What a command that makes a run, as `replay`, `run`, `view`, `trust` and `watch` do, replies to a text with this bundle.
 pub(crate) fn replayed<C: Course<Core<M::Item>>, M: Journals>(
     alloc: Global,
     course: &C,
@@ -196,12 +237,12 @@ pub(crate) fn replayed<C: Course<Core<M::Item>>, M: Journals>(
     ensures told { (M.seen journals.new).may_fail ≡ (M.seen journals.old).may_fail }
 {
     match accept(alloc, start)? {
-        Accepted::Bundle(program) => match set_of(&program, command) {
+        Accepted::Bundle(program) => match set_of(alloc, &program, command)? {
             Some(set) => accepted(alloc, course, text, start, command, program, set, journals),
             None => unknown(alloc, text),
         },
         Accepted::Misnamed(fault) => refused(alloc, fault),
-        Accepted::Mislabelled { resolved, refusal } => match set_of(&resolved, command) {
+        Accepted::Mislabelled { resolved, refusal } => match set_of(alloc, &resolved, command)? {
             Some(_) => mislabelled(alloc, &resolved, refusal),
             None => unknown(alloc, text),
         },

@@ -138,7 +138,8 @@ fn run<C: Course<Core<M::Item>>, S: Source, K: Sink, M: Journals>(
 /// `check` asks whether the bundle that the source has keeps the rules of labels, `eval` for its
 /// evaluation, `flows A B` whether its label A
 /// flows to its label B, with the reasons, `fmt` for its canonical text, `replay` for the report of its
-/// schedule's run, `run` for that, or the summary, of a run that its nodes make by themselves, `view NODE ..` for what was
+/// schedule's run, `run` for that, or the summary, of a run that its nodes make by themselves, `watch ROOT N` for that report
+/// and what is read of a root beside the run, N times, and behind it, `view NODE ..` for what was
 /// sent in the schedule's run into the set of these nodes and the hostile ones, by those outside it, `trust NODE ..`
 /// for its trusted replay without that set, and `infer` for the canonical text with the least labels for the bundle's
 /// holes. A text has at most 4,194,304 bytes. Of what the source has left, what the sink holds and which journals were kept, the
@@ -162,7 +163,7 @@ pub fn answer<C: Course<Core<M::Item>>, S: Source, K: Sink, M: Journals>(
     // the sink or a journal fails or memory runs out; so each refusal comes exactly where it should.
     ensures exact { result ≢ ReadFault → IfSome (S.left source.old) (λ text. (status : AnyStatus) (reply : List ℕ) → Replies asked text status reply → ComesTo result status (K.written sink.old) (K.written sink.new) reply) }
 
-    // Where `run` is asked of a text that has an accepted bundle, that is done, unless the source, the sink or a
+    // Where `run` is asked of a text that has an accepted bundle, or `watch` of one whose root may be read, that is done, unless the source, the sink or a
     // journal fails or memory runs out.
     ensures complete { result ≢ ReadFault → IfSome (S.left source.old) (IsComplete asked result) }
 
@@ -195,13 +196,13 @@ pub fn answer<C: Course<Core<M::Item>>, S: Source, K: Sink, M: Journals>(
     ensures sink_unfailed { result ≢ WriteFault → K.faults sink.new ≡ K.faults sink.old }
 
     // With `Ok` of a command that makes a run, and where a journal failed in its run, the text that it wants of that
-    // run was written, for `replay` the report and for `run` what it tells, and the headline holds of the run, integrity, trusted replay and isolation.
+    // run was written, for `replay` the report, for `run` what it tells and for `watch` the report and the reads, and the headline holds of the run, integrity, trusted replay and isolation.
     // Where a journal failed before there was a run, or there was no memory for the run's text, nothing was written.
     ensures headline { MakesRuns asked → result ≡ Done → Headline asked (IsWholeFor asked) (S.left source.old) (S.left source.new) (K.written sink.old) (K.written sink.new) }
     ensures headline_of_a_part { (node : ℕ) → result ≡ JournalFault node
         → Keeps (K.written sink.old) (K.written sink.new) ⊎ Headline asked (IsPartFor asked node) (S.left source.old) (S.left source.new) (K.written sink.old) (K.written sink.new) }
 
-    // `JournalFault` comes of `replay`, `run`, `view` and `trust` alone, and only these make journals and have them kept. What was
+    // `JournalFault` comes of `replay`, `run`, `watch`, `view` and `trust` alone, and only these make journals and have them kept. What was
     // kept, and which faults there were, says `means`. With each other status no journal's making failed.
     ensures journal_fault { (node : ℕ) → result ≡ JournalFault node → MakesRuns asked }
     ensures journals_unfailed { (IsJournalFault result → ⊥) → (M.seen journals.new).faults ≡ (M.seen journals.old).faults }

@@ -12,7 +12,8 @@ pub fn calls_are_isolated_alike()
 {}
 
 /// The report that `replay` writes of its run, whole or up to the event in which a journal failed, and the one that
-/// `run` writes of a run that nodes made by themselves, is the report of the lines that the run shows.
+/// `run` writes of a run that nodes made by themselves, is the report of the lines that the run shows. `watch` writes such
+/// a report, and behind it what is read beside the run: each time the values behind so many of its commits.
 pub fn written_reports_are_read_back()
     ensures { AreReadBack }
 {}

@@ -12,12 +12,12 @@ use Rattle.fab_integrity.proofs.Replays.{changed_by}
 use Rattle.fab_net.specs.declared.note.Commit.{Commit}
 use Rattle.fab_protocol.specs.Versions.{objects_of}
 use Rattle.fab_world.specs.Attempts.{parts_of}
-use Rattle.fab_world.specs.Serial.{changes_of, within, outside}
+use Rattle.fab_world.specs.Serial.{again, changes_of, within, outside}
 use Rattle.fab_tree.specs.declared.resolved.Request.{Request}
 use Rattle.fab_tree.specs.declared.resolved.Resolved.{Resolved}
 use Rattle.fab_settings.specs.Settings.{meant_of, request_at}
 use Rattle.fab_integrity.specs.Changed.{changed, named}
-use Rattle.fab_serial.specs.Replays.{behind}
+use Rattle.fab_serial.specs.Replays.{behind, setting}
 
 -- ---- rows that are put one after the other
 
@@ -73,7 +73,23 @@ changed_parts ex written made rows N =
 pub unchanged : (ex : ℕ → Bool) (rows N : FlatMap) → changed ex [] [] rows N ≡ N
 unchanged ex rows N = ap (λ l. put_all (within ex (l ++ l)) N) (none_pass rows)
 
--- and so for a commit: what was found by its request over these objects is what the step keeps
+-- and so for a commit: what was found by its request over these objects is what is kept of it, in whatever map
+pub kept_in : (r : Resolved) (ex : ℕ → Bool) (N M : FlatMap) (c : Commit) (known : FlatMap) (request : Option Request) (written made : List Oid) (rows : FlatMap)
+    → known ≡ put_all (outside ex (objects_of c.answers)) N
+    → request ≡ request_at r c.worker c.request
+    → written ≡ (meant_of r request c.tid known).written
+    → made ≡ (meant_of r request c.tid known).made
+    → rows ≡ (meant_of r request c.tid known).map
+    → changed ex written made rows M ≡ put_all (within ex (changes_of (parts_of c.answers (again (setting r) ex N c)))) M
+kept_in r ex N M c known request written made rows known_is request_is written_is made_is rows_is =
+    ap (λ names. changed ex names made rows M) written_is
+    ∙ ap (λ names. changed ex (meant_of r request c.tid known).written names rows M) made_is
+    ∙ ap (λ l. changed ex (meant_of r request c.tid known).written (meant_of r request c.tid known).made l M) rows_is
+    ∙ changed_by ex c.answers (meant_of r request c.tid known) M
+    ∙ ap (λ asked. put_all (within ex (changes_of (parts_of c.answers (meant_of r asked c.tid known)))) M) request_is
+    ∙ ap (λ m. put_all (within ex (changes_of (parts_of c.answers (meant_of r (request_at r c.worker c.request) c.tid m)))) M) known_is
+
+-- in that of the objects themselves: the step of a replay
 pub kept_is : (r : Resolved) (ex : ℕ → Bool) (N : FlatMap) (c : Commit) (known : FlatMap) (request : Option Request) (written made : List Oid) (rows : FlatMap)
     → known ≡ put_all (outside ex (objects_of c.answers)) N
     → request ≡ request_at r c.worker c.request
@@ -83,12 +99,7 @@ pub kept_is : (r : Resolved) (ex : ℕ → Bool) (N : FlatMap) (c : Commit) (kno
     → changed ex written made rows N ≡ behind r ex N c
 unfolding behind
 kept_is r ex N c known request written made rows known_is request_is written_is made_is rows_is =
-    ap (λ names. changed ex names made rows N) written_is
-    ∙ ap (λ names. changed ex (meant_of r request c.tid known).written names rows N) made_is
-    ∙ ap (λ l. changed ex (meant_of r request c.tid known).written (meant_of r request c.tid known).made l N) rows_is
-    ∙ changed_by ex c.answers (meant_of r request c.tid known) N
-    ∙ ap (λ asked. put_all (within ex (changes_of (parts_of c.answers (meant_of r asked c.tid known)))) N) request_is
-    ∙ ap (λ m. put_all (within ex (changes_of (parts_of c.answers (meant_of r (request_at r c.worker c.request) c.tid m)))) N) known_is
+    kept_in r ex N N c known request written made rows known_is request_is written_is made_is rows_is
 
 -- ---- a walk that is over
 

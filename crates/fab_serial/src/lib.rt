@@ -11,5 +11,5 @@ mod requests;
 pub use decisions::commits;
 pub use laws::commits_are_honest;
 pub use objects::{at_start, put_within};
-pub use replaying::replay;
+pub use replaying::{left_by, redo, replay};
 pub use requests::request_at;

@@ -8,7 +8,7 @@ ghost use Rattle.fab_rights.specs.declared.rights.Rights.{Rights};
 ghost use Rattle.fab_settings.specs.Settings.{setting_of};
 ghost use Rattle.fab_world.specs.Serial.{serial_replay};
 ghost use Rattle.fab_integrity.specs.Changed.{changed};
-ghost use Rattle.fab_serial.specs.Replays.{behind};
+ghost use Rattle.fab_serial.specs.Replays.{behind, left_by as what_is_left};
 
 use crate::objects::{at_start, beside, put_named};
 use crate::requests::request_at;
@@ -41,8 +41,8 @@ pub fn replay(
     Ok(map)
 }
 
-/// One commit more.
-fn redo(
+/// One commit more. The map is copied once for it, and the commit's request evaluated once.
+pub fn redo(
     alloc: Global,
     start: &Resolved,
     classes: u64,
@@ -58,6 +58,29 @@ fn redo(
             keep(alloc, classes, map, &meant)
         }
         None => Ok(()),
+    }
+}
+
+/// The objects of these classes that a commit leaves over the map behind the commits before it: those
+/// that it wrote or made. The map is copied once for it, and the commit's request evaluated once.
+pub fn left_by(
+    alloc: Global,
+    start: &Resolved,
+    classes: u64,
+    map: &ObjectMap,
+    commit: &Commit,
+) -> Result<ObjectMap, NoMemory>
+    ensures { IfOk result (λ left. left ≡ what_is_left start.now (has_bit classes) map.now commit.now) }
+{
+    let mut left = ObjectMap::new(alloc);
+    match request_at(start, commit.worker, commit.request) {
+        Some(request) => {
+            let known = beside(alloc, map, commit.answers.as_slice(), classes)?;
+            let meant = meant_by(alloc, start, &known, request, commit.tid)?;
+            keep(alloc, classes, &mut left, &meant)?;
+            Ok(left)
+        }
+        None => Ok(left),
     }
 }
 

@@ -7,8 +7,8 @@ use Rattle.std.proofs.lemmas.Bool.{cases_Bool, and_right, or_cases}
 use Rattle.clap.specs.Words.{Text, matches_of, takes}
 use Rattle.clap.proofs.WalkLemmas.{list_any-map}
 use Rattle.fab_asked.specs.Names.{is_name_word}
-use Rattle.fab_asked.specs.Numbers.{number_of, numbers_of, paired}
-use Rattle.fab_asked.specs.Words.{asked, asked_by, begins_with_dash, command_among, command_asked, command_of, command_with, trust_of, view_of}
+use Rattle.fab_asked.specs.Numbers.{number_of, numbers_of, paired, size_of}
+use Rattle.fab_asked.specs.Words.{asked, asked_by, begins_with_dash, command_among, command_asked, command_of, command_with, reads_of, trust_of, view_of, watch_of}
 use Rattle.fab_words.specs.Line.{asked_in, command_line}
 use Rattle.fab_asked.proofs.Decimals.{dashed_number}
 use Rattle.fab_words.proofs.Taken.{found_rows, rows_for, words_taken}
@@ -71,7 +71,7 @@ no_view words e = rw (and_right (nat_le (length words) 32) (list_all is_name_wor
 no_trust : (words : List Text) → list_any begins_with_dash words ≡ true → trust_of words ≡ None
 no_trust words e = rw (and_right (nat_le (length words) 32) (list_all is_name_word words) (not_all_names words e)) refl
 
--- where the command's word is `view` or `trust`, the dash is behind it
+-- where the command's word is `view`, `trust` or `watch`, the dash is behind it
 behind_view : (word : Text) (operands : List Text) → bytes_eq word (codes "view") ≡ true → list_any begins_with_dash (word ∷ operands) ≡ true → list_any begins_with_dash operands ≡ true
 behind_view [] operands v e = e
 behind_view (b ∷ bs) operands v e = elim (cases_Bool (b == 45)) [
@@ -86,12 +86,39 @@ behind_trust (b ∷ bs) operands v e = elim (cases_Bool (b == 45)) [
   | inr other ↦ rw other at e
 ]
 
+behind_watch : (word : Text) (operands : List Text) → bytes_eq word (codes "watch") ≡ true → list_any begins_with_dash (word ∷ operands) ≡ true → list_any begins_with_dash operands ≡ true
+behind_watch [] operands v e = e
+behind_watch (b ∷ bs) operands v e = elim (cases_Bool (b == 45)) [
+  | inl dash ↦ absurd (let no : bytes_eq (45 ∷ bs) (codes "watch") ≡ true = subst (λ x. bytes_eq (x ∷ bs) (codes "watch") ≡ true) (eqb-true b 45 dash) v in cc)
+  | inr other ↦ rw other at e
+]
+
+-- a name or a number of `watch` has one
+not_read : (root : Text) (times : Option ℕ) → is_name_word root ≡ false → reads_of root times ≡ None
+not_read root None e = refl
+not_read root (Some n) e = rw e refl
+
+no_watch : (words : List Text) → list_any begins_with_dash words ≡ true → watch_of words ≡ None
+no_watch [] e = cc
+no_watch (root ∷ []) e = refl
+no_watch (root ∷ times ∷ []) e = elim (or_cases (begins_with_dash root) (begins_with_dash times || false) e) [
+  | inl first ↦ not_read root (size_of times) (no_name root first)
+  | inr rest ↦ elim (or_cases (begins_with_dash times) false rest) [
+    | inl second ↦ rw (dashed_number times second) refl
+    | inr never ↦ absurd (cc)
+  ]
+]
+no_watch (root ∷ times ∷ w ∷ ws) e = refl
+
 no_command_asked : (word : Text) (operands : List Text) → list_any begins_with_dash (word ∷ operands) ≡ true → command_asked word operands ≡ None
 no_command_asked word operands e = elim (cases_Bool (bytes_eq word (codes "view"))) [
   | inl view ↦ rw view (no_view operands (behind_view word operands view e))
   | inr other ↦ elim (cases_Bool (bytes_eq word (codes "trust"))) [
     | inl trust ↦ rw (other, trust) (no_trust operands (behind_trust word operands trust e))
-    | inr last ↦ rw (other, last) (not_among word operands e)
+    | inr another ↦ elim (cases_Bool (bytes_eq word (codes "watch"))) [
+      | inl watch ↦ rw (other, another, watch) (no_watch operands (behind_watch word operands watch e))
+      | inr last ↦ rw (other, another, last) (not_among word operands e)
+    ]
   ]
 ]
 

@@ -62,7 +62,8 @@ fn command_line<'a>(alloc: Global) -> Result<clap::Command<'a>, NoMemory>
 ///
 /// A word that begins with `-` asks for nothing. Of other words `clap` takes the first for the
 /// command's and those behind it for its operands: two names of the language for `flows`, up to 32
-/// for `view` and `trust`, a number and a size for `gen` and `drill`, and none for the others.
+/// for `view` and `trust`, one and a number of reads for `watch`, a number and a size for `gen` and `drill`, and none
+/// for the others.
 pub fn asked_task(alloc: Global, words: &[String]) -> Result<Option<Task>, NoMemory>
     ensures asked { IfOk result (λ t. t ≡ asked_by words.now) }
     ensures sized { IfOk result IsSized }

@@ -42,39 +42,39 @@ returns-in-Err-Memory-clause-memory g c =
 pub come-requires : goal.come-requires
 come-requires g c =
     let C = g.C.Course in
-    (c.requires.course c.args.telling (subst (λ w. IsTrue (C.makes w)) c.requires.run c.requires.made) c.in-Ok.core
+    (c.requires.course c.args.told.now (subst (λ w. IsTrue (C.makes w)) c.requires.run c.requires.made) c.in-Ok.core
     (record { moves = c.in-Ok.ensures.moves; unfailed = λ n. (c.in-Ok.ensures.unfailed n).faults })).0
 
 pub answer_of_run-answer-requires : goal.answer_of_run-answer-requires
 answer_of_run-answer-requires g c =
     let C = g.C.Course in
     let M = g.M.Journals in
-    let there = ran_on C.makes (C.may c.args.course.now) (C.comes c.args.course.now) c.args.wanted.now (M.seen c.args.journals.now).may_fail c.in-Ok.core c.in-Ok-come.core c.come.result
-    c.requires.course c.requires.run c.requires.made c.in-Ok.ensures.moves c.in-Ok.ensures.unfailed c.come.ensures c.in-Ok-come.is in
+    let there = (ran_on C.makes (C.may c.args.course.now) (C.comes c.args.course.now) c.args.wanted.now (M.seen c.args.journals.now).may_fail c.in-Ok.core c.come.result
+    c.requires.course c.requires.run c.requires.made c.in-Ok.ensures.moves c.in-Ok.ensures.unfailed c.come.ensures (c.in-Ok-come.core, c.in-Ok-come.counts) c.in-Ok-come.is).0 in
     there.over
 
 pub finished-requires-clause-on_way : goal.finished-requires-clause-on_way
 finished-requires-clause-on_way g c κs within =
     let C = g.C.Course in
     let M = g.M.Journals in
-    let there = ran_on C.makes (C.may c.args.course.now) (C.comes c.args.course.now) c.args.wanted.now (M.seen c.args.journals.now).may_fail c.in-Ok.core c.in-Ok-come.core c.come.result
-    c.requires.course c.requires.run c.requires.made c.in-Ok.ensures.moves c.in-Ok.ensures.unfailed c.come.ensures c.in-Ok-come.is in
+    let there = (ran_on C.makes (C.may c.args.course.now) (C.comes c.args.course.now) c.args.wanted.now (M.seen c.args.journals.now).may_fail c.in-Ok.core c.come.result
+    c.requires.course c.requires.run c.requires.made c.in-Ok.ensures.moves c.in-Ok.ensures.unfailed c.come.ensures (c.in-Ok-come.core, c.in-Ok-come.counts) c.in-Ok-come.is).0 in
     lined_way c.in-Ok-come.core.given c.in-Ok-come.core.moves c.args.wanted.now c.requires.run there.over.lined
 
 pub finished-requires-clause-marked : goal.finished-requires-clause-marked
 finished-requires-clause-marked g c κs within =
     let C = g.C.Course in
     let M = g.M.Journals in
-    let there = ran_on C.makes (C.may c.args.course.now) (C.comes c.args.course.now) c.args.wanted.now (M.seen c.args.journals.now).may_fail c.in-Ok.core c.in-Ok-come.core c.come.result
-    c.requires.course c.requires.run c.requires.made c.in-Ok.ensures.moves c.in-Ok.ensures.unfailed c.come.ensures c.in-Ok-come.is in
+    let there = (ran_on C.makes (C.may c.args.course.now) (C.comes c.args.course.now) c.args.wanted.now (M.seen c.args.journals.now).may_fail c.in-Ok.core c.come.result
+    c.requires.course c.requires.run c.requires.made c.in-Ok.ensures.moves c.in-Ok.ensures.unfailed c.come.ensures (c.in-Ok-come.core, c.in-Ok-come.counts) c.in-Ok-come.is).0 in
     there.marked
 
 pub finished-requires-clause-sure : goal.finished-requires-clause-sure
 finished-requires-clause-sure g c κs within =
     let C = g.C.Course in
     let M = g.M.Journals in
-    let there = ran_on C.makes (C.may c.args.course.now) (C.comes c.args.course.now) c.args.wanted.now (M.seen c.args.journals.now).may_fail c.in-Ok.core c.in-Ok-come.core c.come.result
-    c.requires.course c.requires.run c.requires.made c.in-Ok.ensures.moves c.in-Ok.ensures.unfailed c.come.ensures c.in-Ok-come.is in
+    let there = (ran_on C.makes (C.may c.args.course.now) (C.comes c.args.course.now) c.args.wanted.now (M.seen c.args.journals.now).may_fail c.in-Ok.core c.come.result
+    c.requires.course c.requires.run c.requires.made c.in-Ok.ensures.moves c.in-Ok.ensures.unfailed c.come.ensures (c.in-Ok-come.core, c.in-Ok-come.counts) c.in-Ok-come.is).0 in
     let told = (M.seen c.started.new.journals).may_fail in
     let unfailed : AreUnfailed told c.in-Ok.core.given c.in-Ok.core.journals =
     subst (λ t. AreUnfailed t c.in-Ok.core.given c.in-Ok.core.journals) (sym c.in-Ok.ensures.told) c.in-Ok.ensures.unfailed in
@@ -84,24 +84,24 @@ pub finished-requires-clause-program : goal.finished-requires-clause-program
 finished-requires-clause-program g c κs within =
     let C = g.C.Course in
     let M = g.M.Journals in
-    let there = ran_on C.makes (C.may c.args.course.now) (C.comes c.args.course.now) c.args.wanted.now (M.seen c.args.journals.now).may_fail c.in-Ok.core c.in-Ok-come.core c.come.result
-    c.requires.course c.requires.run c.requires.made c.in-Ok.ensures.moves c.in-Ok.ensures.unfailed c.come.ensures c.in-Ok-come.is in
+    let there = (ran_on C.makes (C.may c.args.course.now) (C.comes c.args.course.now) c.args.wanted.now (M.seen c.args.journals.now).may_fail c.in-Ok.core c.come.result
+    c.requires.course c.requires.run c.requires.made c.in-Ok.ensures.moves c.in-Ok.ensures.unfailed c.come.ensures (c.in-Ok-come.core, c.in-Ok-come.counts) c.in-Ok-come.is).0 in
     c.requires.bundle ∙ ap (λ (x : GivenModel). x.program) (sym (there.given ∙ c.in-Ok.ensures.given))
 
 pub finished-requires-clause-nodes : goal.finished-requires-clause-nodes
 finished-requires-clause-nodes g c κs within =
     let C = g.C.Course in
     let M = g.M.Journals in
-    let there = ran_on C.makes (C.may c.args.course.now) (C.comes c.args.course.now) c.args.wanted.now (M.seen c.args.journals.now).may_fail c.in-Ok.core c.in-Ok-come.core c.come.result
-    c.requires.course c.requires.run c.requires.made c.in-Ok.ensures.moves c.in-Ok.ensures.unfailed c.come.ensures c.in-Ok-come.is in
+    let there = (ran_on C.makes (C.may c.args.course.now) (C.comes c.args.course.now) c.args.wanted.now (M.seen c.args.journals.now).may_fail c.in-Ok.core c.come.result
+    c.requires.course c.requires.run c.requires.made c.in-Ok.ensures.moves c.in-Ok.ensures.unfailed c.come.ensures (c.in-Ok-come.core, c.in-Ok-come.counts) c.in-Ok-come.is).0 in
     c.requires.nodes ∙ ap honest_in (sym (there.given ∙ c.in-Ok.ensures.given))
 
 pub returns-in-Ok-come-clause-answer : goal.returns-in-Ok-come-clause-answer
 returns-in-Ok-come-clause-answer g c =
     let C = g.C.Course in
     let M = g.M.Journals in
-    let there = ran_on C.makes (C.may c.args.course.now) (C.comes c.args.course.now) c.args.wanted.now (M.seen c.args.journals.now).may_fail c.in-Ok.core c.in-Ok-come.core c.come.result
-    c.requires.course c.requires.run c.requires.made c.in-Ok.ensures.moves c.in-Ok.ensures.unfailed c.come.ensures c.in-Ok-come.is in
+    let there = (ran_on C.makes (C.may c.args.course.now) (C.comes c.args.course.now) c.args.wanted.now (M.seen c.args.journals.now).may_fail c.in-Ok.core c.come.result
+    c.requires.course c.requires.run c.requires.made c.in-Ok.ensures.moves c.in-Ok.ensures.unfailed c.come.ensures (c.in-Ok-come.core, c.in-Ok-come.counts) c.in-Ok-come.is).0 in
     ran_to (given_by c.args.program.value c.args.rights) c.in-Ok-come.core.given (there.given ∙ c.in-Ok.ensures.given) c.args.wanted.now (M.seen c.args.journals.now) (M.seen c.started.new.journals)
     (M.seen c.finished.new.journals) c.in-Ok.ensures.made c.finished.ensures.made c.finished.ensures.faults c.finished.result c.finished.ensures.answer
 
@@ -109,8 +109,8 @@ pub returns-in-Ok-come-clause-possible : goal.returns-in-Ok-come-clause-possible
 returns-in-Ok-come-clause-possible g c =
     let C = g.C.Course in
     let M = g.M.Journals in
-    let there = ran_on C.makes (C.may c.args.course.now) (C.comes c.args.course.now) c.args.wanted.now (M.seen c.args.journals.now).may_fail c.in-Ok.core c.in-Ok-come.core c.come.result
-    c.requires.course c.requires.run c.requires.made c.in-Ok.ensures.moves c.in-Ok.ensures.unfailed c.come.ensures c.in-Ok-come.is in
+    let there = (ran_on C.makes (C.may c.args.course.now) (C.comes c.args.course.now) c.args.wanted.now (M.seen c.args.journals.now).may_fail c.in-Ok.core c.come.result
+    c.requires.course c.requires.run c.requires.made c.in-Ok.ensures.moves c.in-Ok.ensures.unfailed c.come.ensures (c.in-Ok-come.core, c.in-Ok-come.counts) c.in-Ok-come.is).0 in
     subst (λ told. IfOk c.finished.result (IsPossible told c.args.program.value)) c.in-Ok.ensures.told
     (subst (λ (x : GivenModel). IfOk c.finished.result (IsPossible (M.seen c.started.new.journals).may_fail x.program)) (there.given ∙ c.in-Ok.ensures.given) c.finished.ensures.possible)
 
@@ -118,8 +118,8 @@ pub returns-in-Ok-come-clause-memory : goal.returns-in-Ok-come-clause-memory
 returns-in-Ok-come-clause-memory g c =
     let C = g.C.Course in
     let M = g.M.Journals in
-    let there = ran_on C.makes (C.may c.args.course.now) (C.comes c.args.course.now) c.args.wanted.now (M.seen c.args.journals.now).may_fail c.in-Ok.core c.in-Ok-come.core c.come.result
-    c.requires.course c.requires.run c.requires.made c.in-Ok.ensures.moves c.in-Ok.ensures.unfailed c.come.ensures c.in-Ok-come.is in
+    let there = (ran_on C.makes (C.may c.args.course.now) (C.comes c.args.course.now) c.args.wanted.now (M.seen c.args.journals.now).may_fail c.in-Ok.core c.come.result
+    c.requires.course c.requires.run c.requires.made c.in-Ok.ensures.moves c.in-Ok.ensures.unfailed c.come.ensures (c.in-Ok-come.core, c.in-Ok-come.counts) c.in-Ok-come.is).0 in
     ran_short (given_by c.args.program.value c.args.rights) c.in-Ok-come.core.given (there.given ∙ c.in-Ok.ensures.given) c.args.wanted.now (M.seen c.args.journals.now) (M.seen c.started.new.journals)
     (M.seen c.finished.new.journals) c.in-Ok.ensures.made c.finished.ensures.made c.finished.ensures.faults c.finished.result c.finished.ensures.memory
 
@@ -127,24 +127,24 @@ pub finished-requires-in-Err-clause-on_way : goal.finished-requires-in-Err-claus
 finished-requires-in-Err-clause-on_way g c κs within =
     let C = g.C.Course in
     let M = g.M.Journals in
-    let there = stopped C.makes (C.may c.args.course.now) (C.comes c.args.course.now) c.args.wanted.now (M.seen c.args.journals.now).may_fail c.in-Ok.core c.in-Err.core c.come.result
-    c.requires.course c.requires.run c.requires.made c.in-Ok.ensures.moves c.in-Ok.ensures.unfailed c.come.ensures c.in-Err.is in
+    let there = stopped C.makes (C.may c.args.course.now) (C.comes c.args.course.now) c.args.wanted.now (M.seen c.args.journals.now).may_fail c.in-Ok.core c.come.result
+    c.requires.course c.requires.run c.requires.made c.in-Ok.ensures.moves c.in-Ok.ensures.unfailed c.come.ensures c.in-Err.core c.in-Err.is in
     lined_way c.in-Err.core.given c.in-Err.core.moves c.args.wanted.now c.requires.run there.lined
 
 pub finished-requires-in-Err-clause-marked : goal.finished-requires-in-Err-clause-marked
 finished-requires-in-Err-clause-marked g c κs within =
     let C = g.C.Course in
     let M = g.M.Journals in
-    let there = stopped C.makes (C.may c.args.course.now) (C.comes c.args.course.now) c.args.wanted.now (M.seen c.args.journals.now).may_fail c.in-Ok.core c.in-Err.core c.come.result
-    c.requires.course c.requires.run c.requires.made c.in-Ok.ensures.moves c.in-Ok.ensures.unfailed c.come.ensures c.in-Err.is in
+    let there = stopped C.makes (C.may c.args.course.now) (C.comes c.args.course.now) c.args.wanted.now (M.seen c.args.journals.now).may_fail c.in-Ok.core c.come.result
+    c.requires.course c.requires.run c.requires.made c.in-Ok.ensures.moves c.in-Ok.ensures.unfailed c.come.ensures c.in-Err.core c.in-Err.is in
     there.marked
 
 pub finished-requires-in-Err-clause-sure : goal.finished-requires-in-Err-clause-sure
 finished-requires-in-Err-clause-sure g c κs within =
     let C = g.C.Course in
     let M = g.M.Journals in
-    let there = stopped C.makes (C.may c.args.course.now) (C.comes c.args.course.now) c.args.wanted.now (M.seen c.args.journals.now).may_fail c.in-Ok.core c.in-Err.core c.come.result
-    c.requires.course c.requires.run c.requires.made c.in-Ok.ensures.moves c.in-Ok.ensures.unfailed c.come.ensures c.in-Err.is in
+    let there = stopped C.makes (C.may c.args.course.now) (C.comes c.args.course.now) c.args.wanted.now (M.seen c.args.journals.now).may_fail c.in-Ok.core c.come.result
+    c.requires.course c.requires.run c.requires.made c.in-Ok.ensures.moves c.in-Ok.ensures.unfailed c.come.ensures c.in-Err.core c.in-Err.is in
     let told = (M.seen c.started.new.journals).may_fail in
     let unfailed : AreUnfailed told c.in-Ok.core.given c.in-Ok.core.journals =
     subst (λ t. AreUnfailed t c.in-Ok.core.given c.in-Ok.core.journals) (sym c.in-Ok.ensures.told) c.in-Ok.ensures.unfailed in
@@ -154,24 +154,24 @@ pub finished-requires-in-Err-clause-program : goal.finished-requires-in-Err-clau
 finished-requires-in-Err-clause-program g c κs within =
     let C = g.C.Course in
     let M = g.M.Journals in
-    let there = stopped C.makes (C.may c.args.course.now) (C.comes c.args.course.now) c.args.wanted.now (M.seen c.args.journals.now).may_fail c.in-Ok.core c.in-Err.core c.come.result
-    c.requires.course c.requires.run c.requires.made c.in-Ok.ensures.moves c.in-Ok.ensures.unfailed c.come.ensures c.in-Err.is in
+    let there = stopped C.makes (C.may c.args.course.now) (C.comes c.args.course.now) c.args.wanted.now (M.seen c.args.journals.now).may_fail c.in-Ok.core c.come.result
+    c.requires.course c.requires.run c.requires.made c.in-Ok.ensures.moves c.in-Ok.ensures.unfailed c.come.ensures c.in-Err.core c.in-Err.is in
     c.requires.bundle ∙ ap (λ (x : GivenModel). x.program) (sym (there.given ∙ c.in-Ok.ensures.given))
 
 pub finished-requires-in-Err-clause-nodes : goal.finished-requires-in-Err-clause-nodes
 finished-requires-in-Err-clause-nodes g c κs within =
     let C = g.C.Course in
     let M = g.M.Journals in
-    let there = stopped C.makes (C.may c.args.course.now) (C.comes c.args.course.now) c.args.wanted.now (M.seen c.args.journals.now).may_fail c.in-Ok.core c.in-Err.core c.come.result
-    c.requires.course c.requires.run c.requires.made c.in-Ok.ensures.moves c.in-Ok.ensures.unfailed c.come.ensures c.in-Err.is in
+    let there = stopped C.makes (C.may c.args.course.now) (C.comes c.args.course.now) c.args.wanted.now (M.seen c.args.journals.now).may_fail c.in-Ok.core c.come.result
+    c.requires.course c.requires.run c.requires.made c.in-Ok.ensures.moves c.in-Ok.ensures.unfailed c.come.ensures c.in-Err.core c.in-Err.is in
     c.requires.nodes ∙ ap honest_in (sym (there.given ∙ c.in-Ok.ensures.given))
 
 pub returns-in-Err-clause-answer : goal.returns-in-Err-clause-answer
 returns-in-Err-clause-answer g c =
     let C = g.C.Course in
     let M = g.M.Journals in
-    let there = stopped C.makes (C.may c.args.course.now) (C.comes c.args.course.now) c.args.wanted.now (M.seen c.args.journals.now).may_fail c.in-Ok.core c.in-Err.core c.come.result
-    c.requires.course c.requires.run c.requires.made c.in-Ok.ensures.moves c.in-Ok.ensures.unfailed c.come.ensures c.in-Err.is in
+    let there = stopped C.makes (C.may c.args.course.now) (C.comes c.args.course.now) c.args.wanted.now (M.seen c.args.journals.now).may_fail c.in-Ok.core c.come.result
+    c.requires.course c.requires.run c.requires.made c.in-Ok.ensures.moves c.in-Ok.ensures.unfailed c.come.ensures c.in-Err.core c.in-Err.is in
     ran_to (given_by c.args.program.value c.args.rights) c.in-Err.core.given (there.given ∙ c.in-Ok.ensures.given) c.args.wanted.now (M.seen c.args.journals.now) (M.seen c.started.new.journals)
     (M.seen c.finished-in-Err.new.journals) c.in-Ok.ensures.made c.finished-in-Err.ensures.made c.finished-in-Err.ensures.faults c.finished-in-Err.result c.finished-in-Err.ensures.answer
 
@@ -179,8 +179,8 @@ pub returns-in-Err-clause-possible : goal.returns-in-Err-clause-possible
 returns-in-Err-clause-possible g c =
     let C = g.C.Course in
     let M = g.M.Journals in
-    let there = stopped C.makes (C.may c.args.course.now) (C.comes c.args.course.now) c.args.wanted.now (M.seen c.args.journals.now).may_fail c.in-Ok.core c.in-Err.core c.come.result
-    c.requires.course c.requires.run c.requires.made c.in-Ok.ensures.moves c.in-Ok.ensures.unfailed c.come.ensures c.in-Err.is in
+    let there = stopped C.makes (C.may c.args.course.now) (C.comes c.args.course.now) c.args.wanted.now (M.seen c.args.journals.now).may_fail c.in-Ok.core c.come.result
+    c.requires.course c.requires.run c.requires.made c.in-Ok.ensures.moves c.in-Ok.ensures.unfailed c.come.ensures c.in-Err.core c.in-Err.is in
     subst (λ told. IfOk c.finished-in-Err.result (IsPossible told c.args.program.value)) c.in-Ok.ensures.told
     (subst (λ (x : GivenModel). IfOk c.finished-in-Err.result (IsPossible (M.seen c.started.new.journals).may_fail x.program)) (there.given ∙ c.in-Ok.ensures.given) c.finished-in-Err.ensures.possible)
 
@@ -188,7 +188,7 @@ pub returns-in-Err-clause-memory : goal.returns-in-Err-clause-memory
 returns-in-Err-clause-memory g c =
     let C = g.C.Course in
     let M = g.M.Journals in
-    let there = stopped C.makes (C.may c.args.course.now) (C.comes c.args.course.now) c.args.wanted.now (M.seen c.args.journals.now).may_fail c.in-Ok.core c.in-Err.core c.come.result
-    c.requires.course c.requires.run c.requires.made c.in-Ok.ensures.moves c.in-Ok.ensures.unfailed c.come.ensures c.in-Err.is in
+    let there = stopped C.makes (C.may c.args.course.now) (C.comes c.args.course.now) c.args.wanted.now (M.seen c.args.journals.now).may_fail c.in-Ok.core c.come.result
+    c.requires.course c.requires.run c.requires.made c.in-Ok.ensures.moves c.in-Ok.ensures.unfailed c.come.ensures c.in-Err.core c.in-Err.is in
     ran_short (given_by c.args.program.value c.args.rights) c.in-Err.core.given (there.given ∙ c.in-Ok.ensures.given) c.args.wanted.now (M.seen c.args.journals.now) (M.seen c.started.new.journals)
     (M.seen c.finished-in-Err.new.journals) c.in-Ok.ensures.made c.finished-in-Err.ensures.made c.finished-in-Err.ensures.faults c.finished-in-Err.result c.finished-in-Err.ensures.memory

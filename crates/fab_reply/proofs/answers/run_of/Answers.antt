@@ -1,12 +1,13 @@
 use Rattle.std.proofs.Common.{Some, sym, ◌∙◌, subst}
 use Rattle.fab_device.specs.Kept.{Makers}
 use Rattle.fab_core.specs.Starts.{given_by}
-use Rattle.fab_replay.specs.Kept.{IsCutShort, IsPossible, IsReplayed}
-use Rattle.fab_replay.specs.Replays.{IsReady}
+use Rattle.fab_replay.specs.Kept.{IsCutShort, IsMade, IsPossible}
+use Rattle.fab_replay.specs.Replays.{IsReady, with_counts}
 use Rattle.fab_replay.proofs.Viewing.{any_err}
 use Rattle.fab_reply.specs.Reply.{Answers, AreLeft, status_of, text_of}
 use Rattle.fab_front.proofs.Accepting.{if_told, within}
 use Rattle.fab_reply.proofs.Replaying.{answered, cut_answer, cut_replay, left_behind, unless_told}
+use Rattle.fab_reply.proofs.Wishes.{any_counts}
 use Rattle.fab_reply.proofs.answers.run_of.Goals as goal
 
 pub wanted_of-requires-clause-within : goal.wanted_of-requires-clause-within
@@ -58,9 +59,9 @@ returns-clause-replies g c =
     let old : Makers = J.seen c.args.journals.now in
     let new : Makers = J.seen c.make_run.new.journals in
     let answer = c.in_ok-answer.answer in
-    let there = subst (λ r. IsReplayed (given_by r rights) wanted answer old new) (e.program ∙ p.1) c.in_ok-answer.ensures.answer in
+    let there = subst (λ r. IsMade (given_by r rights) wanted answer old new) (e.program ∙ p.1) c.in_ok-answer.ensures.answer in
     if_told (Answers (Some c.args.command.now) c.args.text.now) (status_of answer) (text_of answer) c.told.result c.told.ensures.told
-    (answered c.requires.front rights accepted c.args.command.now wanted c.in_ok-wanted.ensures.0 answer old new there)
+    (answered c.requires.front rights accepted c.args.command.now (with_counts wanted there.0) (any_counts c.args.start.now c.args.command.now wanted there.0 c.in_ok-wanted.ensures.0) answer old new there.1)
 
 pub returns-clause-journals : goal.returns-clause-journals
 returns-clause-journals g c =
@@ -73,10 +74,10 @@ returns-clause-journals g c =
     let old : Makers = J.seen c.args.journals.now in
     let new : Makers = J.seen c.make_run.new.journals in
     let answer = c.in_ok-answer.answer in
-    let there = subst (λ r. IsReplayed (given_by r rights) wanted answer old new) (e.program ∙ p.1) c.in_ok-answer.ensures.answer in
+    let there = subst (λ r. IsMade (given_by r rights) wanted answer old new) (e.program ∙ p.1) c.in_ok-answer.ensures.answer in
     let possible = subst (λ r. IsPossible old.may_fail r answer) (e.program ∙ p.1) c.in_ok-answer.ensures.possible in
     if_told (AreLeft c.args.command.now c.args.text.now old new) (status_of answer) (text_of answer) c.told.result c.told.ensures.told
-    (left_behind c.requires.front rights accepted c.args.command.now wanted c.in_ok-wanted.ensures.0 answer old new there possible)
+    (left_behind c.requires.front rights accepted c.args.command.now (with_counts wanted there.0) (any_counts c.args.start.now c.args.command.now wanted there.0 c.in_ok-wanted.ensures.0) answer old new there.1 possible)
 
 pub returns-clause-cut : goal.returns-clause-cut
 returns-clause-cut g c =
@@ -89,5 +90,5 @@ returns-clause-cut g c =
     let old : Makers = J.seen c.args.journals.now in
     let new : Makers = J.seen c.make_run.new.journals in
     let answer = c.in_ok-answer.answer in
-    let there = subst (λ r. IsReplayed (given_by r rights) wanted answer old new) (e.program ∙ p.1) c.in_ok-answer.ensures.answer in
-    unless_told c.told.result (cut_answer c.requires.front rights accepted c.args.command.now wanted c.in_ok-wanted.ensures.0 answer old new there) c.told.ensures.failed c.in_ok-answer.ensures.told
+    let there = subst (λ r. IsMade (given_by r rights) wanted answer old new) (e.program ∙ p.1) c.in_ok-answer.ensures.answer in
+    unless_told c.told.result (cut_answer c.requires.front rights accepted c.args.command.now (with_counts wanted there.0) (any_counts c.args.start.now c.args.command.now wanted there.0 c.in_ok-wanted.ensures.0) answer old new there.1) c.told.ensures.failed c.in_ok-answer.ensures.told

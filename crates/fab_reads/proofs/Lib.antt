@@ -1,0 +1,2 @@
+mod ReadsExamples
+pub mod Walking

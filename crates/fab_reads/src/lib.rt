@@ -1,0 +1,11 @@
+//! What is read of one object beside a run, from the states that the run's commits make one after the other.
+#![tactic(auto)]
+
+mod reading;
+mod text;
+mod values;
+mod walk;
+
+pub use reading::Reading;
+pub use text::put_reads;
+pub use values::values_after;
