@@ -12,12 +12,12 @@ pub returns-then-are_within : goal.returns-then-are_within
 returns-then-are_within c =
     let ex = has_bit c.args.classes in
     let none : outside ex (objects_of c.args.commit.now.answers) ≡ [] =
-    subst (λ (rows : Rows). outside ex (objects_of rows) ≡ []) c.as_slice.ensures (none_outside ex c.as_slice.result.now (sym c.are_within.ensures ∙ c.if-are_within.true)) in
+    subst (λ (rows : Rows). outside ex (objects_of rows) ≡ []) c.as_slice-answers.ensures (none_outside ex c.as_slice-answers.result.now (sym c.are_within.ensures ∙ c.if-are_within.true)) in
     subst (λ (m : FlatMap). IfOk c.plain_effect.result (λ e. AreChanges e (meaning c.args.start.now m c.args.request.now c.args.commit.now.tid 1000000)))
     (ap (λ rows. put_all rows c.args.map.now) (sym none)) c.plain_effect.ensures
 
-pub returns-else-are_within : goal.returns-else-are_within
-returns-else-are_within c =
+pub returns-in_ok-known : goal.returns-in_ok-known
+returns-in_ok-known c =
     let ex = has_bit c.args.classes in
     subst (λ (m : FlatMap). IfOk c.plain_effect-else-are_within.result (λ e. AreChanges e (meaning c.args.start.now m c.args.request.now c.args.commit.now.tid 1000000)))
-    (c.in_ok-known.ensures ∙ ap (λ rows. put_all (outside ex (objects_of rows)) c.args.map.now) c.as_slice.ensures) c.plain_effect-else-are_within.ensures
+    (c.in_ok-known.ensures ∙ ap (λ rows. put_all (outside ex (objects_of rows)) c.args.map.now) c.as_slice-answers.ensures) c.plain_effect-else-are_within.ensures
