@@ -12,4 +12,4 @@ mod shown;
 mod whole;
 
 pub use paused::{Paused, Turn, begin};
-pub use whole::{Changes, Meant, effect, meaning, plain_meaning};
+pub use whole::{Changes, Meant, effect, meaning, plain_effect, plain_meaning};

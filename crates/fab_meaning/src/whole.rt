@@ -101,7 +101,45 @@ pub fn effect(
 ) -> Result<Changes, NoMemory>
     ensures { IfOk result (λ e. AreChanges e (erased (has_bit seen.now.labels) (has_bit seen.now.classes) program.now known.now request.now tid fuel given.now)) }
 {
-    let sight = Sight::Part(*seen);
+    change_found(
+        alloc,
+        program,
+        Sight::Part(*seen),
+        known,
+        given,
+        request,
+        tid,
+        fuel,
+    )
+}
+
+/// What a request changes with everything seen: what it does. The map that it is done over isn't copied.
+pub fn plain_effect(
+    alloc: Global,
+    program: &Resolved,
+    known: &ObjectMap,
+    request: &Request,
+    tid: Tid,
+    fuel: u32,
+) -> Result<Changes, NoMemory>
+    ensures { IfOk result (λ e. AreChanges e (what_is_meant program.now known.now request.now tid fuel)) }
+{
+    everything_seen();
+    change_found(alloc, program, Sight::Whole, known, &[], request, tid, fuel)
+}
+
+fn change_found(
+    alloc: Global,
+    program: &Resolved,
+    sight: Sight,
+    known: &ObjectMap,
+    given: &[Value],
+    request: &Request,
+    tid: Tid,
+    fuel: u32,
+) -> Result<Changes, NoMemory>
+    ensures { IfOk result (λ e. AreChanges e (erased (sees sight) (shows sight) program.now known.now request.now tid fuel given.now)) }
+{
     let Finished { ended, state } = ran(alloc, program, sight, known, given, request, tid, fuel)?;
     let changed = state.changes()?;
     Ok(Changes {

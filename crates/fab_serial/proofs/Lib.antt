@@ -1,3 +1,4 @@
 pub mod Honest
+pub mod Keeping
 mod ReplaysExamples
 pub mod Steps

@@ -1,11 +1,11 @@
 //! Objects that are put into a map where they are asked for.
 ghost use Rattle.std.specs.Prelude.{◌≡◌, ℕ, Bool, not, if◌then◌else◌, IfOk, OnOk, filter};
-ghost use Rattle.fab_base.specs.FlatMap.{put, put_all, is_among};
+ghost use Rattle.std.specs.List.{list_all};
+ghost use Rattle.fab_base.specs.FlatMap.{put, put_all};
 ghost use Rattle.fab_language.specs.Evaluation.{rows_of, map_at_start};
 ghost use Rattle.fab_protocol.specs.Versions.{objects_of};
 ghost use Rattle.fab_rights.specs.Computed.{has_bit};
 ghost use Rattle.fab_world.specs.Serial.{outside, within};
-ghost use Rattle.fab_integrity.specs.Changed.{named};
 
 use fab_base::{NoMemory, Object, Oid, Seq};
 use fab_map::ObjectMap;
@@ -73,25 +73,6 @@ pub fn put_within(
     Ok(())
 }
 
-/// Puts the objects of these names and of these classes.
-pub fn put_named(
-    alloc: Global,
-    map: &mut ObjectMap,
-    rows: &[(Oid, Object)],
-    names: &[Oid],
-    classes: u64,
-) -> Result<(), NoMemory>
-    ensures { OnOk result (map.new ≡ put_all (within (has_bit classes) (named names.now rows.now)) map.old) }
-{
-    let mut rest = rows;
-    while let Some((row, after)) = rest.split_first() {
-        let wanted = has(names, row.0) && is_in(classes, row.0.class);
-        put_if(alloc, map, row.0, &row.1, wanted)?;
-        rest = after;
-    }
-    Ok(())
-}
-
 /// A copy of a map, and over it the answers of other classes.
 pub fn beside(
     alloc: Global,
@@ -127,9 +108,9 @@ fn copies(alloc: Global, rows: &[(Oid, Object)]) -> Result<Vec<(Oid, Object)>, N
     Ok(copies)
 }
 
-/// Whether a name is among these.
-fn has(names: &[Oid], oid: Oid) -> bool
-    ensures { result ≡ is_among oid names.now }
+/// Whether the objects of these answers are all of these classes.
+pub fn are_within(answers: &[(Oid, u32, Object)], classes: u64) -> bool
+    ensures { result ≡ list_all (λ row. has_bit classes row.0.class) answers.now }
 {
-    names.contains(&oid)
+    answers.iter().all(|row| is_in(classes, row.0.class))
 }

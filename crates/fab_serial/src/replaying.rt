@@ -1,20 +1,20 @@
 //! Commits, done again one after the other.
 ghost use Rattle.std.specs.Prelude.{◌≡◌, IfOk, OnOk};
-ghost use Rattle.fab_base.specs.FlatMap.{FlatMap};
+ghost use Rattle.fab_base.specs.FlatMap.{FlatMap, put_all};
 ghost use Rattle.fab_language.specs.Meaning.{meaning as what_is_meant};
-ghost use Rattle.fab_meaning.specs.Ends.{IsMeant};
+ghost use Rattle.fab_meaning.specs.Ends.{AreChanges};
+ghost use Rattle.fab_protocol.specs.Versions.{objects_of};
 ghost use Rattle.fab_rights.specs.Computed.{has_bit};
 ghost use Rattle.fab_rights.specs.declared.rights.Rights.{Rights};
 ghost use Rattle.fab_settings.specs.Settings.{setting_of};
-ghost use Rattle.fab_world.specs.Serial.{serial_replay};
-ghost use Rattle.fab_integrity.specs.Changed.{changed};
+ghost use Rattle.fab_world.specs.Serial.{outside, serial_replay};
 ghost use Rattle.fab_serial.specs.Replays.{behind, left_by as what_is_left};
 
-use crate::objects::{at_start, beside, put_named};
+use crate::objects::{are_within, at_start, beside, put_within};
 use crate::requests::request_at;
-use fab_base::{NoMemory, Tid};
+use fab_base::NoMemory;
 use fab_map::ObjectMap;
-use fab_meaning::{Meant, plain_meaning};
+use fab_meaning::{Changes, plain_effect};
 use fab_net::Commit;
 use fab_tree::resolved::{Request, Resolved};
 use std::alloc::Global;
@@ -41,7 +41,8 @@ pub fn replay(
     Ok(map)
 }
 
-/// One commit more. The map is copied once for it, and the commit's request evaluated once.
+/// One commit more. Its request is evaluated once, and what it changed put into the map; beside that, it
+/// costs a copy of the map where one of its answers is of another class.
 pub fn redo(
     alloc: Global,
     start: &Resolved,
@@ -53,16 +54,17 @@ pub fn redo(
 {
     match request_at(start, commit.worker, commit.request) {
         Some(request) => {
-            let known = beside(alloc, map, commit.answers.as_slice(), classes)?;
-            let meant = meant_by(alloc, start, &known, request, commit.tid)?;
-            keep(alloc, classes, map, &meant)
+            // (a map's rows are in the order of names)
+            let _ = map.rows();
+            let done = done_over(alloc, start, classes, map, commit, request)?;
+            put_within(alloc, map, done.changed.as_slice(), classes)
         }
         None => Ok(()),
     }
 }
 
 /// The objects of these classes that a commit leaves over the map behind the commits before it: those
-/// that it wrote or made. The map is copied once for it, and the commit's request evaluated once.
+/// that it wrote or made. It costs what one commit more does.
 pub fn left_by(
     alloc: Global,
     start: &Resolved,
@@ -75,33 +77,32 @@ pub fn left_by(
     let mut left = ObjectMap::new(alloc);
     match request_at(start, commit.worker, commit.request) {
         Some(request) => {
-            let known = beside(alloc, map, commit.answers.as_slice(), classes)?;
-            let meant = meant_by(alloc, start, &known, request, commit.tid)?;
-            keep(alloc, classes, &mut left, &meant)?;
+            let done = done_over(alloc, start, classes, map, commit, request)?;
+            put_within(alloc, &mut left, done.changed.as_slice(), classes)?;
             Ok(left)
         }
         None => Ok(left),
     }
 }
 
-/// What a request means over a map.
-fn meant_by(
+/// What a commit's request changes over the map behind the commits before it, the objects of other
+/// classes taken from its answers. Where no answer is of another class, nothing stands beside the map: it
+/// is borrowed, and the cost is that of what the request does. Else the map is copied once.
+fn done_over(
     alloc: Global,
     start: &Resolved,
-    known: &ObjectMap,
+    classes: u64,
+    map: &ObjectMap,
+    commit: &Commit,
     request: &Request,
-    tid: Tid,
-) -> Result<Meant, NoMemory>
-    ensures { IfOk result (λ m. IsMeant m (what_is_meant start.now known.now request.now tid 1000000)) }
+) -> Result<Changes, NoMemory>
+    ensures { IfOk result (λ e. AreChanges e (what_is_meant start.now (put_all (outside (has_bit classes) (objects_of commit.now.answers)) map.now) request.now commit.now.tid 1000000)) }
 {
-    plain_meaning(alloc, start, known, request, tid, FUEL)
-}
-
-/// Keeps what was written and made of these classes.
-fn keep(alloc: Global, classes: u64, map: &mut ObjectMap, meant: &Meant) -> Result<(), NoMemory>
-    ensures { OnOk result (map.new ≡ changed (has_bit classes) meant.now.written meant.now.made meant.now.map map.old) }
-{
-    let rows = meant.map.rows();
-    put_named(alloc, map, rows, meant.written.as_slice(), classes)?;
-    put_named(alloc, map, rows, meant.made.as_slice(), classes)
+    let answers = commit.answers.as_slice();
+    if are_within(answers, classes) {
+        plain_effect(alloc, start, map, request, commit.tid, FUEL)
+    } else {
+        let known = beside(alloc, map, answers, classes)?;
+        plain_effect(alloc, start, &known, request, commit.tid, FUEL)
+    }
 }

@@ -2,7 +2,8 @@ use Rattle.std.proofs.Common.{◌≡◌, Some, subst, ◌∙◌, OnOk}
 use Rattle.fab_base.specs.FlatMap.{FlatMap}
 use Rattle.fab_erasure.specs.Erased.{erased}
 use Rattle.fab_rights.specs.Computed.{has_bit}
-use Rattle.fab_trust.proofs.Keeping.{not_redone, put_is, redone}
+use Rattle.fab_serial.proofs.Keeping.{put_is}
+use Rattle.fab_trust.proofs.Keeping.{not_redone, redone}
 use Rattle.fab_trust.proofs.replaying.redo.Goals as goal
 
 pub returns-in_ok-done-in-Some : goal.returns-in_ok-done-in-Some
