@@ -6,7 +6,7 @@ use Rattle.fab_device.specs.Kept.{Makers}
 use Rattle.fab_net.specs.declared.note.Commit.{Commit}
 use Rattle.fab_net.specs.declared.note.Logged.{Logged}
 use Rattle.fab_reads.specs.declared.reading.Reading.{Reading}
-use Rattle.fab_reads.specs.Reads.{AreCountsOf, reads_text, values_after}
+use Rattle.fab_reads.specs.Reads.{AreCounts, AreCountsOf, reads_text, values_after}
 use Rattle.fab_rights.specs.Computed.{has_bit}
 use Rattle.fab_rights.specs.declared.rights.Rights.{Rights}
 use Rattle.fab_settings.specs.Settings.{setting_of}
@@ -16,7 +16,7 @@ use Rattle.fab_world.specs.Serial.{commits_of}
 use Rattle.fab_core.specs.Cores.{setting}
 use Rattle.fab_node.specs.Standing.{GivenModel}
 use Rattle.fab_replay.specs.Kept.{IsCutShort, IsMade, IsReplayed}
-use Rattle.fab_replay.specs.Replays.{HasCounts, commits_of_run, is_scheduled, reading_of, reads_of, with_counts}
+use Rattle.fab_replay.specs.Replays.{HasCounts, IsCounted, commits_of_run, is_scheduled, reading_of, reads_of, with_counts}
 use Rattle.fab_replay.specs.declared.replayed.Replayed.{Replayed}
 use Rattle.fab_replay.specs.declared.replayed.Told.{Told}
 use Rattle.fab_replay.specs.declared.replayed.Told.TheVariants as told
@@ -60,6 +60,11 @@ counted g moves x y counts is h = subst (λ w. HasCounts g w moves) (sym is) (at
     at told.Report h = tt
     at told.Summary h = tt
     at (told.Reads reading before) h = h
+
+pub counts_of_reads : (g : GivenModel) (moves : List Move) (x : Told) (reading : Reading) (counts slice : List ℕ) → x ≡ told.Reads reading counts → slice ≡ counts → IsCounted g (Run x) moves
+    → AreCounts reading.times (commits_of_run g moves) slice
+counts_of_reads g moves x reading counts slice is same h =
+    subst (AreCounts reading.times (commits_of_run g moves)) (sym same) (let k = subst (λ y. HasCounts g (Run y) moves) is h.counts in k)
 
 -- where memory ran out, there are none to tell
 pub cut_alike : (g : GivenModel) (x y : Told) (old new : Makers) → IsCutShort g (Run x) old new → IsCutShort g (Run y) old new

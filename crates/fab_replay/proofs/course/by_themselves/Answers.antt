@@ -55,13 +55,13 @@ answer_of_run-answer-requires-clause-over g c =
     c.requires.course c.requires.run c.requires.made c.in-Ok.ensures.moves c.in-Ok.ensures.unfailed c.reading.result c.reading.ensures c.come.ensures (c.in-Ok-come.core, c.in-Ok-come.counts) c.in-Ok-come.is).0 in
     there.over
 
-pub answer_of_run-answer-requires-clause-counts : goal.answer_of_run-answer-requires-clause-counts
-answer_of_run-answer-requires-clause-counts g c =
+pub answer_of_run-answer-requires-clause-counted : goal.answer_of_run-answer-requires-clause-counted
+answer_of_run-answer-requires-clause-counted g c =
     let C = g.C.Course in
     let M = g.M.Journals in
     let there = (ran_on C.makes (C.may c.args.course.now) (C.comes c.args.course.now) c.args.wanted.now (M.seen c.args.journals.now).may_fail c.in-Ok.core c.come.result
     c.requires.course c.requires.run c.requires.made c.in-Ok.ensures.moves c.in-Ok.ensures.unfailed c.reading.result c.reading.ensures c.come.ensures (c.in-Ok-come.core, c.in-Ok-come.counts) c.in-Ok-come.is).1 in
-    counted c.in-Ok-come.core.given c.in-Ok-come.core.moves c.args.told.now c.with_counts-told.result c.in-Ok-come.counts c.with_counts-told.ensures there
+    record { counts = counted c.in-Ok-come.core.given c.in-Ok-come.core.moves c.args.told.now c.with_counts-told.result c.in-Ok-come.counts c.with_counts-told.ensures there }
 
 pub finished-requires-clause-on_way : goal.finished-requires-clause-on_way
 finished-requires-clause-on_way g c κs within =
