@@ -39,7 +39,7 @@ use Rattle.fab_replay.proofs.Numbered.{honest_within, in_order}
 use Rattle.fab_replay.proofs.Keeping.{all_kept, front_of, handed_back, hands_from, positive}
 use Rattle.fab_replay.proofs.Marks.{first_has}
 use Rattle.fab_replay.proofs.Moves.{marked_moves, unmarked_moves}
-use Rattle.fab_replay.proofs.Told.{faulty_has, stopped_unmarked}
+use Rattle.fab_replay.proofs.Answered.{faulty_has, stopped_unmarked}
 use Rattle.fab_replay.proofs.Viewing.{if_ok_weaker}
 
 -- ---- marks
@@ -218,14 +218,14 @@ sure_behind told first last unfailed h =
 -- the course came there, or stopped
 module _ {x : Told} (makes : Wanted → Bool) (may : CoreModel → Type 0) (comes : CoreModel → Option Reading → Result (CoreModel × List ℕ) CoreModel → Type 0) (wanted : Wanted) (told : Option (List (List ℕ)))
     (first : CoreModel) (result : Result (CoreModel × List ℕ) CoreModel) (course : IsCourse makes may comes) (is : wanted ≡ Run x) (made : IsTrue (makes wanted)) (none : first.moves ≡ [])
-    (unfailed : AreUnfailed told first.given first.journals) (came : comes first (reading_of x) result) where
+    (unfailed : AreUnfailed told first.given first.journals) (reading : Option Reading) (read : reading ≡ reading_of x) (came : comes first reading result) where
   abbrev HasCome : CoreModel × List ℕ → Type 0
   HasCome r = HasRun first r.0 × AreCountsOf (reading_of x) (commits_of_run r.0.given r.0.moves) r.1
 
   ends : IfOk result HasCome × IfErr result (HasStopped first)
   ends =
       let start : IsAtStart first = record { moves = none; unfailed = λ n. (unfailed n).faults } in
-      (course x (subst (λ w. IsTrue (makes w)) is made) first start).1 result came
+      (course x (subst (λ w. IsTrue (makes w)) is made) first start).1 result (subst (λ o. comes first o result) read came)
 
   pub ran_on : (last : CoreModel × List ℕ) → result ≡ Ok last → HasCome last
   ran_on last was = subst (λ o. IfOk o HasCome) was ends.0

@@ -12,7 +12,7 @@ use Rattle.fab_replay.specs.declared.replayed.Replayed.{Replayed}
 use Rattle.fab_replay.specs.declared.replayed.Replayed.TheVariants as r
 use Rattle.fab_replay.specs.declared.replayed.Wanted.{Wanted}
 use Rattle.fab_replay.proofs.Moves.{enabled_parts}
-use Rattle.fab_replay.proofs.Told.{stopped_of, whole_of}
+use Rattle.fab_replay.proofs.Answered.{stopped_of, whole_of}
 
 -- an event that may not come behind those before it is in no run that has it there
 never_runs : (g : GivenModel) (moves : List Move) (number : ℕ) (h : StopsBefore g moves number) (events more : List Event) → events ≡ h.before ++ h.event ∷ more

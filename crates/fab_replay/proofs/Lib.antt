@@ -1,8 +1,7 @@
 -- Each file stands on some of those above it.
 pub mod Moves
 pub mod Marks
-pub mod Told
-pub mod Counts
+pub mod Answered
 pub mod Behind
 pub mod Accepted
 pub mod Resting
@@ -13,6 +12,7 @@ pub mod Excluded
 pub mod Steps
 pub mod Scheduled
 pub mod Viewing
+pub mod Counts
 pub mod Trusting
 pub mod Readable
 pub mod Ends

@@ -1,5 +1,5 @@
 -- Whom no hostile node may have influenced, by a mask of the hostile ones.
-use Rattle.std.specs.Prelude.{◌≡◌, ◌<◌, ◌↔◌, ℕ, Bool, true, false, find, IsTrue, IsBitSet, IsSomeAnd, List, Option, Some, None, option_map, unwrap_or, slice_get}
+use Rattle.std.specs.Prelude.{◌≡◌, ◌<◌, ◌^◌, ◌↔◌, ℕ, Bool, true, false, find, IsTrue, IsBitSet, IsSomeAnd, List, Option, Some, None, option_map, unwrap_or, slice_get}
 use Rattle.std.specs.Str.{bytes_eq}
 use Rattle.std.proofs.Common.{refl, sym, ap, ◌∙◌, subst, true≢false}
 use Rattle.std.proofs.lemmas.Bool.{false≢true}
@@ -15,10 +15,8 @@ use Rattle.fab_labelling.specs.Readers.{Excludes, IsNode, label_at, principal_of
 use Rattle.fab_places.specs.Places.{ClassExcludes, HasNumbers}
 use Rattle.fab_places.proofs.NodeLemmas.{numbered as within_masks}
 use Rattle.fab_rights.specs.Computed.{has_bit}
-use Rattle.fab_rights.proofs.Bits.{has_bit_exact}
+use Rattle.fab_rights.proofs.Bits.{bit_below, has_bit_exact}
 use Rattle.fab_front.specs.Readable.{ClassExcludesHostile, ExcludesHostile, IsReadable, is_declared_hostile}
-use Rattle.fab_reads.specs.declared.reading.Reading.{Reading}
-use Rattle.fab_replay.specs.Reading.{IsReadingOf}
 
 and_some : {A : Type 0} {P Q : A → Type 0} (o : Option A) → ((x : A) → P x → Q x) → IsSomeAnd o P → IsSomeAnd o Q
 and_some None f h = h
@@ -50,16 +48,19 @@ module _ (r : Resolved) (numbers : HasNumbers r) where
     )
 
     -- who isn't in the mask isn't hostile, whatever its number
-    pub is_honest : (n : ℕ) → has_bit mask n ≡ false → is_declared_hostile r n ≡ false
+    is_honest : (n : ℕ) → has_bit mask n ≡ false → is_declared_hostile r n ≡ false
     is_honest n e = by (is_declared_hostile r n) refl
       where
         by : (b : Bool) → is_declared_hostile r n ≡ b → is_declared_hostile r n ≡ false
         by false is = is
         by true is = absurd (true≢false (sym is ∙ sym (are n (hostile_below n is)) ∙ e))
 
-    -- and who is in it is, if it has a number of a node
-    pub honest_is : (n : ℕ) → n < 64 → has_bit mask n ≡ true → is_declared_hostile r n ≡ false → ⊥
-    honest_is n low e is = true≢false (sym e ∙ are n low ∙ is)
+    pub hostile_bit : mask < 2 ^ 64 → (n : ℕ) → has_bit mask n ≡ is_declared_hostile r n
+    hostile_bit fits n = by (has_bit mask n) refl
+      where
+        by : (b : Bool) → has_bit mask n ≡ b → has_bit mask n ≡ is_declared_hostile r n
+        by true e = are n (bit_below mask n fits ((has_bit_exact mask n).0 e))
+        by false e = e ∙ sym (is_honest n e)
 
 -- ---- one root
 
@@ -70,5 +71,12 @@ same_root : (x y : Root) → Some x ≡ Some y → x ≡ y
 same_root x y e = cc
 
 module _ (r : Resolved) (name : List ℕ) (root : Root) (found : find (λ x. bytes_eq x.name.text name) r.roots ≡ Some root) where
-  pub the_root : (oid : Oid) (h : IsReadable r name oid) → h.root ≡ root
+  the_root : (oid : Oid) (h : IsReadable r name oid) → h.root ≡ root
   the_root oid h = same_root h.root root (sym h.found ∙ found)
+
+  -- at a hostile store, or of a class that a hostile node may have influenced
+  pub not_of_hostile : is_declared_hostile r root.oid.store ≡ true → (oid : Oid) → IsReadable r name oid → ⊥
+  not_of_hostile e oid h = true≢false (sym e ∙ ap (λ (x : Root). is_declared_hostile r x.oid.store) (sym (the_root oid h)) ∙ h.honest)
+
+  pub not_of_class : (ClassExcludesHostile r root.oid.class → ⊥) → (oid : Oid) → IsReadable r name oid → ⊥
+  not_of_class none oid h = none (subst (λ (x : Root). ClassExcludesHostile r x.oid.class) (the_root oid h) h.trusted)

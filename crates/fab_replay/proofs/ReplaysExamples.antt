@@ -399,11 +399,11 @@ not_of_another_sum h = let other : 54 ≡ 53 = ap (λ bytes. get_or bytes 39 0) 
 
 -- somebody who reads the root once: nothing is committed, so both reads see the state at the start
 abbrev reader : Reading
-reader = record { oid = record { store = 1; class = 0; worker = 0; boot = 0; number = 0; site = 0 }; classes = 1; times = 1 }
+reader = record { oid = record { store = 1; class = 0; worker = 0; boot = 0; number = 0; site = 0; index = 0 }; classes = 1; times = 1 }
 
 its_reads : Tells g (Run (told.Reads reader (0 ∷ 0 ∷ []))) [] (r.Done (report_of g [] ++ reads_of g reader (0 ∷ 0 ∷ []) []))
 unfolding kept_of shelf_of
-its_reads = ((nothing_to_do, refl), refl, record { many = refl; rising = ((lit≤ tt, tt), tt, tt); whole = refl })
+its_reads = ((nothing_to_do, refl), refl, record { many = refl; rising = ((lit≤ tt, tt), (tt, tt)); whole = refl })
 
 -- no read sees a commit more than there are, and none is left out
 not_of_a_later_state : (bytes : List ℕ) → Tells g (Run (told.Reads reader (0 ∷ 1 ∷ []))) [] (r.Done bytes) → ⊥

@@ -112,6 +112,10 @@ abbrev pub HasCounts : GivenModel → Wanted → List Move → Type 0
 HasCounts g (Run (told.Reads reading counts)) moves = AreCounts reading.times (commits_of_run g moves) counts
 HasCounts g wanted moves = Unit {0}
 
+-- it has them
+pub record IsCounted (g : GivenModel) (wanted : Wanted) (moves : List Move) : Type 0 where
+  pub counts : HasCounts g wanted moves
+
 -- for `view`: the hostile nodes are in the set, this is what it sees, and this is what everybody may know
 pub record IsReadyToView (g : GivenModel) (nodes : ℕ) (seen : Seen) (part : Resolved) : Type 0 where
   pub sees : IsSeeing g nodes (has_bit seen.labels) (has_bit seen.classes)

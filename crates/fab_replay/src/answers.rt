@@ -5,7 +5,7 @@ ghost use Rattle.std.specs.Option.{option_map};
 ghost use Rattle.fab_lines.specs.Numbered.{AreNumbered};
 ghost use Rattle.fab_net.specs.Events.{node_at as node_in};
 ghost use Rattle.fab_reads.specs.Reads.{AreCounts};
-ghost use Rattle.fab_replay.specs.Replays.{HasCounts, IsReady, IsRunOver, IsTold, commits_of_run, is_scheduled, reads_of, report_of, summary_of_run, text_of, told_of};
+ghost use Rattle.fab_replay.specs.Replays.{IsCounted, IsReady, IsRunOver, IsTold, commits_of_run, is_scheduled, reads_of, report_of, summary_of_run, text_of, told_of};
 ghost use Rattle.fab_replay.specs.Running.{ComesTo};
 ghost use Rattle.fab_replay.specs.declared.replayed.Wanted.TheVariants as wants;
 
@@ -102,7 +102,7 @@ fn told_of<J: Journal>(
 ) -> Result<Seq<u8>, NoMemory>
     requires program { program.now ≡ core.now.given.program }
     requires numbered { AreNumbered program.now.roots }
-    requires counts { HasCounts core.now.given (wants.Run told.now) core.now.moves }
+    requires counted { IsCounted core.now.given (wants.Run told.now) core.now.moves }
     ensures { IfOk result (λ bytes. bytes ≡ told_of told.now core.now.given core.now.moves) }
 {
     match told {
@@ -180,7 +180,7 @@ pub(crate) fn answer_of_run<J: Journal>(
     told: &Told,
 ) -> Result<Replayed, NoMemory>
     requires over { IsRunOver core.now.given core.now.moves }
-    requires counts { HasCounts core.now.given (wants.Run told.now) core.now.moves }
+    requires counted { IsCounted core.now.given (wants.Run told.now) core.now.moves }
     ensures { IfOk result (IsTold core.now.given (wants.Run told.now) core.now.moves) }
 {
     core.is_a_run();

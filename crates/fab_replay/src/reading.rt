@@ -3,6 +3,7 @@
 ghost use Rattle.std.specs.Prelude.{◌≡◌, ◌<◌, ◌↔◌, find, option_copied, ℕ, IfOk, IsTrue, MatchOption};
 ghost use Rattle.std.specs.Str.{bytes_eq};
 ghost use Rattle.fab_base.specs.declared.object.Oid.{Oid as AnyOid};
+ghost use Rattle.fab_language.specs.Flows.{delegations_of};
 ghost use Rattle.fab_front.specs.Readable.{ClassExcludesHostile, IsReadable, is_declared_hostile};
 ghost use Rattle.fab_places.specs.Places.{HasNumbers};
 ghost use Rattle.fab_rights.specs.Computed.{has_bit};
@@ -29,6 +30,27 @@ fn root_named<'a>(program: &'a Resolved, name: &Text) -> Option<&'a Root>
         .find(|x| x.name.text.as_str() == name.as_str())
 }
 
+/// Whether the node of this number is one of the hostile ones.
+fn is_hostile(program: &Resolved, hostile: u64, number: u16) -> bool
+    requires numbers { HasNumbers program.now }
+    requires hostile { (n : ℕ) → n < 64 → has_bit hostile n ≡ is_declared_hostile program.now n }
+    ensures { result ≡ is_declared_hostile program.now number }
+{
+    let _program = program;
+    is_in(hostile, number)
+}
+
+/// The classes whose objects none of these nodes may have influenced, which are the hostile ones.
+fn trusted_without(program: &Resolved, acts: &Acts, hostile: u64) -> u64
+    requires of { acts.now ≡ delegations_of program.now }
+    requires seen { CanBeSeen program.now }
+    requires numbers { HasNumbers program.now }
+    requires hostile { (n : ℕ) → n < 64 → has_bit hostile n ≡ is_declared_hostile program.now n }
+    ensures { (c : ℕ) → IsTrue (has_bit result c) ↔ ClassExcludesHostile program.now c }
+{
+    excluding(program, acts, hostile)
+}
+
 /// The classes whose objects no hostile node may have influenced, as a mask.
 fn trusted_classes(alloc: Global, program: &Resolved, hostile: u64) -> Result<u64, NoMemory>
     requires seen { CanBeSeen program.now }
@@ -38,7 +60,7 @@ fn trusted_classes(alloc: Global, program: &Resolved, hostile: u64) -> Result<u6
 {
     let count = program.nodes.len() as u16;
     let acts = Acts::close(alloc, count, program.pairs.as_slice())?;
-    Ok(excluding(program, &acts, hostile))
+    Ok(trusted_without(program, &acts, hostile))
 }
 
 /// What is read so often of the root of this name, of an accepted bundle; nothing where no root of that name may be
@@ -59,7 +81,10 @@ pub fn read_in(
     let hostile = hostile_nodes(program);
     let classes = trusted_classes(alloc, program, hostile)?;
     let oid = root.oid;
-    if is_in(hostile, oid.store) || !is_in(classes, oid.class) {
+    if is_hostile(program, hostile, oid.store) {
+        return Ok(None);
+    }
+    if !is_in(classes, oid.class) {
         return Ok(None);
     }
     Ok(Some(Reading {

@@ -70,10 +70,7 @@ are_watched : (P : List ℕ → ℕ → GivenModel → List Move → Type 0) →
 are_watched P root times left left' written written' h =
     by h.wanted (subst (λ x. Wants h.start x h.wanted) (same_command (Run (telling.Reads root times)) h.asked h.command_is) h.wants) h.reported h.counted
   where
-    abbrev g : GivenModel
-    g = given_of h.start h.rights
-
-    by : (w : Wanted) → Wants h.start (Run (telling.Reads root times)) w → Appends written written' (text_of g w h.moves) → HasCounts g w h.moves
+    by : (w : Wanted) → Wants h.start (Run (telling.Reads root times)) w → Appends written written' (text_of (given_of h.start h.rights) w h.moves) → HasCounts (given_of h.start h.rights) w h.moves
         → IsWatched root times (P root times) left left' written written' h
     by (ByNodes (told.Reads reading counts)) wants all counted =
         let front = cut_of h.spelled in
@@ -82,7 +79,7 @@ are_watched P root times left left' written written' h =
           reading = reading;
           asked = asked;
           counts = counts;
-          counted = subst (λ n. AreCounts n (commits_of_run g h.moves) counts) asked.times_are counted;
+          counted = subst (λ n. AreCounts n (commits_of_run (given_of h.start h.rights) h.moves) counts) asked.times_are counted;
           shown = all;
           readable = read_back h.text front.tokens h.start h.rights h.moves front.cut front.is h.accepted h.run;
         }

@@ -16,12 +16,20 @@ use Rattle.fab_rights.proofs.Bits.{bit_below, has_bit_exact}
 use Rattle.fab_settings.specs.Settings.{IsAcceptedWith, is_hostile_node}
 use Rattle.std.proofs.lemmas.List.{length-map}
 use Rattle.fab_command.specs.declared.command.Command.{Command}
-use Rattle.fab_command.specs.declared.command.Command.TheVariants.{Trust, View}
+use Rattle.fab_command.specs.declared.command.Command.TheVariants.{Run, Trust, View}
+use Rattle.fab_command.specs.declared.command.Telling.{Telling}
+use Rattle.fab_command.specs.declared.command.Telling.TheVariants as telling
+use Rattle.fab_base.specs.declared.object.Oid.{Oid}
 use Rattle.fab_tree.specs.declared.resolved.Resolved.{Resolved}
 use Rattle.fab_tree.specs.Limits.{first_passed}
 use Rattle.fab_language.specs.Faults.{faults}
 use Rattle.fab_flows.proofs.Declared.{has_principals}
 use Rattle.fab_front.specs.Named.{are_node_names, is_named}
+use Rattle.fab_front.specs.Readable.{IsReadable}
+use Rattle.fab_front.specs.Refused.{AsksLabels, HasReadable, LacksName}
+use Rattle.fab_reads.specs.declared.reading.Reading.{Reading}
+use Rattle.fab_replay.specs.Reading.{IsReadingOf}
+use Rattle.fab_replay.specs.declared.replayed.Told.TheVariants as told
 use Rattle.fab_release.specs.Bundles.{public_part}
 use Rattle.fab_tree.proofs.Within.{is_within}
 use Rattle.fab_views.specs.Views.{IsSeenBy}
@@ -152,3 +160,23 @@ ready_trust s command names set program (Trusted nodes part) is of h robust v =
       subst (λ c. Wants s c (Trusted nodes part)) (sym of) (record { named = named; robust = robust; trusts = trusts }),
       λ rights accepted. record { hostile = hostile_in s rights names nodes accepted named; trusted = trusts },
     )
+
+-- ---- what is read beside a run
+
+module _ (s : Start) (program : Resolved) (is : program ≡ resolved s) (root : List ℕ) (times : ℕ) where
+  pub set_read : (command : Command) (reading : Reading) (set : ℕ) → command ≡ Run (telling.Reads root times) → IsReadingOf program root times reading → IsSetOf s command set
+  set_read command reading set of h = subst (λ c. IsSetOf s c set) (sym of) (reading.oid, subst (λ (r : Resolved). IsReadable r root reading.oid) is h.readable)
+
+  pub set_unread : (command : Command) → command ≡ Run (telling.Reads root times) → ((oid : Oid) → IsReadable program root oid → ⊥) → LacksName command s
+  set_unread command of none = subst (λ c. LacksName c s) (sym of) (λ k. none k.0 (subst (λ (r : Resolved). IsReadable r root k.0) (sym is) k.1))
+
+  -- what is wanted of its runs is ready
+  pub ready_read : (x : Telling) (reading : Reading) (counts : List ℕ) → x ≡ telling.Reads root times → IsReadingOf program root times reading
+      → Wants s (Run x) (ByNodes (told.Reads reading counts)) × ((rights : Rights) → IsAcceptedWith s rights → IsReady (given_of s rights) (ByNodes (told.Reads reading counts)))
+  ready_read x reading counts of h =
+      (subst (λ y. Wants s (Run y) (ByNodes (told.Reads reading counts))) (sym of) (subst (λ (r : Resolved). IsReadingOf r root times reading) is h), λ rights accepted. tt)
+
+  pub not_unread : {A : Type 0} (x : Telling) → x ≡ telling.Reads root times → AsksLabels (Run x) s → ((oid : Oid) → IsReadable program root oid → ⊥) → A
+  not_unread x of asks none =
+      let k : HasReadable s root = subst (λ y. AsksLabels (Run y) s) of asks in
+      absurd (none k.0 (subst (λ (r : Resolved). IsReadable r root k.0) (sym is) k.1))

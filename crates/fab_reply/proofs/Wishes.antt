@@ -27,7 +27,7 @@ use Rattle.fab_replay.specs.declared.replayed.Wanted.{Wanted}
 use Rattle.fab_replay.specs.declared.replayed.Wanted.TheVariants.{Report, Run as ByNodes, Trust as Trusted, View as Viewed}
 use Rattle.fab_replay.specs.Replays.{HasNoFault, IsFaulty, IsWhole, Tells, is_scheduled, text_of, with_counts}
 use Rattle.fab_replay.proofs.Counts.{uncounted}
-use Rattle.fab_replay.proofs.Told.{stopped_by, stopped_of, whole_by, whole_of}
+use Rattle.fab_replay.proofs.Answered.{stopped_by, stopped_of, whole_by, whole_of}
 use Rattle.fab_reply.specs.Headline.{IsPartFor, IsWholeFor}
 use Rattle.fab_front.specs.Refused.{AsksLabels, AsksNames, LacksName}
 use Rattle.fab_answers.specs.Says.{MakesRuns}

@@ -60,11 +60,7 @@ fn told(alloc: Global, answer: Replayed) -> Result<(Status, Seq<u8>), NoMemory>
 
 /// The nodes that a command names, and the hostile ones; nothing where a word names no node, or no root that may be
 /// read.
-fn set_of(
-    alloc: Global,
-    program: &Resolved,
-    command: &Command,
-) -> Result<Option<u64>, NoMemory>
+fn set_of(alloc: Global, program: &Resolved, command: &Command) -> Result<Option<u64>, NoMemory>
     requires runs { MakesRuns (Some command.now) }
     requires seen { CanBeSeen program.now }
     requires numbers { HasNumbers program.now }

@@ -23,6 +23,7 @@ use fab_core::Core;
 use fab_device::Journals;
 use fab_front::Status;
 use fab_gates::Gate;
+use fab_reads::Reading;
 use fab_replay::{ByCall, ByHand};
 use fab_run::by_threads;
 use fab_words::asked_task;
@@ -30,7 +31,7 @@ use std::alloc::{AllocError, Global};
 use std::sync::Wait;
 use std::thread::Threads;
 
-/// Does what the words ask for, where that is no `run` and no `drill`, and says how it ended. It waits for nobody.
+/// Does what the words ask for, where that is no `run`, no `watch` and no `drill`, and says how it ended. It waits for nobody.
 ///
 /// `check` asks whether the bundle that the source has keeps the rules of labels, `eval` for its
 /// evaluation, `flows A B` whether its label A flows to its label B, with the reasons, `fmt` for its
@@ -112,8 +113,11 @@ pub fn plain<S: Source, K: Sink, M: Journals>(
 
 /// Does what the words ask for, and says how it ended.
 ///
-/// That is what `plain` does, and `run` and `drill`: `run` asks for the report of a run that the nodes of the bundle make
-/// by themselves, each as a thread, with the gate around each evaluation. `drill N SIZE` reads nothing: it does that
+/// That is what `plain` does, and `run`, `watch` and `drill`: `run` asks for the report of a run that the nodes of the bundle
+/// make by themselves, each as a thread, with the gate around each evaluation. `watch ROOT N` asks for that report and what
+/// one thread more reads of this root: N times beside the run, with the gate around each read, and once behind it. Each read
+/// sees the object as the first so many commits of the run make it; these numbers never fall, and the last is that of all
+/// (`wants`, `reported` and `counted` of the headline). `drill N SIZE` reads nothing: it does that
 /// with the bundle that `gen N SIZE` writes, and asks for the summary of that run, so the clauses speak of that text
 /// in place of what the source has. That its bundle is accepted is tested of a few numbers and sizes, and not proved:
 /// where it weren't, `exact` would give the refusal. Of what the source has left, what the sink holds and which journals
@@ -134,7 +138,7 @@ pub fn fab<R: Threads + Wait + Sync, S: Source, K: Sink, M: Journals, G: Gate + 
     // the sink or a journal fails or memory runs out; so each refusal comes exactly where it should.
     ensures exact { IsReplied (asked_by words.now) → result ≢ ReadFault → IfSome (input_of (asked_by words.now) (S.left source.old)) (λ text. (status : AnyStatus) (reply : List ℕ) → Replies (command_in (asked_by words.now)) text status reply → ComesTo result status (K.written sink.old) (K.written sink.new) reply) }
 
-    // Where `run` is asked of a text that has an accepted bundle, that is done, unless the source, the sink or a
+    // Where `run` is asked of a text that has an accepted bundle, or `watch` of one whose root may be read, that is done, unless the source, the sink or a
     // journal fails or memory runs out. So is `drill` where the text of `gen` has one.
     ensures complete { result ≢ ReadFault → IfSome (input_of (asked_by words.now) (S.left source.old)) (IsComplete (command_in (asked_by words.now)) result) }
 
@@ -170,13 +174,13 @@ pub fn fab<R: Threads + Wait + Sync, S: Source, K: Sink, M: Journals, G: Gate + 
     ensures sink_unfailed { result ≢ WriteFault → K.faults sink.new ≡ K.faults sink.old }
 
     // With `Ok` of a command that makes a run, and where a journal failed in its run, the text that it wants of that
-    // run was written, for `replay` and `run` the report and for `drill` the summary, and the headline holds of the run, integrity, trusted replay and isolation.
+    // run was written, for `replay` and `run` the report, for `watch` the report and the reads and for `drill` the summary, and the headline holds of the run, integrity, trusted replay and isolation.
     // Where a journal failed before there was a run, or there was no memory for the run's text, nothing was written.
     ensures headline { MakesRuns (command_in (asked_by words.now)) → result ≡ Done → Headline (command_in (asked_by words.now)) (IsWholeFor (command_in (asked_by words.now))) (input_of (asked_by words.now) (S.left source.old)) (rest_of (asked_by words.now) (S.left source.new)) (K.written sink.old) (K.written sink.new) }
     ensures headline_of_a_part { (node : ℕ) → result ≡ JournalFault node
         → Keeps (K.written sink.old) (K.written sink.new) ⊎ Headline (command_in (asked_by words.now)) (IsPartFor (command_in (asked_by words.now)) node) (input_of (asked_by words.now) (S.left source.old)) (rest_of (asked_by words.now) (S.left source.new)) (K.written sink.old) (K.written sink.new) }
 
-    // `JournalFault` comes of `replay`, `run`, `drill`, `view` and `trust` alone, and only these make journals and have them kept. What was
+    // `JournalFault` comes of `replay`, `run`, `watch`, `drill`, `view` and `trust` alone, and only these make journals and have them kept. What was
     // kept, and which faults there were, says `means`. With each other status no journal's making failed.
     ensures journal_fault { (node : ℕ) → result ≡ JournalFault node → MakesRuns (command_in (asked_by words.now)) }
     ensures journals_unfailed { (IsJournalFault result → ⊥) → (M.seen journals.new).faults ≡ (M.seen journals.old).faults }
@@ -187,10 +191,10 @@ pub fn fab<R: Threads + Wait + Sync, S: Source, K: Sink, M: Journals, G: Gate + 
     ensures journals_told { (M.seen journals.new).may_fail ≡ (M.seen journals.old).may_fail }
 {
     let course = ByCall {
-        call: |core: Core<M::Item>|
+        call: |core: Core<M::Item>, reading: Option<Reading>|
             requires start { core.moves ≡ [] }
             requires unfailed { (n : ℕ) → faults_in (slot core.journals n) ≡ 0 }
-        { by_threads(rt, alloc, gate, core) },
+        { by_threads(rt, alloc, gate, core, reading) },
     };
     match asked_task(alloc, words) {
         Ok(task) => done(alloc, &course, task, source, sink, journals),

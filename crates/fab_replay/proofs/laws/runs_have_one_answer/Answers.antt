@@ -1,4 +1,4 @@
-use Rattle.fab_replay.proofs.Told.{faulty_marked, none_marked, one_of_run}
+use Rattle.fab_replay.proofs.Answered.{faulty_marked, none_marked, one_of_run}
 use Rattle.fab_replay.proofs.laws.runs_have_one_answer.Goals as goal
 
 pub returns-clause-one : goal.returns-clause-one

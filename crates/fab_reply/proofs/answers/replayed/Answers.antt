@@ -8,7 +8,32 @@ use Rattle.fab_front.proofs.Accepting.{if_told, short, within}
 use Rattle.fab_answers.proofs.Saying.{label_said, name_said, unknown_said}
 use Rattle.fab_reply.proofs.Replying.{said_reply}
 use Rattle.fab_reply.proofs.Wishes.{asks_labels, asks_names}
+use Rattle.std.proofs.Common.{sym}
+use Rattle.fab_tree.specs.declared.resolved.Resolved.{Resolved}
+use Rattle.fab_places.specs.Places.{HasNumbers}
+use Rattle.fab_setup.proofs.Numbers.{numbered}
+use Rattle.fab_reply.proofs.Watching.{can_be_seen}
 use Rattle.fab_reply.proofs.answers.replayed.Goals as goal
+
+pub set_of-requires-clause-seen : goal.set_of-requires-clause-seen
+set_of-requires-clause-seen g c =
+    let p = rw c.in-Bundle.is at c.in_ok-program.ensures in
+    can_be_seen c.args.start.now c.in-Bundle.program (within c.requires.front.is) p.0 p.1
+
+pub set_of-requires-clause-numbers : goal.set_of-requires-clause-numbers
+set_of-requires-clause-numbers g c =
+    let p = rw c.in-Bundle.is at c.in_ok-program.ensures in
+    subst (λ (r : Resolved). HasNumbers r) (sym p.1) (numbered c.args.start.now (within c.requires.front.is))
+
+pub set_of-requires-in-Mislabelled-clause-seen : goal.set_of-requires-in-Mislabelled-clause-seen
+set_of-requires-in-Mislabelled-clause-seen g c =
+    let p = rw c.in-Mislabelled.is at c.in_ok-program.ensures in
+    can_be_seen c.args.start.now c.in-Mislabelled.resolved (within c.requires.front.is) p.0 p.1
+
+pub set_of-requires-in-Mislabelled-clause-numbers : goal.set_of-requires-in-Mislabelled-clause-numbers
+set_of-requires-in-Mislabelled-clause-numbers g c =
+    let p = rw c.in-Mislabelled.is at c.in_ok-program.ensures in
+    subst (λ (r : Resolved). HasNumbers r) (sym p.1) (numbered c.args.start.now (within c.requires.front.is))
 
 pub accept-requires : goal.accept-requires
 accept-requires g c = within c.requires.front.is

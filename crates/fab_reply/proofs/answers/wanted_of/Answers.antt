@@ -1,6 +1,13 @@
 use Rattle.fab_replay.proofs.Viewing.{if_ok_weaker}
 use Rattle.fab_reply.proofs.Watching.{can_be_seen, ready_trust, ready_view}
+use Rattle.std.proofs.Common.{subst}
+use Rattle.fab_front.specs.Refused.{AsksLabels}
+use Rattle.fab_reply.proofs.Wishes.{asks_labels}
 use Rattle.fab_reply.proofs.answers.wanted_of.Goals as goal
+
+pub told_of-requires-clause-named : goal.told_of-requires-clause-named
+told_of-requires-clause-named c =
+    subst (λ k. AsksLabels k c.args.start.now) c.in-Run.is (asks_labels c.args.start.now c.args.command.now c.args.set c.requires.runs c.requires.set)
 
 pub view_into-requires : goal.view_into-requires
 view_into-requires c =
