@@ -50,17 +50,19 @@ Owned-send S V K P g s = search (sendable, crosses, Shared.the_send, Lease-send,
 pub Owned-sync : (S V K P : RattleType) (g : TableRule.Ghosts P.Denot S.Denot V.Denot K.Denot) → IsSend S → IsSync (Owned.the_row S V K P Heap.the_row g ghosts)
 Owned-sync S V K P g s = search (sendable, crosses, Shared.the_sync, Lease-sync, sync) depth 30 fits 5000
 
-pub Factory-send : (T V P : RattleType) (g : Protocol.Ghosts P.Denot T.Denot V.Denot) → IsSync T → IsSend (Factory.the_row T V P Heap.the_row g ghosts)
-Factory-send T V P g y = search (sendable, crosses, Owned-send, Owned-sync, Part.the_send) depth 30 fits 5000
-
 pub Factory-field-send : (T V P : RattleType) (g : Protocol.Ghosts P.Denot T.Denot V.Denot) → IsSync T → IsSend (Factory.the_field T V P Heap.the_row g ghosts).row
 Factory-field-send T V P g y = search (sendable, crosses, Owned-send, Owned-sync, Part.the_send) depth 30 fits 5000
-
-pub Reader-send : (T V P : RattleType) (g : Protocol.Ghosts P.Denot T.Denot V.Denot) → IsSync T → IsSend (Reader.the_row T V P Heap.the_row g ghosts)
-Reader-send T V P g y = search (sendable, crosses, Factory-field-send, Seat.the_send, Part.the_send) depth 30 fits 5000
 
 pub Reader-field-send : (T V P : RattleType) (g : Protocol.Ghosts P.Denot T.Denot V.Denot) → IsSync T → IsSend (Reader.the_field T V P Heap.the_row g ghosts).row
 Reader-field-send T V P g y = search (sendable, crosses, Factory-field-send, Seat.the_send, Part.the_send) depth 30 fits 5000
 
+pub Desk-field-send : (T V P : RattleType) (g : Protocol.Ghosts P.Denot T.Denot V.Denot) → IsSend T → IsSync T → IsSend (Desk.the_field T V P Heap.the_row g ghosts).row
+Desk-field-send T V P g s y = search (sendable, crosses, Factory-field-send, Seat.the_send, Part.the_send, Deed-send) depth 30 fits 5000
+
+-- ---- the two ends
+
 pub SnapReader-send : IsSend SnapReader.the_row
-SnapReader-send = search (sendable, crosses, Reader-send, Reader-field-send, Snap-sync) depth 30 fits 5000
+SnapReader-send = search (sendable, crosses, Reader-field-send, Snap-sync) depth 30 fits 5000
+
+pub SnapWriter-send : IsSend SnapWriter.the_row
+SnapWriter-send = search (sendable, crosses, Desk-field-send, Change-send, WriteSet.the_send, Snap-send, Snap-sync) depth 30 fits 5000
