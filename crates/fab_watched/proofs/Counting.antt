@@ -1,5 +1,5 @@
 -- Counts that are those of who reads beside a run.
-use Rattle.std.proofs.Common.{◌≡◌, ℕ, zero, suc, ◌≤◌, ◌+◌, List, [], ◌∷◌, ◌++◌, length, map, replicate, Some, refl, sym, ap, ◌∙◌, subst, arith}
+use Rattle.std.proofs.Common.{◌≡◌, ℕ, zero, suc, ◌≤◌, ◌<◌, List, [], ◌∷◌, ◌++◌, length, map, replicate, Some, refl, sym, ap, ◌∙◌, subst, arith}
 use Rattle.std.specs.Prelude.{slice_get}
 use Rattle.std.specs.List.{AllByRecursion}
 use Rattle.fab_net.specs.declared.note.Commit.{Commit}
@@ -20,6 +20,9 @@ rises last k ks rest all is up h fall least =
 pub risen : (last : ℕ) (rest all : List ℕ) → length rest ≡ 0 → (NeverFall rest → AllByRecursion (λ j. last ≤ j) rest → NeverFall all) → NeverFall all
 risen last [] all none h = h tt tt
 risen last (k ∷ ks) all none h = absurd (omega (arith, none))
+
+pub falls_not : (last k : ℕ) (ks rest : List ℕ) → rest ≡ k ∷ ks → k < last → AllByRecursion (λ j. last ≤ j) rest → ⊥
+falls_not last k ks rest is less all = let first = (subst (AllByRecursion (λ j. last ≤ j)) is all).0 in omega (arith, less, first)
 
 long : (ks : List ℕ) (k : ℕ) → length (ks ++ k ∷ []) ≡ suc (length ks)
 long [] k = refl

@@ -1,9 +1,9 @@
 //! Where the commits of a run lie until the follower fetches them.
 
-use fab_base::NoMemory;
 use fab_net::{Commit, Logged};
 use fab_serial::commits;
 use std::alloc::Global;
+use std::mem;
 use std::sync::{Mutex, Wait};
 use std::thread::Parker;
 use std::time::Duration;
@@ -26,12 +26,6 @@ pub(crate) struct Board {
     bell: Parker,
 }
 
-/// Puts the commits of these events behind the others: all of them, or none.
-fn put(alloc: Global, news: &mut News, log: &[Logged]) -> Result<(), NoMemory> {
-    let mut more = commits(alloc, log)?.into_vec();
-    news.commits.append(&mut more)
-}
-
 impl Board {
     pub(crate) fn new(alloc: Global) -> Board {
         Board {
@@ -43,11 +37,17 @@ impl Board {
         }
     }
 
-    /// Leaves the commits of these events, unless the follower is at the board or memory runs out. Whether they were left. It waits for
-    /// nobody.
+    /// Leaves the commits of these events, unless the follower is at the board or memory runs out: all of them, or none. Whether they were
+    /// left. It waits for nobody, and wakes the follower where there was a commit.
     pub(crate) fn tell(&self, alloc: Global, log: &[Logged]) -> bool {
+        let Ok(news) = commits(alloc, log) else {
+            return false;
+        };
+        if news.is_empty() {
+            return true;
+        }
         let is_told = match self.news.try_lock() {
-            Some(mut news) => put(alloc, &mut news, log).is_ok(),
+            Some(mut board) => board.commits.append(&mut news.into_vec()).is_ok(),
             None => false,
         };
         if is_told {
@@ -56,20 +56,23 @@ impl Board {
         is_told
     }
 
-    /// Leaves the last commits, and says that no more will come.
+    /// Leaves the commits of the last events, as far as there is memory, and says that no more will come.
     pub(crate) fn close<R: Wait>(&self, rt: &R, alloc: Global, log: &[Logged]) {
-        let mut news = self.news.lock(rt);
-        let _ = put(alloc, &mut news, log);
-        news.is_closed = true;
-        drop(news);
+        let last = commits(alloc, log);
+        let mut board = self.news.lock(rt);
+        if let Ok(news) = last {
+            let _ = board.commits.append(&mut news.into_vec());
+        }
+        board.is_closed = true;
+        drop(board);
         self.bell.unpark();
     }
 
     /// The commits that came since the last call, and whether no more will come.
     pub(crate) fn fetch<R: Wait>(&self, rt: &R, alloc: Global) -> (Vec<Commit>, bool) {
-        let mut news = self.news.lock(rt);
-        let fetched = std::mem::replace(&mut news.commits, Vec::new(alloc));
-        (fetched, news.is_closed)
+        let mut board = self.news.lock(rt);
+        let fetched = mem::replace(&mut board.commits, Vec::new(alloc));
+        (fetched, board.is_closed)
     }
 
     /// The follower sleeps until the bell rings, or for a second. It may return early.

@@ -1,5 +1,5 @@
 //! Of how many commits each read saw the state.
-ghost use Rattle.std.specs.Prelude.{◌≡◌, ◌++◌, ◌∷◌, [], suc, true, map, replicate, length, IfOk};
+ghost use Rattle.std.specs.Prelude.{◌≡◌, ◌++◌, ◌∷◌, [], suc, false, true, map, replicate, length, IfOk};
 ghost use Rattle.fab_reads.specs.Reads.{AreCounts, NeverFall};
 
 use crate::reader::Seen;
@@ -11,7 +11,8 @@ use std::alloc::{AllocError, Global};
 
 /// Whether numbers never fall.
 fn never_fall(counts: &[u32]) -> bool
-    ensures { result ≡ true → NeverFall counts.now }
+    ensures yes { result ≡ true → NeverFall counts.now }
+    ensures no { result ≡ false → NeverFall counts.now → ⊥ }
 {
     let mut last = 0;
     let mut rest = counts;
@@ -66,7 +67,7 @@ fn is_as_seen(rows: &[Seq<Value>], seen: &[Seen]) -> bool {
 
 /// The counts of the reads beside a run of these commits: those that were seen, where none fell and each read saw the object as it is behind
 /// so many commits; else every read is taken as one behind the run. So whoever makes the lines anew from the commits writes what was read.
-pub fn counts_of(
+pub(crate) fn counts_of(
     alloc: Global,
     program: &Resolved,
     reading: Reading,

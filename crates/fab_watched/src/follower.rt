@@ -1,5 +1,6 @@
 //! Who follows a run: it publishes what each commit leaves.
-ghost use Rattle.std.specs.Prelude.{◌≡◌, [], false, IfOk};
+ghost use Rattle.std.specs.Prelude.{◌≡◌, map, IfOk};
+ghost use Rattle.fab_protocol.specs.Versions.{risen, version_of};
 
 use crate::board::Board;
 use fab_base::{NoMemory, Object, Oid, Seq};
@@ -8,7 +9,7 @@ use fab_net::Commit;
 use fab_serial::left_by;
 use fab_snap::{SnapReader, SnapWriter, WriteSet, snap_writer};
 use fab_tree::resolved::Resolved;
-use fab_versions::Table;
+use fab_versions::{Table, next_version};
 use std::alloc::{AllocError, Global};
 use std::sync::Wait;
 
@@ -21,19 +22,31 @@ pub(crate) struct Follower<'a> {
     writer: SnapWriter,
 }
 
-/// The version of an object that a commit leaves: the one behind that which the commit's answers have of it, or the first.
-fn version_left(answers: &[(Oid, u32, Object)], oid: Oid) -> u32 {
-    match answers.iter().find(|row| row.0 == oid) {
-        Some(row) => row.1.saturating_add(1),
-        None => 1,
+/// The version of an object in a commit's answers; 0 where it isn't among them.
+fn version_in(answers: &[(Oid, u32, Object)], oid: Oid) -> u32
+    ensures { result ≡ version_of answers.now oid }
+{
+    let mut rest = answers;
+    while let Some((row, after)) = rest.split_first() {
+        if row.0 == oid {
+            return row.1;
+        }
+        rest = after;
     }
+    0
 }
 
-/// What a commit leaves, with versions.
-fn write_set_of(alloc: Global, left: &ObjectMap, commit: &Commit) -> Result<WriteSet, NoMemory> {
+/// What a commit leaves, each in the version behind that which the commit's answers have of it, or in the first.
+fn write_set_of(
+    alloc: Global,
+    left: &[(Oid, Object)],
+    answers: &[(Oid, u32, Object)],
+) -> Result<WriteSet, NoMemory>
+    ensures { IfOk result (λ writes. writes.leaves ≡ map (λ row. (row.0, risen (version_of answers.now row.0), row.1)) left.now) }
+{
     let mut leaves = Seq::new(alloc);
-    for row in left.rows() {
-        let version = version_left(commit.answers.as_slice(), row.0);
+    for row in left {
+        let version = next_version(version_in(answers, row.0));
         leaves.push((row.0, version, row.1.copy(alloc)?))?;
     }
     Ok(WriteSet { leaves })
@@ -83,7 +96,7 @@ impl<'a> Follower<'a> {
             return Err(AllocError);
         }
         let left = left_by(self.alloc, self.program, self.classes, &self.map, commit)?;
-        let writes = write_set_of(self.alloc, &left, commit)?;
+        let writes = write_set_of(self.alloc, left.rows(), commit.answers.as_slice())?;
         self.writer.add(rt, &writes)?;
         for (oid, object) in left.into_rows() {
             self.map.put(oid, object)?;

@@ -13,5 +13,4 @@ mod reader;
 mod running;
 mod watched;
 
-pub use counts::counts_of;
 pub use running::run_watched;

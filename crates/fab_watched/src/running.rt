@@ -48,20 +48,56 @@ fn run_told<J: Journal + Drop + Send, R: Threads + Wait + Sync, G: Gate + Sync>(
     }
 }
 
-/// The follower, its reader, and room for what that sees.
-fn begun<'a, R: Wait>(
+/// Who goes beside a run: the follower, and its reader with room for what that sees. A follower isn't `Drop`.
+struct Company<'a> {
+    follower: Follower<'a>,
+    reader: SnapReader,
+    room: Vec<Seen>,
+}
+
+fn company_of<'a, R: Wait>(
     rt: &R,
     alloc: Global,
     program: &'a Resolved,
     reading: Reading,
-) -> Result<(Follower<'a>, SnapReader, Vec<Seen>), NoMemory> {
+) -> Result<Company<'a>, NoMemory> {
     let room = room_for(alloc, reading.times)?;
     let map = at_start(alloc, program, reading.classes)?;
     let (follower, reader) = follower_of(rt, alloc, program, reading.classes, map)?;
-    Ok((follower, reader, room))
+    Ok(Company {
+        follower,
+        reader,
+        room,
+    })
 }
 
-/// The run, and what was seen beside it. A follower for which there is no thread follows behind the run, and a reader reads there.
+/// The run, and what was read beside it. A reader for which there is no thread reads behind the run.
+fn run_read<J: Journal + Drop + Send, R: Threads + Wait + Sync, G: Gate + Sync>(
+    rt: &R,
+    alloc: Global,
+    exchange: Exchange<J>,
+    nodes: &[u16],
+    gate: &G,
+    reading: Reading,
+    reader: SnapReader,
+    room: Vec<Seen>,
+    board: &Board,
+) -> (Vec<Seen>, Result<Exchange<J>, Exchange<J>>)
+    requires { exchange.moves ≡ [] }
+    ensures given { IfOk result.1 (λ x. x.given ≡ exchange.given) }
+    ensures sure { IfOk result.1 (λ x. AreAsSure exchange.journals x.journals) }
+    ensures over { IfOk result.1 (λ x. AreOver x.given x.moves) }
+    ensures back_given { IfErr result.1 (λ back. back.given ≡ exchange.given) }
+    ensures back_sure { IfErr result.1 (λ back. AreAsSure exchange.journals back.journals) }
+{
+    thread::join(
+        rt,
+        move || read_all(gate, reader, reading, room),
+        move || run_told(rt, alloc, exchange, nodes, gate, board),
+    )
+}
+
+/// The run, with its company. A follower for which there is no thread follows behind the run.
 fn run_beside<J: Journal + Drop + Send, R: Threads + Wait + Sync, G: Gate + Sync>(
     rt: &R,
     alloc: Global,
@@ -69,29 +105,32 @@ fn run_beside<J: Journal + Drop + Send, R: Threads + Wait + Sync, G: Gate + Sync
     nodes: &[u16],
     gate: &G,
     reading: Reading,
-    (follower, reader, room): (Follower<'_>, SnapReader, Vec<Seen>),
-) -> (Result<Exchange<J>, Exchange<J>>, Vec<Seen>)
+    company: Company<'_>,
+) -> (Vec<Seen>, Result<Exchange<J>, Exchange<J>>)
     requires { exchange.moves ≡ [] }
-    ensures given { IfOk result.0 (λ x. x.given ≡ exchange.given) }
-    ensures sure { IfOk result.0 (λ x. AreAsSure exchange.journals x.journals) }
-    ensures over { IfOk result.0 (λ x. AreOver x.given x.moves) }
-    ensures back_given { IfErr result.0 (λ back. back.given ≡ exchange.given) }
-    ensures back_sure { IfErr result.0 (λ back. AreAsSure exchange.journals back.journals) }
+    ensures given { IfOk result.1 (λ x. x.given ≡ exchange.given) }
+    ensures sure { IfOk result.1 (λ x. AreAsSure exchange.journals x.journals) }
+    ensures over { IfOk result.1 (λ x. AreOver x.given x.moves) }
+    ensures back_given { IfErr result.1 (λ back. back.given ≡ exchange.given) }
+    ensures back_sure { IfErr result.1 (λ back. AreAsSure exchange.journals back.journals) }
 {
+    let Company {
+        follower,
+        reader,
+        room,
+    } = company;
     let board = Board::new(alloc);
     let told = &board;
-    let ((), (seen, run)) = thread::join(
+    let ((), run) = thread::join(
         rt,
         move || follower.follow(rt, told),
         move || {
-            thread::join(
-                rt,
-                move || read_all(gate, reader, reading, room),
-                move || run_told(rt, alloc, exchange, nodes, gate, told),
+            run_read(
+                rt, alloc, exchange, nodes, gate, reading, reader, room, told,
             )
         },
     );
-    (run, seen)
+    run
 }
 
 /// The counts of what was seen beside a run, checked against its commits.
@@ -129,10 +168,10 @@ pub fn run_watched<J: Journal + Drop + Send, R: Threads + Wait + Sync, G: Gate +
     let Ok(program) = exchange.core().start().clone() else {
         return Err(exchange);
     };
-    let Ok(beside) = begun(rt, alloc, &program, reading) else {
+    let Ok(company) = company_of(rt, alloc, &program, reading) else {
         return Err(exchange);
     };
-    let (run, seen) = run_beside(rt, alloc, exchange, nodes, gate, reading, beside);
+    let (seen, run) = run_beside(rt, alloc, exchange, nodes, gate, reading, company);
     let exchange = match run {
         Ok(exchange) => exchange,
         Err(back) => return Err(back),

@@ -36,16 +36,15 @@ impl<'a, J: Journal + Drop> Watched<'a, J> {
         }
     }
 
-    /// Tells of the events that came since it last did.
+    /// Tells of the events that came since it last did; where that doesn't go, it is made up for later.
     fn tell(&mut self)
         ensures { self.new.exchange ≡ self.old.exchange }
     {
         let log = self.exchange.core().log();
-        let Some(news) = log.get(self.told..) else {
-            return;
-        };
+        let many = log.len();
+        let news = log.get(self.told..).unwrap_or(&[]);
         if self.board.tell(self.alloc, news) {
-            self.told = log.len();
+            self.told = many;
         }
     }
 
@@ -59,8 +58,8 @@ impl<'a, J: Journal + Drop> Watched<'a, J> {
             board,
             told,
         } = self;
-        let news = exchange.core().log().get(told..);
-        board.close(rt, alloc, news.unwrap_or(&[]));
+        let news = exchange.core().log().get(told..).unwrap_or(&[]);
+        board.close(rt, alloc, news);
         exchange
     }
 }
@@ -84,17 +83,13 @@ impl<'a, J: Journal + Drop> Turning for Watched<'a, J> {
 
     fn next(&mut self, node: u16) -> Result<Turn, NoMemory> {
         let turn = Turning::next(&mut self.exchange, node);
-        if let Ok(Turn::Acted) = &turn {
-            self.tell();
-        }
+        self.tell();
         turn
     }
 
     fn give(&mut self, node: u16, done: &Done) -> Result<Given, NoMemory> {
         let given = Turning::give(&mut self.exchange, node, done);
-        if let Ok(Given::Taken) = &given {
-            self.tell();
-        }
+        self.tell();
         given
     }
 

@@ -3,9 +3,12 @@ use Rattle.std.specs.List.{AllByRecursion}
 use Rattle.fab_reads.specs.Reads.{NeverFall}
 use Rattle.fab_watched.proofs.counts.never_fall.Given as goal
 
--- where those that are left never fall and none is less than the last one, none of all falls
+-- none of all falls exactly where none of those that are left does, and none of these is less than the last one
 abbrev pub invariant-loop-count : goal.invariant-loop-count
-invariant-loop-count l = NeverFall l.rest → AllByRecursion (λ count. l.last ≤ count) l.rest → NeverFall l.counts
+invariant-loop-count l = record {
+  back : NeverFall l.rest → AllByRecursion (λ count. l.last ≤ count) l.rest → NeverFall l.counts;
+  on : NeverFall l.counts → NeverFall l.rest × AllByRecursion (λ count. l.last ≤ count) l.rest;
+}
 
 abbrev pub decreases-loop-count : goal.decreases-loop-count
 decreases-loop-count l = length l.rest
