@@ -144,7 +144,7 @@ fn wrong_reads(reader: &mut SnapReader, times: u32) -> u32 {
                 } else {
                     count
                 };
-                let agrees = amount as u32 == wanted && count >= last;
+                let agrees = i64::from(amount) == i64::from(wanted) && count >= last;
                 wrong = wrong.wrapping_add(!agrees as u32);
                 last = count;
             }
