@@ -82,10 +82,11 @@ transfers("transfers-99960-recovered.fab", 7_140, RECOVERED)
 # ---- many workers in turn make 256 objects a request at one store: a new name goes into the midst of the others
 
 
-def made(name, workers, requests, end=""):
+def made(name, workers, requests, end="", roots=0):
     names = [f"w{i}" for i in range(workers)]
     text = "principal Bank;" + "".join(f"worker {x};" for x in names) + "store s1;" + "".join(f"{x} actsfor Bank;" for x in [*names, "s1"])
     text += "label T={Bank->;Bank<-};class Node label T access T{int v;}method make(int n:T)begin T{int i:T=0;Node c:T=null;while(i<n){c=new Node@s1(i);i=i+1;}}run{"
+    text += "".join(f"root r{i}:Node@s1({i});" for i in range(roots))
     counts = [len(range(j, requests, workers)) for j in range(workers)]
     text += "".join(f"session {x}{{" + "make(256);" * count + "}" for x, count in zip(names, counts))
     one = "begin W;resume W;deliver W s1;deliver s1 W;deliver W s1;"
@@ -95,8 +96,10 @@ def made(name, workers, requests, end=""):
 made("made-100096.fab", 31, 391)
 made("made-50176.fab", 31, 196)
 made("made-one-worker.fab", 1, 391)
+made("made-before-roots.fab", 1, 391, roots=1_000)
 made("made-100096-recovered.fab", 31, 391, RECOVERED)
 made("made-one-worker-recovered.fab", 1, 391, RECOVERED)
+made("made-before-roots-recovered.fab", 1, 391, RECOVERED, 1_000)
 
 # ---- transactions of a hostile worker that stay prepared, each reads so many objects that nobody writes
 

@@ -1,14 +1,9 @@
 -- From the run of a request to what it means.
-use Rattle.std.proofs.Common.{◌≡◌, Bool, true, false, ◌||◌, if◌then◌else◌, List, [], ◌∷◌, ◌++◌, Option, Some, None, Result, Ok, Err, IfOk, refl, sym, ap, ◌∙◌, subst}
+use Rattle.std.proofs.Common.{◌≡◌, Bool, true, false, ◌||◌, if◌then◌else◌, List, [], ◌∷◌, Some, None, Ok, Err, refl, sym, ap, ◌∙◌, subst}
 use Rattle.std.specs.Prelude.{filter, slice_get}
-use Rattle.std.specs.declared.alloc.AllocError.{AllocError}
-use Rattle.std.proofs.lemmas.List.Concat.{flat_map-cons}
-use Rattle.std.proofs.lemmas.List.Folds.{list_any-append}
-use Rattle.fab_base.specs.declared.object.Object.{Object}
 use Rattle.fab_base.specs.declared.object.Oid.{Oid}
 use Rattle.fab_base.specs.declared.object.Tid.{Tid}
-use Rattle.fab_base.specs.FlatMap.{FlatMap, ascends, get, is_among, is_same, put, put_all}
-use Rattle.fab_base.proofs.NameOrder.{one_name}
+use Rattle.fab_base.specs.FlatMap.{FlatMap, ascends, get, is_among, put_all}
 use Rattle.fab_map.proofs.Made.{distinct_from_ascends, first_of, get-put_all}
 use Rattle.fab_map.proofs.Rows.{ascends-put_all, same_from_get}
 use Rattle.fab_tree.specs.declared.resolved.Method.{Method}
@@ -49,7 +44,7 @@ module _ (program : Resolved) (known : FlatMap) (request : Request) (up : ascend
   changes : OnlyChanges known done
   changes = (leaves known program (tid_of request) request 1000000).changes
 
-  was_changed : Oid → Bool
+  abbrev was_changed : Oid → Bool
   was_changed o = is_among o done.made || is_among o done.written
 
   changes_make : put_all (filter (λ row. was_changed row.0) done.map) known ≡ done.map

@@ -2,6 +2,7 @@ pub mod Bounds
 pub mod DeclaredLocals
 pub mod FirstLemmas
 pub mod InTurn
+pub mod RootsByNumber
 pub mod SitedInOrder
 pub mod SitesInOrder
 pub mod SitesTaken

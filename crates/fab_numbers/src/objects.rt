@@ -56,12 +56,8 @@ fn oid(tables: &Tables<'_>, number: u32, root: &Root) -> Oid
     }
 }
 
-/// What fields begin with, or what a request is given.
-pub(crate) fn values(
-    alloc: Global,
-    tables: &Tables<'_>,
-    given: &[Given],
-) -> Result<Vec<Value>, NoMemory>
+/// What fields begin with.
+fn values(alloc: Global, tables: &Tables<'_>, given: &[Given]) -> Result<Vec<Value>, NoMemory>
     ensures { IfOk result (λ v. v.items ≡ values_of tables.now given.now) }
 {
     given
@@ -77,6 +73,37 @@ fn value(tables: &Tables<'_>, literal: &Literal) -> Value
         Literal::Number(number) => number.value(),
         Literal::Null => Value::Null,
         Literal::Root(name) => reference(tables, name),
+    }
+}
+
+/// What a request is given, over the roots with numbers for names: of a root it costs one look-up.
+pub(crate) fn arguments(
+    alloc: Global,
+    tables: &Tables<'_>,
+    roots: &[NumberedRoot],
+    given: &[Given],
+) -> Result<Vec<Value>, NoMemory>
+    requires { roots.now ≡ roots_from tables.now 0 tables.now.roots }
+    ensures { IfOk result (λ v. v.items ≡ values_of tables.now given.now) }
+{
+    let mut values = Vec::with_capacity(alloc, given.len())?;
+    for one in given {
+        values.push(argument(tables, roots, &one.literal))?;
+    }
+    Ok(values)
+}
+
+fn argument(tables: &Tables<'_>, roots: &[NumberedRoot], literal: &Literal) -> Value
+    requires { roots.now ≡ roots_from tables.now 0 tables.now.roots }
+    ensures { result ≡ value_of tables.now literal.now }
+{
+    match literal {
+        Literal::Number(number) => number.value(),
+        Literal::Null => Value::Null,
+        Literal::Root(name) => match roots.get(tables.root_number(name) as usize) {
+            Some(root) => Value::Ref(root.oid),
+            None => Value::Null,
+        },
     }
 }
 

@@ -23,14 +23,16 @@ pub fn numbered(alloc: Global, tables: &Tables<'_>) -> Result<Resolved, NoMemory
 {
     let start = tables.start();
     let program = &start.program;
+    let roots = numbered_roots(alloc, tables, start.roots.as_slice())?;
+    let sessions = numbered_sessions(alloc, tables, roots.as_slice(), start.sessions.as_slice())?;
     Ok(Resolved {
         nodes: principals(alloc, program.nodes.as_slice())?,
         pairs: each_numbered(alloc, tables, program.delegations.as_slice())?,
         labels: each_numbered(alloc, tables, program.labels.as_slice())?,
         classes: each_numbered(alloc, tables, program.classes.as_slice())?,
         methods: numbered_methods(alloc, tables, program.methods.as_slice())?,
-        roots: numbered_roots(alloc, tables, start.roots.as_slice())?,
-        sessions: numbered_sessions(alloc, tables, start.sessions.as_slice())?,
+        roots,
+        sessions,
         posts: each_numbered(alloc, tables, start.posts.as_slice())?,
         crashes: each_numbered(alloc, tables, start.crashes.as_slice())?,
         cache: start.cache,
