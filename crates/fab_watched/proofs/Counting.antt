@@ -1,10 +1,18 @@
 -- Counts that are those of who reads beside a run.
-use Rattle.std.proofs.Common.{◌≡◌, ℕ, zero, suc, ◌≤◌, ◌<◌, List, [], ◌∷◌, ◌++◌, length, map, replicate, Some, refl, sym, ap, ◌∙◌, subst, arith}
+use Rattle.std.proofs.Common.{◌≡◌, ℕ, zero, suc, ◌≤◌, ◌<◌, ◌+◌, List, [], ◌∷◌, ◌++◌, length, map, take, get_or, replicate, Some, Result, Ok, Err, IfOk, refl, sym, ap, ◌∙◌, subst, arith}
 use Rattle.std.specs.Prelude.{slice_get}
 use Rattle.std.specs.List.{AllByRecursion}
 use Rattle.fab_net.specs.declared.note.Commit.{Commit}
 use Rattle.fab_reads.specs.Reads.{AreCounts, NeverFall}
 use Rattle.fab_reads.proofs.Walking.{at_least}
+
+-- ---- walks
+
+-- what is made of one element more
+pub one_taken : {A B : Type 0} (f : A → B) (xs : List A) (i : ℕ) (x : A) → i < length xs → x ≡ get_or xs i x → map f (take (suc i) xs) ≡ map f (take i xs) ++ f x ∷ []
+one_taken f [] i x h is = absurd (omega (arith, h))
+one_taken f (y ∷ ys) zero x h is = ap (λ z. f z ∷ []) (sym is)
+one_taken f (y ∷ ys) (suc i) x h is = ap (λ l. f y ∷ l) (one_taken f ys i x (omega (arith, h)) is)
 
 -- ---- those that were seen
 
@@ -48,10 +56,6 @@ seen_counts f times all seen counts commits many is whole rising =
 
 -- ---- the same number so many times
 
-pub once_more : (n k : ℕ) → replicate n k ++ k ∷ [] ≡ replicate (suc n) k
-once_more zero k = refl
-once_more (suc n) k = ap (λ l. k ∷ l) (once_more n k)
-
 long_same : (n k : ℕ) → length (replicate n k) ≡ n
 long_same zero k = refl
 long_same (suc n) k = ap suc (long_same n k)
@@ -74,3 +78,11 @@ behind_all times all counts commits is whole = record {
   rising = subst NeverFall (sym is) (same_rising (suc times) all);
   whole = ap (λ l. slice_get l times) is ∙ same_last times all ∙ ap Some whole;
 }
+
+pub behind : {E : Type 0} (result : Result (List ℕ) E) (times all : ℕ) (commits : List Commit) → all ≡ length commits
+    → IfOk result (λ counts. counts ≡ replicate (times + 1) all) → IfOk result (AreCounts times commits)
+behind (Ok counts) times all commits whole is = behind_all times all counts commits (is ∙ ap (λ n. replicate n all) (next times)) whole
+  where
+    next : (n : ℕ) → n + 1 ≡ suc n
+    next n = omega arith
+behind (Err e) times all commits whole is = tt

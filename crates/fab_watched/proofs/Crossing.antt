@@ -1,4 +1,5 @@
 -- Who goes beside a run may go to another thread, and so may an exchange of which a follower is told.
+use denote.Ref.{NamedLft}
 use denote.RattleType.{RattleType}
 use denote.Param.Send.{IsSend, IsSync, sendable}
 use Rattle.std.proofs.Crossing.{crosses}
@@ -11,5 +12,8 @@ use Rattle.fab_watched.proofs.board.Board.TheSendSync as Board
 use Rattle.fab_watched.specs.contracts.follower.Follower as Follower
 use Rattle.fab_watched.specs.contracts.watched.Watched as Watched
 
-pub see : Unit {0}
-see = let w = Watched.the_row in let f = Follower.the_row in let b = Board.the_sync in ?
+pub Follower-send : (κ : NamedLft) → IsSend (Follower.the_row κ)
+Follower-send κ = search (sendable, crosses, Resolved-sync, ObjectMap.the_send, SnapWriter-send) depth 30 fits 5000
+
+pub Watched-send : (κ : NamedLft) (J : RattleType) (g : Journal.Ghosts J.Denot) → IsSend J → IsSend (Watched.the_row κ J g)
+Watched-send κ J g s = search (sendable, crosses, Exchange-send, Board.the_sync) depth 30 fits 5000

@@ -1,5 +1,5 @@
 //! Of how many commits each read saw the state.
-ghost use Rattle.std.specs.Prelude.{◌≡◌, ◌++◌, ◌∷◌, [], suc, false, true, map, replicate, length, IfOk};
+ghost use Rattle.std.specs.Prelude.{◌≡◌, ◌+◌, ◌++◌, ◌∷◌, [], false, true, map, replicate, length, IfOk};
 ghost use Rattle.fab_reads.specs.Reads.{AreCounts, NeverFall};
 
 use crate::reader::Seen;
@@ -40,14 +40,13 @@ fn counts_seen(alloc: Global, seen: &[Seen], all: u32) -> Result<Seq<u32>, NoMem
 
 /// The counts where each read comes behind the run.
 fn all_behind(alloc: Global, times: u32, all: u32) -> Result<Seq<u32>, NoMemory>
-    ensures { IfOk result (λ counts. counts ≡ replicate (suc times) all) }
+    ensures { IfOk result (λ counts. counts ≡ replicate (times + 1) all) }
 {
-    let mut counts = Seq::new(alloc);
-    for _read in 0..times {
+    let mut counts = Vec::new(alloc);
+    'reads: while counts.len() < times as usize + 1 {
         counts.push(all)?;
     }
-    counts.push(all)?;
-    Ok(counts)
+    Ok(Seq::from_vec(counts))
 }
 
 /// The values of an object that was seen; none where there was none.

@@ -112,24 +112,27 @@ impl<'a> Follower<'a> {
         Ok(())
     }
 
-    /// Publishes what comes on the board, until no more will come or memory runs out: then the last state that was published stays to be
-    /// read. In the end it waits for those who read.
-    pub(crate) fn follow<R: Wait>(self, rt: &R, board: &Board) {
-        let mut follower = self;
+    /// Publishes what comes on the board, until no more will come or memory runs out. What was published last stays to be read until the
+    /// follower is closed.
+    pub(crate) fn follow<R: Wait>(&mut self, rt: &R, board: &Board) {
         for _ in rt.forever() {
-            let (commits, is_closed) = board.fetch(rt, follower.alloc);
-            if follower.add_all(rt, commits.as_slice()).is_err() || is_closed {
+            let (commits, is_closed) = board.fetch(rt, self.alloc);
+            if self.add_all(rt, commits.as_slice()).is_err() || is_closed {
                 break;
             }
             board.sleep(rt);
         }
-        follower.close(rt);
     }
 
-    /// Ends what it publishes.
+    /// Ends what it publishes: who reads from then on sees nothing.
     pub(crate) fn close<R: Wait>(self, rt: &R) {
-        let Follower { writer, map, .. } = self;
-        drop(map);
+        let Follower {
+            writer,
+            map: _map,
+            alloc: _,
+            program: _,
+            classes: _,
+        } = self;
         writer.close(rt);
     }
 }

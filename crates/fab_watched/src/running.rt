@@ -93,11 +93,13 @@ fn run_read<J: Journal + Drop + Send, R: Threads + Wait + Sync, G: Gate + Sync>(
     thread::join(
         rt,
         move || read_all(gate, reader, reading, room),
-        move || run_told(rt, alloc, exchange, nodes, gate, board),
+        move ||
+            requires { exchange.moves ≡ [] }
+        { run_told(rt, alloc, exchange, nodes, gate, board) },
     )
 }
 
-/// The run, with its company. A follower for which there is no thread follows behind the run.
+/// The run, with its company. A follower for which there is no thread follows behind the run. It is closed once nobody reads.
 fn run_beside<J: Journal + Drop + Send, R: Threads + Wait + Sync, G: Gate + Sync>(
     rt: &R,
     alloc: Global,
@@ -115,7 +117,7 @@ fn run_beside<J: Journal + Drop + Send, R: Threads + Wait + Sync, G: Gate + Sync
     ensures back_sure { IfErr result.1 (λ back. AreAsSure exchange.journals back.journals) }
 {
     let Company {
-        follower,
+        mut follower,
         reader,
         room,
     } = company;
@@ -123,13 +125,16 @@ fn run_beside<J: Journal + Drop + Send, R: Threads + Wait + Sync, G: Gate + Sync
     let told = &board;
     let ((), run) = thread::join(
         rt,
-        move || follower.follow(rt, told),
-        move || {
+        || follower.follow(rt, told),
+        move ||
+            requires { exchange.moves ≡ [] }
+        {
             run_read(
                 rt, alloc, exchange, nodes, gate, reading, reader, room, told,
             )
         },
     );
+    follower.close(rt);
     run
 }
 

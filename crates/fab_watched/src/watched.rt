@@ -50,7 +50,7 @@ impl<'a, J: Journal + Drop> Watched<'a, J> {
 
     /// Tells of the last events, and that no more will come. The exchange, taken out.
     pub(crate) fn close<R: Wait>(self, rt: &R) -> Exchange<J>
-        ensures { result ≡ self.exchange }
+        ensures { result ≡ self.entry.exchange }
     {
         let Watched {
             exchange,
