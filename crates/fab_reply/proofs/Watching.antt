@@ -164,11 +164,8 @@ ready_trust s command names set program (Trusted nodes part) is of h robust v =
 -- ---- what is read beside a run
 
 module _ (s : Start) (program : Resolved) (is : program ≡ resolved s) (root : List ℕ) (times : ℕ) where
-  pub set_read : (command : Command) (reading : Reading) (set : ℕ) → command ≡ Run (telling.Reads root times) → IsReadingOf program root times reading → IsSetOf s command set
-  set_read command reading set of h = subst (λ c. IsSetOf s c set) (sym of) (reading.oid, subst (λ (r : Resolved). IsReadable r root reading.oid) is h.readable)
-
-  pub set_unread : (command : Command) → command ≡ Run (telling.Reads root times) → ((oid : Oid) → IsReadable program root oid → ⊥) → LacksName command s
-  set_unread command of none = subst (λ c. LacksName c s) (sym of) (λ k. none k.0 (subst (λ (r : Resolved). IsReadable r root k.0) (sym is) k.1))
+  pub set_unread : (x : Telling) → x ≡ telling.Reads root times → ((oid : Oid) → IsReadable program root oid → ⊥) → LacksName (Run x) s
+  set_unread x of none = subst (λ y. LacksName (Run y) s) (sym of) (λ k. none k.0 (subst (λ (r : Resolved). IsReadable r root k.0) (sym is) k.1))
 
   -- what is wanted of its runs is ready
   pub ready_read : (x : Telling) (reading : Reading) (counts : List ℕ) → x ≡ telling.Reads root times → IsReadingOf program root times reading

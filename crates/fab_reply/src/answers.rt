@@ -58,6 +58,21 @@ fn told(alloc: Global, answer: Replayed) -> Result<(Status, Seq<u8>), NoMemory>
     }
 }
 
+/// No nodes, and nothing where a root is named that may not be read.
+fn set_read(alloc: Global, program: &Resolved, telling: &Telling) -> Result<Option<u64>, NoMemory>
+    requires seen { CanBeSeen program.now }
+    requires numbers { HasNumbers program.now }
+    ensures { IfOk result (λ set. (s : AnyStart) → program.now ≡ resolved_of s → MatchOption set (LacksName (asks.Run telling.now) s) (IsSetOf s (asks.Run telling.now))) }
+{
+    match telling {
+        Telling::Reads { root, times } => match read_in(alloc, program, root, *times)? {
+            Some(_) => Ok(Some(0)),
+            None => Ok(None),
+        },
+        Telling::Report | Telling::Summary => Ok(Some(0)),
+    }
+}
+
 /// The nodes that a command names, and the hostile ones; nothing where a word names no node, or no root that may be
 /// read.
 fn set_of(alloc: Global, program: &Resolved, command: &Command) -> Result<Option<u64>, NoMemory>
@@ -75,12 +90,7 @@ fn set_of(alloc: Global, program: &Resolved, command: &Command) -> Result<Option
             Some(named) => Ok(Some(named | hostile_nodes(program))),
             None => Ok(None),
         },
-        Command::Run(Telling::Reads { root, times }) => {
-            match read_in(alloc, program, root, *times)? {
-                Some(_) => Ok(Some(0)),
-                None => Ok(None),
-            }
-        }
+        Command::Run(telling) => set_read(alloc, program, telling),
         _ => Ok(Some(0)),
     }
 }

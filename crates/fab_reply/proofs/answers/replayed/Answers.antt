@@ -43,7 +43,7 @@ returns-in-Bundle-clause-replies g c =
     let p = rw c.in-Bundle.is at c.in_ok-program.ensures in
     let n = length c.args.text.now in
     if_told (Answers (Some c.args.command.now) c.args.text.now) (status.Name Unknown n) (name_line Unknown n) c.unknown.result c.unknown.ensures
-    (one_reply (said_reply (unknown_said c.requires.front {command = c.args.command.now} (c.in-None.ensures c.args.start.now p.1) p.0)))
+    (one_reply (said_reply (unknown_said c.requires.front {command = c.args.command.now} ((rw c.in-None.is at c.in_ok-set-in-Bundle.ensures) c.args.start.now p.1) p.0)))
 
 pub returns-in-Misnamed-clause-replies : goal.returns-in-Misnamed-clause-replies
 returns-in-Misnamed-clause-replies g c =
@@ -52,21 +52,21 @@ returns-in-Misnamed-clause-replies g c =
     if_told (Answers (Some c.args.command.now) c.args.text.now) (status.Name x.rule x.at) (name_line x.rule x.at) c.refused.result c.refused.ensures
     (one_reply (said_reply (name_said c.requires.front {command = c.args.command.now} (asks_names c.args.command.now c.requires.runs) p)))
 
-pub returns-in-Some-set_of-clause-replies : goal.returns-in-Some-set_of-clause-replies
-returns-in-Some-set_of-clause-replies g c =
+pub returns-in-Some-2-clause-replies : goal.returns-in-Some-2-clause-replies
+returns-in-Some-2-clause-replies g c =
     let x = c.in-Mislabelled.refusal in
     let p = rw c.in-Mislabelled.is at c.in_ok-program.ensures in
-    let asks = asks_labels c.args.start.now c.args.command.now _ c.requires.runs (c.in-Some-set_of.ensures c.args.start.now p.1) in
+    let asks = asks_labels c.args.start.now c.args.command.now _ c.requires.runs ((rw c.in-Some-2.is at c.in_ok-set_of-in-Mislabelled.ensures) c.args.start.now p.1) in
     if_told (Answers (Some c.args.command.now) c.args.text.now) (status.Label x.rule x.at x.source x.target) (label_line (resolved c.args.start.now) x) c.mislabelled.result
     (subst (λ y. IfOk c.mislabelled.result (λ t. (t.0 ≡ status.Label x.rule x.at x.source x.target) × (t.1 ≡ label_line y x))) p.1 c.mislabelled.ensures)
     (one_reply (said_reply (label_said c.requires.front {command = c.args.command.now} asks p.0 p.2)))
 
-pub unknown-requires-in-None-set_of : goal.unknown-requires-in-None-set_of
-unknown-requires-in-None-set_of g c = short c.requires.front.is
+pub unknown-requires-in-None-2 : goal.unknown-requires-in-None-2
+unknown-requires-in-None-2 g c = short c.requires.front.is
 
 pub returns-clause-replies : goal.returns-clause-replies
 returns-clause-replies g c =
     let p = rw c.in-Mislabelled.is at c.in_ok-program.ensures in
     let n = length c.args.text.now in
-    if_told (Answers (Some c.args.command.now) c.args.text.now) (status.Name Unknown n) (name_line Unknown n) c.unknown-in-None-set_of.result c.unknown-in-None-set_of.ensures
-    (one_reply (said_reply (unknown_said c.requires.front {command = c.args.command.now} (c.in-None-set_of.ensures c.args.start.now p.1) p.0)))
+    if_told (Answers (Some c.args.command.now) c.args.text.now) (status.Name Unknown n) (name_line Unknown n) c.unknown-in-None-2.result c.unknown-in-None-2.ensures
+    (one_reply (said_reply (unknown_said c.requires.front {command = c.args.command.now} ((rw c.in-None-2.is at c.in_ok-set_of-in-Mislabelled.ensures) c.args.start.now p.1) p.0)))

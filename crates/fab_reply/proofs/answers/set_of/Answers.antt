@@ -1,6 +1,6 @@
 use Rattle.std.proofs.Common.{sym, subst, bit_or}
 use Rattle.fab_reply.specs.Replays.{IsSetOf}
-use Rattle.fab_reply.proofs.Watching.{named_set, set_read, set_unread}
+use Rattle.fab_reply.proofs.Watching.{named_set}
 use Rattle.fab_reply.proofs.answers.set_of.Goals as goal
 
 pub returns-in-Some : goal.returns-in-Some
@@ -13,13 +13,3 @@ returns-in-Some-nodes_named c s is =
     subst (λ k. IsSetOf s k (bit_or c.in-Some-nodes_named.named c.hostile_nodes-in-Some-nodes_named.result)) (sym c.in-Trust.is)
     (named_set s c.args.program.now _ c.as_slice-in-Trust.result.now c.in-Some-nodes_named.named c.hostile_nodes-in-Some-nodes_named.result is c.as_slice-in-Trust.ensures
     c.in-Some-nodes_named.ensures.names c.in-Some-nodes_named.ensures.nodes c.hostile_nodes-in-Some-nodes_named.ensures)
-
-pub returns-in-Some-read_in : goal.returns-in-Some-read_in
-returns-in-Some-read_in c s is =
-    let h = rw c.in-Some-read_in.is at c.in_ok-0.ensures in
-    set_read s c.args.program.now is _ _ c.args.command.now _ 0 c.in-Reads.is h
-
-pub returns-in-None-read_in : goal.returns-in-None-read_in
-returns-in-None-read_in c s is =
-    let h = rw c.in-None-read_in.is at c.in_ok-0.ensures in
-    set_unread s c.args.program.now is _ _ c.args.command.now c.in-Reads.is h
