@@ -2,3 +2,4 @@ pub mod Asking
 pub mod RootObjects
 pub mod Running
 pub mod Turning
+mod ChangedExamples
