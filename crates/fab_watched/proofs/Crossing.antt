@@ -1,7 +1,7 @@
 -- Who goes beside a run may go to another thread, and so may an exchange of which a follower is told.
 use denote.Ref.{NamedLft}
 use denote.RattleType.{RattleType}
-use denote.Param.Send.{IsSend, IsSync, sendable}
+use denote.Param.Send.{IsSend, sendable}
 use Rattle.std.proofs.Crossing.{crosses}
 use Rattle.fab_crossing.proofs.Crossing.{Resolved-sync}
 use Rattle.fab_device.specs.declared.traits.Journal as Journal

@@ -126,8 +126,13 @@ fn run_beside<J: Journal + Drop + Send, R: Threads + Wait + Sync, G: Gate + Sync
     let ((), run) = thread::join(
         rt,
         || follower.follow(rt, told),
-        move ||
+        move || -> (Vec<Seen>, Result<Exchange<J>, Exchange<J>>)
             requires { exchange.moves ≡ [] }
+            ensures given { IfOk result.1 (λ x. x.given ≡ exchange.given) }
+            ensures sure { IfOk result.1 (λ x. AreAsSure exchange.journals x.journals) }
+            ensures over { IfOk result.1 (λ x. AreOver x.given x.moves) }
+            ensures back_given { IfErr result.1 (λ back. back.given ≡ exchange.given) }
+            ensures back_sure { IfErr result.1 (λ back. AreAsSure exchange.journals back.journals) }
         {
             run_read(
                 rt, alloc, exchange, nodes, gate, reading, reader, room, told,

@@ -6,4 +6,4 @@ use Rattle.fab_snap.proofs.Crossing.{SnapReader-send}
 use Rattle.fab_watched.proofs.running.run_read.Goals as goal
 
 pub join-requires-send-F : goal.join-requires-send-F
-join-requires-send-F g c κs within = search (sendable, crosses, SnapReader-send, Object.the_send, Reading.the_send, Reading.the_field_send) depth 30
+join-requires-send-F g c κs within = search (sendable, crosses, SnapReader-send, Object.the_send, Reading.the_send, Reading.the_field_send, c.type_bounds.sync-G) depth 30
