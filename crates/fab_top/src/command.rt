@@ -1,5 +1,5 @@
 //! What the program does with its words, its input and its output.
-ghost use Rattle.std.specs.Prelude.{◌≡◌, ◌≢◌, ◌⊎◌, ◌≤◌, List, ℕ, [], Some, None as Nothing, codes, IfSome};
+ghost use Rattle.std.specs.Prelude.{◌≡◌, ◌≢◌, ◌⊎◌, ◌≤◌, List, ℕ, [], Some, None as Nothing, codes, IfErr, IfOk, IfSome};
 ghost use Rattle.std.specs.Io.KnownBytes.{Keeps, IsAtEnd};
 ghost use Rattle.fab_base.specs.Faults.{Rose};
 ghost use Rattle.fab_asked.specs.Words.{asked_by};
@@ -9,6 +9,9 @@ ghost use Rattle.fab_front.specs.Reading.{TakesAtMost};
 ghost use Rattle.fab_answers.specs.Says.{MakesRuns};
 ghost use Rattle.fab_core.specs.Cores.{slot};
 ghost use Rattle.fab_core.specs.Moved.{faults_in};
+ghost use Rattle.fab_reads.specs.Reads.{AreCountsOf};
+ghost use Rattle.fab_replay.specs.Courses.{HasRun, HasStopped};
+ghost use Rattle.fab_replay.specs.Replays.{commits_of_run};
 ghost use Rattle.fab_front.specs.declared.status.Status.{Status as AnyStatus};
 ghost use Rattle.fab_front.specs.declared.status.Status.TheVariants.{Ok as Done, Usage, ReadFault, WriteFault, Memory, JournalFault};
 ghost use Rattle.fab_reply.specs.Headline.{Headline, IsPartFor, IsWholeFor};
@@ -194,6 +197,8 @@ pub fn fab<R: Threads + Wait + Sync, S: Source, K: Sink, M: Journals, G: Gate + 
         call: |core: Core<M::Item>, reading: Option<Reading>|
             requires start { core.moves ≡ [] }
             requires unfailed { (n : ℕ) → faults_in (slot core.journals n) ≡ 0 }
+            ensures run { IfOk result (λ r. HasRun core r.0 × AreCountsOf reading (commits_of_run r.0.given r.0.moves) r.1) }
+            ensures back { IfErr result (HasStopped core) }
         { by_threads(rt, alloc, gate, core, reading) },
     };
     match asked_task(alloc, words) {

@@ -1,4 +1,4 @@
-use Rattle.std.proofs.Common.{◌≡◌, ◌≢◌, ◌⊎◌, IfSome, List, ℕ, Option, subst}
+use Rattle.std.proofs.Common.{◌≡◌, ◌≢◌, ◌⊎◌, rules, IfSome, List, ℕ, Option, subst}
 use Rattle.fab_device.specs.Kept.{Makers}
 use Rattle.std.specs.Io.KnownBytes.{Keeps}
 use Rattle.fab_command.specs.declared.task.Task.{Task}
@@ -34,3 +34,7 @@ returns-in-Ok-clause-memory g c =
 
 pub returns-in-Err-clause-generates : goal.returns-in-Err-clause-generates
 returns-in-Err-clause-generates g c number size is = none_written (g.K.Sink.written c.args.sink.now) (generated_text number size)
+
+-- threads go on from each start, whatever is read beside the run
+pub done-requires-clause-course : goal.done-requires-clause-course
+done-requires-clause-course g c κs bounds = λ x makes first start. (λ reading. (start.moves, (start.unfailed, search rules)), λ result came. search rules)
