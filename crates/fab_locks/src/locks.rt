@@ -16,6 +16,23 @@ use std::marker::Model;
 /// one transaction at a time prepared.
 const FEW: usize = 64;
 
+/// So many items of theirs: a name that is asked is sought among these.
+const FEW_ITEMS: usize = 512;
+
+/// Whether these are few, and their items, too. It decides what later calls cost, and what none answers.
+fn are_few(beside: &[(Tid, Items)]) -> bool {
+    if beside.len() > FEW {
+        return false;
+    }
+    let mut many = 0_usize;
+    for (_, items) in beside {
+        many = many.saturating_add(items.reads.len());
+        many = many.saturating_add(items.writes.len());
+        many = many.saturating_add(items.creates.len());
+    }
+    many <= FEW_ITEMS
+}
+
 /// Transactions with their items, each tid once, in the order of holding. Contracts see them, and
 /// for how many more there is room without taking memory.
 ///
@@ -68,13 +85,13 @@ impl Locks {
         Ok(self.beside.push((tid, items))?)
     }
 
-    /// Puts the transactions of the list into the indexes, where they are more than few. What finds no
-    /// memory there stays in the list.
+    /// Puts the transactions of the list into the indexes, where they or their items are more than few. What
+    /// finds no memory there stays in the list.
     pub fn settle(&mut self)
         ensures held { self.new.held ≡ self.old.held }
         ensures spare { self.old.spare ≤ self.new.spare }
     {
-        if self.beside.len() > FEW {
+        if !are_few(self.beside.as_slice()) {
             self.beside.reverse();
             put_last_first(&mut self.indexed, &mut self.beside);
             self.beside.reverse();
