@@ -13,6 +13,7 @@ pub mod OfPlans
 pub mod Shortened
 pub mod Posted
 pub mod Crashed
+pub mod Failing
 pub mod Moving
 pub mod Slots
 pub mod Reached

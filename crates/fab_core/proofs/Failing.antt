@@ -1,0 +1,49 @@
+-- What a core is behind an event in which a call of a journal counts as having failed.
+use Rattle.std.specs.Prelude.{◌≡◌, ◌<◌, ℕ, true, false, IsTrue, List, [], ◌∷◌, ◌++◌, map, Option}
+use Rattle.std.proofs.Common.{refl, sym, subst}
+use Rattle.std.proofs.lemmas.Bool.{and_parts}
+use Rattle.fab_net.specs.declared.event.Event.TheVariants as events
+use Rattle.fab_net.specs.declared.event.Inner.{Inner}
+use Rattle.fab_net.specs.declared.note.Logged.{Logged}
+use Rattle.fab_queues.specs.Channels.{Network}
+use Rattle.fab_world.specs.Machine.{Setting, World, Node, Fails, enabled, may, node_of}
+use Rattle.fab_world.specs.Serial.{attempts}
+use Rattle.fab_node.specs.Standing.{GivenModel, NodeModel, Stands}
+use Rattle.fab_nodes.specs.Acts.{AreAmong, bytes_through}
+use Rattle.fab_core.specs.Cores.{IsCore, move_of, setting, world_by}
+use Rattle.fab_core.specs.Places.{AreOthers, HasFailedAt, HasNode}
+use Rattle.fab_core.proofs.Fallen.{IsDropped}
+use Rattle.fab_core.proofs.Filled.{stands_at}
+use Rattle.fab_core.proofs.Wholly.{among_by, lost_by, own, own_below}
+
+module _ (g : GivenModel) (nodes : List (Option NodeModel)) (queues : Network) (places : List ℕ) (log : List Logged) (core : IsCore g nodes queues places log)
+    (e : Inner) (allowed : IsTrue (enabled (setting g) (world_by g (map move_of log)) (Fails 0 e))) where
+  abbrev S : Setting
+  S = setting g
+
+  abbrev w : World
+  w = world_by g (map move_of log)
+
+  can : IsTrue (may S w e)
+  can = (and_parts _ _ (and_parts _ _ allowed).0).0
+
+  pub failing_below : node_of e < 64
+  failing_below = own_below g nodes queues places log core e can
+
+  pub failing_node : HasNode (node_of e) nodes
+  failing_node = let t = own g nodes queues places log core e can in (t.node, t.at)
+
+  pub failing_among : AreAmong queues.nodes e
+  failing_among = among_by g nodes queues places log core e can queues core.stands.lanes
+
+  abbrev entry : List ℕ → Logged
+  entry bytes = record { event = events.CrashIn 0 e; bytes = bytes; notes = []; whole = false; marked = true }
+
+  pub failing : attempts (map move_of log) < 4000000000 → (bytes : List ℕ) → bytes ≡ bytes_through queues e
+      → (new : List (Option NodeModel)) → AreOthers (node_of e) nodes new → HasFailedAt (node_of e) nodes new → (last : Network) → IsDropped (node_of e) queues last
+      → IsCore g new last places (log ++ entry bytes ∷ [])
+  failing few bytes delivered new others failed last dropped =
+      lost_by g nodes queues places log core e can few bytes delivered new others queues last
+      (record { lanes = refl; sent = λ a b. refl; queue = λ a b. refl }) dropped failed.before failed.after failed.there failed.here
+      (failed.stands g (w.node (node_of e)) (stands_at g w (node_of e) nodes failed.before core.stands.standing failed.there))
+      (and_parts _ _ (and_parts _ _ allowed).0).1
