@@ -1,6 +1,6 @@
 -- What a core is behind an event in which a call of a journal counts as having failed.
-use Rattle.std.specs.Prelude.{◌≡◌, ◌<◌, ℕ, true, false, IsTrue, List, [], ◌∷◌, ◌++◌, map, Option}
-use Rattle.std.proofs.Common.{refl, sym, subst}
+use Rattle.std.specs.Prelude.{◌≡◌, ◌<◌, ℕ, true, false, IsTrue, List, [], ◌∷◌, ◌++◌, map, Option, Ok, Err}
+use Rattle.std.proofs.Common.{refl, sym, ap, subst}
 use Rattle.std.proofs.lemmas.Bool.{and_parts}
 use Rattle.fab_net.specs.declared.event.Event.TheVariants as events
 use Rattle.fab_net.specs.declared.event.Inner.{Inner}
@@ -10,10 +10,12 @@ use Rattle.fab_world.specs.Machine.{Setting, World, Node, Fails, enabled, may, n
 use Rattle.fab_world.specs.Serial.{attempts}
 use Rattle.fab_node.specs.Standing.{GivenModel, NodeModel, Stands}
 use Rattle.fab_nodes.specs.Acts.{AreAmong, bytes_through}
-use Rattle.fab_core.specs.Cores.{IsCore, move_of, setting, world_by}
-use Rattle.fab_core.specs.Places.{AreOthers, HasFailedAt, HasNode}
+use Rattle.fab_core.specs.Cores.{CoreModel, IsCore, failure, move_of, setting, world_by}
+use Rattle.fab_core.specs.Moved.{HasFailed, IsCaused}
+use Rattle.fab_core.specs.Places.{AreOthers, HasFailedAt, HasNode, journals_of}
 use Rattle.fab_core.proofs.Fallen.{IsDropped}
-use Rattle.fab_core.proofs.Filled.{stands_at}
+use Rattle.fab_core.proofs.Filled.{none_caused, stands_at}
+use Rattle.fab_core.proofs.Moving.{seen}
 use Rattle.fab_core.proofs.Wholly.{among_by, lost_by, own, own_below}
 
 module _ (g : GivenModel) (nodes : List (Option NodeModel)) (queues : Network) (places : List ℕ) (log : List Logged) (core : IsCore g nodes queues places log)
@@ -47,3 +49,16 @@ module _ (g : GivenModel) (nodes : List (Option NodeModel)) (queues : Network) (
       (record { lanes = refl; sent = λ a b. refl; queue = λ a b. refl }) dropped failed.before failed.after failed.there failed.here
       (failed.stands g (w.node (node_of e)) (stands_at g w (node_of e) nodes failed.before core.stands.standing failed.there))
       (and_parts _ _ (and_parts _ _ allowed).0).1
+
+-- ---- what contracts see of it
+
+module _ (old : CoreModel) (g : GivenModel) (log : List Logged) (nodes : List (Option NodeModel)) (view : seen g log nodes ≡ old) (e : Inner) where
+  pub failed_on : {X E : Type 0} (x : X) (new_log : List Logged) (new : List (Option NodeModel)) → map move_of new_log ≡ map move_of log ++ failure e ∷ []
+      → IsCaused (node_of e) ⊥ (journals_of nodes) (journals_of new) → HasFailed {X = X} {E = E} e (Ok x) old (seen g new_log new)
+  failed_on {X} {E} x new_log new moves cause =
+      subst (λ (m : CoreModel). HasFailed {X = X} {E = E} e (Ok x) m (seen g new_log new)) view (record { given = refl; moves = moves; memory = tt; cause = cause })
+
+  pub fails_not : {X E : Type 0} (problem : E) (new_log : List Logged) → new_log ≡ log → HasFailed {X = X} {E = E} e (Err problem) old (seen g new_log nodes)
+  fails_not {X} {E} problem new_log same =
+      subst (λ (m : CoreModel). HasFailed {X = X} {E = E} e (Err problem) m (seen g new_log nodes)) view
+      (record { given = refl; moves = tt; memory = ap (map move_of) same; cause = none_caused (node_of e) ⊥ (journals_of nodes) (λ h. h) })

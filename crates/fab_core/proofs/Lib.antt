@@ -13,8 +13,8 @@ pub mod OfPlans
 pub mod Shortened
 pub mod Posted
 pub mod Crashed
-pub mod Failing
 pub mod Moving
+pub mod Failing
 pub mod Slots
 pub mod Reached
 pub mod Seeing

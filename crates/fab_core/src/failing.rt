@@ -5,7 +5,7 @@ ghost use Rattle.fab_net.specs.Events.{node_of as node_in};
 ghost use Rattle.fab_world.specs.Machine.{Enabled};
 ghost use Rattle.fab_world.specs.Serial.{attempts};
 ghost use Rattle.fab_core.specs.Cores.{failure, setting, world};
-ghost use Rattle.fab_core.specs.Moved.{IsCaused};
+ghost use Rattle.fab_core.specs.Moved.{HasFailed, IsCaused};
 ghost use Rattle.fab_core.specs.Places.{AreOthers, HasFailedAt, HasNode, journals_of};
 
 use crate::core_state::Core;
@@ -31,7 +31,7 @@ fn fail_at<J: Journal>(nodes: &mut Vec<Option<Node<J>>>, n: u16)
 impl<J: Journal> Core<J> {
     /// An event of a node in which a call of its journal counts as having failed, for whoever tells a run
     /// again: of the event nothing counts but the crash, and the node has failed for good. Nothing is
-    /// asked of the journal, so that of a node that has failed in the run that is told may hold more.
+    /// asked of the journal, which stays as it was.
     pub fn fail(&mut self, inner: Inner) -> Result<(), NoMemory>
         requires enabled { Enabled (setting self.old.given) (world self.old) (failure inner) }
         requires few { attempts self.old.moves < 4000000000 }
@@ -40,11 +40,19 @@ impl<J: Journal> Core<J> {
         ensures memory { OnErr result (self.new.moves ≡ self.old.moves) }
         ensures cause { IsCaused (node_in inner) ⊥ self.old.journals self.new.journals }
     {
+        self.fails(inner)
+    }
+
+    /// The same, with what it comes to in one.
+    fn fails(&mut self, inner: Inner) -> Result<(), NoMemory>
+        requires enabled { Enabled (setting self.old.given) (world self.old) (failure inner) }
+        requires few { attempts self.old.moves < 4000000000 }
+        ensures { HasFailed inner result self.old self.new }
+    {
         self.log.reserve(1)?;
         let bytes = bytes_of(self.alloc, &self.queues, inner)?;
-        let node = node_of(inner);
-        fail_at(&mut self.nodes, node);
-        self.queues.drop_to(node);
+        fail_at(&mut self.nodes, node_of(inner));
+        self.queues.drop_to(node_of(inner));
         note(&mut self.log, failed_in(self.alloc, inner, bytes));
         Ok(())
     }

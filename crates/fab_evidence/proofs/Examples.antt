@@ -16,6 +16,7 @@ use Rattle.fab_reports.specs.declared.line.ShownEnding.TheVariants as o
 use Rattle.fab_reports.specs.declared.line.Line.{Line}
 use Rattle.fab_reports.specs.declared.line.Line.TheVariants as l
 use Rattle.fab_reports.specs.Reports.{IsReport}
+use Rattle.fab_evidence.specs.declared.shown.Difference.{Difference}
 use Rattle.fab_evidence.specs.declared.shown.ShownJournal.{ShownJournal}
 use Rattle.fab_evidence.specs.declared.shown.Told.{Told}
 use Rattle.fab_evidence.specs.Named.{named_event, node_named}
@@ -173,7 +174,7 @@ lines = refl
 abbrev begun : List ℕ
 begun = codes "fab report 1\nevent 1 begin w\n"
 
-abbrev first_in : List ℕ → List ℕ → Option _
+abbrev first_in : List ℕ → List ℕ → Option Difference
 first_in found kept = first_from 1 (rows_of found) (rows_of kept)
 
 same : first_in (begun ++ codes "commit 1 w 1 1.1\nend 1\n") (begun ++ codes "commit 1 w 1 1.1\nend 1\n") ≡ None

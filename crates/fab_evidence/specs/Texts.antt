@@ -1,11 +1,14 @@
 -- The text of an audit: a report, and journals behind it. Which bytes are one, and where bytes stop being one.
-use Rattle.std.specs.Prelude.{◌≡◌, ◌==◌, ◌≤◌, ℕ, Bool, true, false, ◌||◌, List, [], ◌∷◌, ◌++◌, length, take, codes, if◌then◌else◌}
+use Rattle.std.specs.Prelude.{◌≡◌, ◌==◌, ◌≤◌, ℕ, true, List, [], ◌∷◌, ◌++◌, length, take, codes, if◌then◌else◌, Result, Ok, Err}
 use Rattle.std.specs.List.{flat_map, list_any}
 use Rattle.fab_tree.specs.declared.resolved.Resolved.{Resolved}
 use Rattle.fab_language.specs.Words.{hex, line, node_text, spaced}
 use Rattle.fab_reports.specs.declared.line.Line.{Line}
 use Rattle.fab_reports.specs.Lines.{AreBytes}
 use Rattle.fab_reports.specs.Reports.{IsReport}
+use Rattle.fab_reports.specs.declared.error.TraceError.{TraceError}
+use Rattle.fab_reports.specs.declared.error.TraceError.TheVariants as errors
+use Rattle.fab_evidence.specs.declared.shown.Evidence.{Evidence}
 use Rattle.fab_evidence.specs.declared.shown.ShownJournal.{ShownJournal}
 
 -- the line of a journal
@@ -45,3 +48,20 @@ pub record IsBadAudit (r : Resolved) (nodes : List ℕ) (text : List ℕ) (at : 
   pub within : at ≤ length text
   pub begins : BeginsAuditText r nodes (take at text)
   pub longest : (n : ℕ) → n ≤ length text → BeginsAuditText r nodes (take n text) → n ≤ at
+
+-- ---- what is answered
+
+-- whatever lines and journals the text is of are answered, unless memory ran out
+abbrev pub AreOkUnlessMemory : List Line → List ShownJournal → Result Evidence TraceError → Type 0
+AreOkUnlessMemory lines journals (Ok x) = (x.lines ≡ lines) × (x.journals ≡ journals)
+AreOkUnlessMemory lines journals (Err errors.Memory) = Unit {0}
+AreOkUnlessMemory lines journals (Err (errors.Bad at)) = ⊥
+
+abbrev pub AnswersAudit : Resolved → List ℕ → List ℕ → Result Evidence TraceError → Type 0
+AnswersAudit r nodes text result = (lines : List Line) (journals : List ShownJournal) → IsAuditText r nodes text lines journals → AreOkUnlessMemory lines journals result
+
+-- a text that is refused is none of an audit, and goes wrong there
+abbrev pub RefusesRightly : Resolved → List ℕ → List ℕ → Result Evidence TraceError → Type 0
+RefusesRightly r nodes text (Ok x) = Unit {0}
+RefusesRightly r nodes text (Err errors.Memory) = Unit {0}
+RefusesRightly r nodes text (Err (errors.Bad at)) = IsBadAudit r nodes text at

@@ -1,6 +1,6 @@
 //! Journals behind a report, read.
 
-ghost use Rattle.std.specs.Prelude.{◌≡◌, ◌≤◌, ◌++◌, ◌∷◌, [], length};
+ghost use Rattle.std.specs.Prelude.{◌≡◌, ◌==◌, ◌≤◌, ◌++◌, ◌∷◌, [], length};
 ghost use Rattle.fab_wire.specs.Reading.{Gives};
 ghost use Rattle.fab_reports.specs.Reading.{kind_at, shared};
 ghost use Rattle.fab_evidence.specs.Texts.{behind as behind_in};
@@ -23,10 +23,15 @@ fn shared_name(name: &[u8], bytes: &[u8]) -> usize
     if shared < name.len() {
         return shared;
     }
-    match bytes[shared..].split_first() {
-        Some((b' ', _)) => shared + 1,
-        _ => shared,
-    }
+    shared + shared_front(b" ", &bytes[shared..])
+}
+
+/// Whether so many bytes in common are the whole name with its space.
+fn is_whole(name: &[u8], shared: usize) -> bool
+    requires { shared ≤ length (name.now ++ 32 ∷ []) }
+    ensures { result ≡ (shared == length (name.now ++ 32 ∷ [])) }
+{
+    shared > name.len()
 }
 
 /// Which of these nodes is named at the front, and the bytes behind its name and a space.
@@ -42,7 +47,7 @@ fn node_of<'a>(
     'nodes: while let Some((node, others)) = rest.split_first() {
         let name = node_name(program, *node).as_bytes();
         let shared = shared_name(name, bytes);
-        if shared == name.len() + 1 {
+        if is_whole(name, shared) {
             return Ok((*node, &bytes[shared..]));
         }
         longest = longest.max(shared);
@@ -55,7 +60,7 @@ fn node_of<'a>(
 
 /// The nodes behind this one.
 fn nodes_behind(node: u16, nodes: &[u16]) -> &[u16]
-    ensures behind { result.now ≡ behind_in node nodes.now }
+    ensures { result.now ≡ behind_in node nodes.now }
 {
     let mut rest = nodes;
     'nodes: while let Some((first, others)) = rest.split_first() {

@@ -7,8 +7,10 @@ mod journals;
 mod marks;
 mod named;
 mod shown;
+mod text;
 
 pub use first::{first_before_barred, first_difference};
 pub use marks::told_in;
 pub use named::{named_event, node_named};
 pub use shown::{Difference, Evidence, ShownJournal, Told};
+pub use text::read_audit;

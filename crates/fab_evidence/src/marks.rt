@@ -29,7 +29,7 @@ fn is_named(program: &Resolved, number: u16, name: &str) -> bool
     }
 }
 
-/// Whether a line says that a request of this node is open.
+/// Whether it is such a line.
 fn is_open_of(program: &Resolved, number: u16, line: &Line) -> bool
     ensures { result ≡ is_open_of program.now number line.now }
 {
@@ -42,11 +42,18 @@ fn is_open_of(program: &Resolved, number: u16, line: &Line) -> bool
     }
 }
 
+/// Whether a line says that a request of this node is open.
+fn has_open(program: &Resolved, lines: &[Line], number: u16) -> bool
+    ensures { result ≡ list_any (is_open_of program.now number) lines.now }
+{
+    lines.iter().any(|line| is_open_of(program, number, line))
+}
+
 /// Whether it is a worker, and a line says that a request of it is open.
 fn is_waiting(program: &Resolved, rights: &Rights, lines: &[Line], number: u16) -> bool
     ensures { result ≡ is_waiting program.now rights.now lines.now number }
 {
-    rights.is_worker(number) && lines.iter().any(|line| is_open_of(program, number, line))
+    rights.is_worker(number) && has_open(program, lines, number)
 }
 
 /// Whether an event is marked, behind which there are events of these nodes.

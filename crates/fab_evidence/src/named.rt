@@ -14,6 +14,7 @@ fn first_named<'a>(program: &'a Resolved, name: &str) -> Option<&'a Principal>
 {
     program
         .nodes
+        .as_slice()
         .iter()
         .find(|x| x.name.text.as_str() == name)
 }

@@ -1,0 +1,34 @@
+-- How much of a name with a space behind it stands at the front of bytes.
+use Rattle.std.proofs.Common.{◌≡◌, ℕ, suc, ◌+◌, ◌<◌, ◌≤◌, Bool, true, false, cond, eqb, List, [], ◌∷◌, ◌++◌, length, drop, refl, ap, ◌∙◌, arith}
+use Rattle.fab_reports.specs.Reading.{shared}
+use Rattle.fab_reports.proofs.Given.{shared_le}
+
+-- what ends within a word ends there, whatever stands behind the word
+pub shared_within_word : (w v bytes : List ℕ) → shared w bytes < length w → shared (w ++ v) bytes ≡ shared w bytes
+shared_within_word [] v bytes h = absurd (omega arith)
+shared_within_word (c ∷ w) v [] h = refl
+shared_within_word (c ∷ w) v (b ∷ bytes) h = by (eqb c b) refl h
+  where
+    by : (t : Bool) → eqb c b ≡ t → cond t (suc (shared w bytes)) 0 < suc (length w) → cond (eqb c b) (suc (shared (w ++ v) bytes)) 0 ≡ cond (eqb c b) (suc (shared w bytes)) 0
+    by true e g = rw e (ap suc (shared_within_word w v bytes (omega arith)))
+    by false e g = rw e refl
+
+-- and what goes on behind it, goes on there
+shared_behind_word : (w v bytes : List ℕ) → shared w bytes ≡ length w → shared (w ++ v) bytes ≡ length w + shared v (drop (length w) bytes)
+shared_behind_word [] v bytes h = omega arith
+shared_behind_word (c ∷ w) v [] h = absurd (omega arith)
+shared_behind_word (c ∷ w) v (b ∷ bytes) h = by (eqb c b) refl h
+  where
+    by : (t : Bool) → eqb c b ≡ t → cond t (suc (shared w bytes)) 0 ≡ suc (length w)
+        → cond (eqb c b) (suc (shared (w ++ v) bytes)) 0 ≡ suc (length w) + shared v (drop (length w) bytes)
+    by true e g = rw e (let more = shared_behind_word w v bytes (omega arith) in omega arith)
+    by false e g = absurd (omega arith)
+
+pub shared_on : (w v bytes : List ℕ) (n : ℕ) → n ≡ shared w bytes → length w ≤ n → n + shared v (drop n bytes) ≡ shared (w ++ v) bytes
+shared_on w v bytes n is far =
+    let most = shared_le w bytes in
+    let all : n ≡ length w = omega arith in
+    let whole : shared w bytes ≡ length w = omega arith in
+    let same : n + shared v (drop n bytes) ≡ length w + shared v (drop (length w) bytes) = ap (λ (k : ℕ). k + shared v (drop k bytes)) all in
+    let other = shared_behind_word w v bytes whole in
+    cc
