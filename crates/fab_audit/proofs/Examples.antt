@@ -6,6 +6,7 @@ use Rattle.fab_tree.specs.declared.name.Name.{Name}
 use Rattle.fab_tree.specs.declared.resolved.Resolved.{Resolved}
 use Rattle.fab_net.specs.declared.event.Event.TheVariants as ne
 use Rattle.fab_net.specs.declared.event.Inner.TheVariants as ni
+use Rattle.fab_protocol.specs.Stores.{shelf_of}
 use Rattle.fab_rights.specs.declared.rights.Rights.{Rights}
 use Rattle.fab_world.specs.Machine.{Move}
 use Rattle.fab_reports.specs.declared.line.ShownInner.TheVariants as i
@@ -58,6 +59,7 @@ abbrev journals : List ShownJournal
 journals = record { node = 0; bytes = 7 ∷ [] } ∷ []
 
 is_right : IsRight bundle rights (report ++ codes "journal w 07\n")
+unfolding shelf_of
 is_right = record {
   lines = lines;
   journals = journals;
@@ -105,4 +107,5 @@ nobody = refl
 
 -- what belongs there where an object was made up
 made_up : first_wrong bundle rights (codes "fab report 1\nobject s a C 1\nend 0\n") (l.Head ∷ l.End 0 ∷ []) [] ≡ differ_at 2 (codes "object s a C 1") []
+unfolding shelf_of
 made_up = rw (decimal_digit 0 (omega arith)) refl

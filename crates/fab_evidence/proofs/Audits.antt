@@ -5,6 +5,9 @@ use Rattle.std.proofs.lemmas.List.{append-nil}
 use Rattle.std.proofs.Math.Seq.{take-append-add, take-append_seam}
 use Rattle.std.specs.List.{flat_map}
 use Rattle.fab_tree.specs.declared.resolved.Resolved.{Resolved}
+use Rattle.fab_wire.specs.Reading.{Fails}
+use Rattle.fab_wire.specs.declared.stop.Stop.{Stop}
+use Rattle.fab_wire.specs.declared.stop.Stop.TheVariants as stops
 use Rattle.fab_wire.proofs.ReaderLaws.{IsBytes, IsBytes-rest, Stops, one_reading}
 use Rattle.fab_reports.specs.declared.line.Line.{Line}
 use Rattle.fab_reports.specs.Lines.{spelled_line}
@@ -12,7 +15,7 @@ use Rattle.fab_reports.specs.Reading.{report_at}
 use Rattle.fab_reports.proofs.ReportLaws.{AreReported, report_reads}
 use Rattle.fab_reports.proofs.Listing.{is_report, are_reported}
 use Rattle.fab_evidence.specs.declared.shown.ShownJournal.{ShownJournal}
-use Rattle.fab_evidence.specs.Reading.{AreJournals, AreNone}
+use Rattle.fab_evidence.specs.Reading.{AnswersJournals, AnswersText, AreJournals, AreNone}
 use Rattle.fab_evidence.specs.Texts.{BeginsAuditText, IsAuditText, IsBadAudit, journals_text}
 
 -- ---- the longest front with which something begins
@@ -129,3 +132,21 @@ module _ (r : Resolved) (nodes : List ℕ) where
         ∙ ap (λ (x : List ℕ). spelled lines ++ x) (append_assoc h.front (b ∷ tail) g.more) in
         h.bad b others (tail ++ g.more) g.journals eb (lines_are _ _ g.lines g.journals cut g.whole).1)
         (λ m journals g. h.unread journals (text_only m journals g).1)
+
+  -- ---- what reading answers
+
+  pub stop_first : (stop : Stop) (text : List ℕ) → IsBytes text → Fails stop (report_at text) → AnswersText r nodes text (Err stop)
+  stop_first stops.Memory text are_bytes e = tt
+  stop_first (stops.Bad k) text are_bytes e = stops_in_report text k are_bytes e
+
+  pub stop_behind : (stop : Stop) (text : List ℕ) → IsBytes text → (lines : List Line) (rest : List ℕ) → report_at text ≡ Ok (lines, rest)
+      → AnswersJournals r nodes rest (Err stop) → AnswersText r nodes text (Err stop)
+  stop_behind stops.Memory text are_bytes lines rest is h = tt
+  stop_behind (stops.Bad k) text are_bytes lines rest is h = stops_behind text are_bytes lines rest is k h
+
+  pub both_read : (text : List ℕ) → IsBytes text → (lines : List Line) (rest : List ℕ) → report_at text ≡ Ok (lines, rest)
+      → (journals : List ShownJournal) → AnswersJournals r nodes rest (Ok journals) → AnswersText r nodes text (Ok (record { lines = lines; journals = journals }))
+  both_read text are_bytes lines rest is journals h = (
+    text_found text are_bytes lines rest is journals h.0,
+    λ m others g. let one = text_only text are_bytes lines rest is m others g in (one.0, h.1 others one.1),
+  )

@@ -24,11 +24,10 @@ shared_behind_word (c ∷ w) v (b ∷ bytes) h = by (eqb c b) refl h
     by true e g = rw e (let more = shared_behind_word w v bytes (omega arith) in omega arith)
     by false e g = absurd (omega arith)
 
-pub shared_on : (w v bytes : List ℕ) (n : ℕ) → n ≡ shared w bytes → length w ≤ n → n + shared v (drop n bytes) ≡ shared (w ++ v) bytes
-shared_on w v bytes n is far =
+pub shared_past_word : (w v bytes : List ℕ) → length w ≤ shared w bytes → shared (w ++ v) bytes ≡ shared w bytes + shared v (drop (shared w bytes) bytes)
+shared_past_word w v bytes far =
     let most = shared_le w bytes in
-    let all : n ≡ length w = omega arith in
     let whole : shared w bytes ≡ length w = omega arith in
-    let same : n + shared v (drop n bytes) ≡ length w + shared v (drop (length w) bytes) = ap (λ (k : ℕ). k + shared v (drop k bytes)) all in
+    let same : shared w bytes + shared v (drop (shared w bytes) bytes) ≡ length w + shared v (drop (length w) bytes) = ap (λ (k : ℕ). k + shared v (drop k bytes)) whole in
     let other = shared_behind_word w v bytes whole in
     cc

@@ -7,12 +7,15 @@ use Rattle.std.specs.List.{list_any}
 use Rattle.std.specs.Prelude.{codes}
 use Rattle.fab_tree.specs.declared.resolved.Resolved.{Resolved}
 use Rattle.fab_language.specs.Words.{hex, node_text}
+use Rattle.fab_wire.specs.Reading.{Fails}
+use Rattle.fab_wire.specs.declared.stop.Stop.{Stop}
+use Rattle.fab_wire.specs.declared.stop.Stop.TheVariants as stops
 use Rattle.fab_wire.proofs.ReaderLaws.{IsBytes, IsBytes-rest, Reads, Stops, both_reads, made_reads, one_reading}
 use Rattle.fab_reports.specs.Lines.{AreBytes}
 use Rattle.fab_reports.proofs.FieldLaws.{bytes_before_reads, line_ends}
 use Rattle.fab_reports.proofs.Given.{IsIn, eqb-refl, exact_reads, kind_reads, small_bytes}
 use Rattle.fab_evidence.specs.declared.shown.ShownJournal.{ShownJournal}
-use Rattle.fab_evidence.specs.Reading.{AreJournals, AreNamed, AreNone, journal_at, name_before}
+use Rattle.fab_evidence.specs.Reading.{AnswersJournals, AreJournals, AreNamed, AreNone, journal_at, name_before}
 use Rattle.fab_evidence.specs.Texts.{AreOf, behind, journal_line, journals_text}
 use Rattle.fab_evidence.proofs.Names.{name_bytes, names_apart}
 
@@ -212,3 +215,37 @@ module _ (r : Resolved) where
         (two.0, one.1 ∙ ap (λ (xs : List ShownJournal). done ++ xs) two.1 ∙ sym (append_assoc done (journal ∷ []) two.0), two.2);
     none = λ k g. h.none k (on_none left rest after journal n some h.named h.are_bytes is k g);
   }
+
+  pub smaller : (nodes bytes left rest after : List ℕ) (done : List ShownJournal) (journal : ShownJournal) (n : ℕ) → IsIn n left → journal_at r left rest ≡ Ok (journal, after)
+      → Goes nodes bytes left rest done → length after < length rest
+  smaller nodes bytes left rest after done journal n some is h = shorter left rest after journal n some h.named h.are_bytes is
+
+  -- ---- the end
+
+  nothing_left : (left rest : List ℕ) → rest ≡ [] → (journals : List ShownJournal) → AreJournals r left rest journals → journals ≡ []
+  nothing_left left rest e [] h = refl
+  nothing_left left rest e (x ∷ xs) h =
+      let long = line_long x in
+      absurd (omega (arith, ap length e, ap length h.spelled, length-append (journal_line r x) (text xs)))
+
+  pub ended : (nodes bytes left rest : List ℕ) (done : List ShownJournal) → Goes nodes bytes left rest done → rest ≡ [] → AnswersJournals r nodes bytes (Ok done)
+  ended nodes bytes left rest done h e = (
+    subst (λ (xs : List ShownJournal). AreJournals r nodes bytes xs) (append-nil done) (h.more [] (record { order = tt; spelled = e })),
+    λ others g.
+        let one = h.only others g in
+        one.1 ∙ ap (λ (xs : List ShownJournal). done ++ xs) (nothing_left left rest e one.0 one.2) ∙ append-nil done,
+  )
+
+  pub stopped : (stop : Stop) (nodes bytes left rest : List ℕ) (done : List ShownJournal) (n : ℕ) → IsIn n left → Goes nodes bytes left rest done → 0 < length rest
+      → Fails stop (journal_at r left rest) → AnswersJournals r nodes bytes (Err stop)
+  stopped stops.Memory nodes bytes left rest done n some h long e = tt
+  stopped (stops.Bad k) nodes bytes left rest done n some h long e = h.none k (wrong left rest n some h.named h.are_bytes long k e)
+
+  pub no_more : (nodes bytes left rest : List ℕ) (done : List ShownJournal) → Goes nodes bytes left rest done → left ≡ [] → 0 < length rest
+      → AnswersJournals r nodes bytes (Err (stops.Bad (length rest)))
+  no_more nodes bytes left rest done h none_left long =
+      h.none (length rest) (subst (λ (ns : List ℕ). AreNone r ns rest (length rest)) (sym none_left) (no_node rest long))
+
+pub first_in : (nodes : List ℕ) → 0 < length nodes → (n : ℕ) × IsIn n nodes
+first_in [] h = absurd (omega arith)
+first_in (n ∷ ns) h = (n, inl refl)

@@ -1,5 +1,7 @@
 -- the lines of bytes
 pub mod Lines
+-- and two texts side by side
+pub mod Walking
 -- what stands at the fronts of bytes
 pub mod Fronts
 -- names of nodes, each with a space behind it

@@ -15,6 +15,7 @@ use fab_wire::Stop;
 use std::alloc::Global;
 
 /// How many bytes a name with a space behind it has in common with others at their fronts.
+#[tactic(auto, using(crate::proofs::Fronts::shared_within_word, crate::proofs::Fronts::shared_past_word))]
 fn shared_name(name: &[u8], bytes: &[u8]) -> usize
     ensures count { result ≡ shared (name.now ++ 32 ∷ []) bytes.now }
     ensures within { result ≤ length bytes.now }

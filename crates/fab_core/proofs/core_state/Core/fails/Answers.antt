@@ -1,15 +1,14 @@
-use Rattle.std.proofs.Common.{◌≡◌, ◌<◌, ◌∷◌, ◌++◌, [], List, Result, map, length, true, false, sym, ap, subst, refl, ◌∙◌}
+use Rattle.std.proofs.Common.{◌<◌, ◌∷◌, ◌++◌, [], List, map, length, true, false, sym, ap, subst, ◌∙◌}
 use Rattle.std.proofs.lemmas.List.{map-append}
 use Rattle.std.specs.Vec.{vec_capacity}
 use Rattle.fab_net.specs.declared.event.Event.TheVariants as events
 use Rattle.fab_net.specs.declared.note.Logged.{Logged}
 use Rattle.std.proofs.lemmas.Result.{err_from_is_err_and}
-use Rattle.std.specs.declared.alloc.AllocError.{AllocError}
 use Rattle.fab_world.specs.Machine.{node_of}
 use Rattle.fab_core.specs.Cores.{IsCore, failure, move_of}
 use Rattle.fab_core.specs.Moved.{HasFailed, IsCaused}
 use Rattle.fab_core.specs.Places.{AreOthers, HasFailedAt, HasNode, journals_of}
-use Rattle.fab_core.proofs.Failing.{failed_on, failing, failing_among, failing_below, failing_node, fails_not}
+use Rattle.fab_core.proofs.Failed.{failed_on, failing, failing_among, failing_below, failing_node, fails_not}
 use Rattle.fab_core.proofs.Fallen.{IsDropped}
 use Rattle.fab_core.proofs.Moving.{enabled_in, few_in, places_kept, seen}
 use Rattle.fab_core.proofs.core_state.Core.fails.Goals as goal
@@ -44,8 +43,8 @@ drop_to-requires g c =
     (failing_below c.self.inside.given c.self.inside.nodes.items c.self.inside.queues c.self.inside.places.items c.self.inside.log.items c.self.invariant.0 c.args.inner
     (enabled_in c.args.self.now c.self.inside.given c.self.inside.log.items c.self.inside.nodes.items c.self.view_is (failure c.args.inner) c.requires.enabled)))
 
-pub invariant_of-self-3 : goal.invariant_of-self-3
-invariant_of-self-3 g c =
+pub invariant_of-self-2 : goal.invariant_of-self-2
+invariant_of-self-2 g c =
     let others = subst (λ k. AreOthers k c.self.inside.nodes.items c.fail_at.new.nodes.items) c.node_of.ensures c.fail_at.ensures.others in
     let failed = subst (λ k. HasFailedAt k c.self.inside.nodes.items c.fail_at.new.nodes.items) c.node_of.ensures c.fail_at.ensures.failed in
     let dropped = subst (λ k. IsDropped k c.self.inside.queues c.drop_to.new.self) c.node_of-2.ensures
@@ -59,8 +58,8 @@ invariant_of-self-3 g c =
       places_kept (node_of c.args.inner) c.self.inside.nodes.items c.fail_at.new.nodes.items (length c.self.inside.spare.items) (vec_capacity c.self.inside.spare) others c.self.invariant.1,
     )
 
-pub returns-3 : goal.returns-3
-returns-3 g c =
+pub returns : goal.returns
+returns g c =
     failed_on c.args.self.now c.self.inside.given c.self.inside.log.items c.self.inside.nodes.items c.self.view_is c.args.inner _ c.note.new.log.items c.fail_at.new.nodes.items
     (ap (map move_of) (c.note.ensures ∙ (λ j. c.reserve.ensures.items j ++ c.failed_in.ensures j ∷ []))
     ∙ map-append move_of c.self.inside.log.items (record { event = events.CrashIn 0 c.args.inner; bytes = c.in_ok-bytes.bytes; notes = []; whole = false; marked = true } ∷ []))

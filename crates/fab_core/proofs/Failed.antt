@@ -1,14 +1,14 @@
 -- What a core is behind an event in which a call of a journal counts as having failed.
 use Rattle.std.specs.Prelude.{◌≡◌, ◌<◌, ℕ, true, false, IsTrue, List, [], ◌∷◌, ◌++◌, map, Option, Ok, Err}
-use Rattle.std.proofs.Common.{refl, sym, ap, subst}
+use Rattle.std.proofs.Common.{refl, ap, subst}
 use Rattle.std.proofs.lemmas.Bool.{and_parts}
 use Rattle.fab_net.specs.declared.event.Event.TheVariants as events
 use Rattle.fab_net.specs.declared.event.Inner.{Inner}
 use Rattle.fab_net.specs.declared.note.Logged.{Logged}
 use Rattle.fab_queues.specs.Channels.{Network}
-use Rattle.fab_world.specs.Machine.{Setting, World, Node, Fails, enabled, may, node_of}
+use Rattle.fab_world.specs.Machine.{Setting, World, Fails, enabled, may, node_of}
 use Rattle.fab_world.specs.Serial.{attempts}
-use Rattle.fab_node.specs.Standing.{GivenModel, NodeModel, Stands}
+use Rattle.fab_node.specs.Standing.{GivenModel, NodeModel}
 use Rattle.fab_nodes.specs.Acts.{AreAmong, bytes_through}
 use Rattle.fab_core.specs.Cores.{CoreModel, IsCore, failure, move_of, setting, world_by}
 use Rattle.fab_core.specs.Moved.{HasFailed, IsCaused}
