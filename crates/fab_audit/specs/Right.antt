@@ -1,5 +1,5 @@
 -- When the text of an audit is right, and otherwise its first line that isn't so.
-use Rattle.std.specs.Prelude.{◌≡◌, ℕ, suc, ◌==◌, Bool, false, List, [], ◌∷◌, ◌++◌, map, length, take, Option, Some, None, Result, Ok, Err, if◌then◌else◌}
+use Rattle.std.specs.Prelude.{◌≡◌, ℕ, suc, ◌==◌, false, List, ◌++◌, map, length, Option, Some, Result, Ok, Err, if◌then◌else◌}
 use Rattle.std.specs.List.{AllByRecursion}
 use Rattle.fab_tree.specs.declared.resolved.Resolved.{Resolved}
 use Rattle.fab_rights.specs.declared.rights.Rights.{Rights}
@@ -10,7 +10,7 @@ use Rattle.fab_shown.specs.Shown.{report_of, world_behind}
 use Rattle.fab_reports.specs.declared.line.Line.{Line}
 use Rattle.fab_evidence.specs.declared.shown.Difference.{Difference}
 use Rattle.fab_evidence.specs.declared.shown.ShownJournal.{ShownJournal}
-use Rattle.fab_evidence.specs.First.{Row, first_from, not_enabled, rows_of}
+use Rattle.fab_evidence.specs.First.{Row, first_from, rows_of, up_to_barred}
 use Rattle.fab_evidence.specs.Marks.{told_in}
 use Rattle.fab_evidence.specs.Texts.{IsAuditText, IsBadAudit, journals_text}
 use Rattle.fab_audit.specs.Runs.{front_of, has_failed, honest_nodes, moves_of}
@@ -56,7 +56,7 @@ abbrev pub kept_rows : Resolved → Rights → List Line → List ShownJournal �
 kept_rows r rights lines journals =
     let front = front_of r rights lines in
     if length front == length (told_in r rights lines) then rows_of (kept_text r rights front journals)
-    else take (suc (length front)) (rows_of (report_of r rights front)) ++ not_enabled ∷ []
+    else up_to_barred (suc (length front)) (rows_of (report_of r rights front))
 
 abbrev pub first_wrong : Resolved → Rights → List ℕ → List Line → List ShownJournal → Option Difference
 first_wrong r rights text lines journals = first_from 1 (rows_of text) (kept_rows r rights lines journals)

@@ -1,6 +1,6 @@
 -- What a core is behind an event in which a call of a journal counts as having failed.
-use Rattle.std.specs.Prelude.{◌≡◌, ◌<◌, ℕ, true, false, IsTrue, List, [], ◌∷◌, ◌++◌, map, Option, Ok, Err}
-use Rattle.std.proofs.Common.{refl, ap, subst}
+use Rattle.std.specs.Prelude.{◌≡◌, ◌<◌, ℕ, zero, suc, true, false, IsTrue, List, [], ◌∷◌, ◌++◌, map, slice_set, Option, Some, None, Ok, Err}
+use Rattle.std.proofs.Common.{refl, sym, ap, subst, ◌∙◌}
 use Rattle.std.proofs.lemmas.Bool.{and_parts}
 use Rattle.fab_net.specs.declared.event.Event.TheVariants as events
 use Rattle.fab_net.specs.declared.event.Inner.{Inner}
@@ -8,13 +8,13 @@ use Rattle.fab_net.specs.declared.note.Logged.{Logged}
 use Rattle.fab_queues.specs.Channels.{Network}
 use Rattle.fab_world.specs.Machine.{Setting, World, Fails, enabled, may, node_of}
 use Rattle.fab_world.specs.Serial.{attempts}
-use Rattle.fab_node.specs.Standing.{GivenModel, NodeModel}
+use Rattle.fab_node.specs.Standing.{GivenModel, JournalModel, NodeModel}
 use Rattle.fab_nodes.specs.Acts.{AreAmong, bytes_through}
-use Rattle.fab_core.specs.Cores.{CoreModel, IsCore, failure, move_of, setting, world_by}
-use Rattle.fab_core.specs.Moved.{HasFailed, IsCaused}
+use Rattle.fab_core.specs.Cores.{CoreModel, IsCore, failure, move_of, setting, slot, world_by}
+use Rattle.fab_core.specs.Moved.{HasFailed}
 use Rattle.fab_core.specs.Places.{AreOthers, HasFailedAt, HasNode, journals_of}
 use Rattle.fab_core.proofs.Fallen.{IsDropped}
-use Rattle.fab_core.proofs.Filled.{none_caused, stands_at}
+use Rattle.fab_core.proofs.Filled.{stands_at}
 use Rattle.fab_core.proofs.Moving.{seen}
 use Rattle.fab_core.proofs.Wholly.{among_by, lost_by, own, own_below}
 
@@ -52,13 +52,24 @@ module _ (g : GivenModel) (nodes : List (Option NodeModel)) (queues : Network) (
 
 -- ---- what contracts see of it
 
+-- a node in the place of another one with its journal
+pub journals_set : (nodes : List (Option NodeModel)) (n : ℕ) (x y : NodeModel) → slot nodes n ≡ Some x → y.journal ≡ x.journal
+    → journals_of (slice_set nodes n (Some y)) ≡ journals_of nodes
+journals_set [] n x y h same = refl
+journals_set (None ∷ xs) zero x y h same = absurd cc
+journals_set (Some z ∷ xs) zero x y h same =
+    let one : z ≡ x = cc in
+    ap (λ (j : JournalModel). Some j ∷ journals_of xs) (same ∙ ap (λ (k : NodeModel). k.journal) (sym one))
+journals_set (None ∷ xs) (suc n) x y h same = ap (λ (js : List (Option JournalModel)). None ∷ js) (journals_set xs n x y h same)
+journals_set (Some z ∷ xs) (suc n) x y h same = ap (λ (js : List (Option JournalModel)). Some z.journal ∷ js) (journals_set xs n x y h same)
+
 module _ (old : CoreModel) (g : GivenModel) (log : List Logged) (nodes : List (Option NodeModel)) (view : seen g log nodes ≡ old) (e : Inner) where
   pub failed_on : {X E : Type 0} (x : X) (new_log : List Logged) (new : List (Option NodeModel)) → map move_of new_log ≡ map move_of log ++ failure e ∷ []
-      → IsCaused (node_of e) ⊥ (journals_of nodes) (journals_of new) → HasFailed {X = X} {E = E} e (Ok x) old (seen g new_log new)
-  failed_on {X} {E} x new_log new moves cause =
-      subst (λ (m : CoreModel). HasFailed {X = X} {E = E} e (Ok x) m (seen g new_log new)) view (record { given = refl; moves = moves; memory = tt; cause = cause })
+      → journals_of new ≡ journals_of nodes → HasFailed {X = X} {E = E} e (Ok x) old (seen g new_log new)
+  failed_on {X} {E} x new_log new moves journals =
+      subst (λ (m : CoreModel). HasFailed {X = X} {E = E} e (Ok x) m (seen g new_log new)) view (record { given = refl; moves = moves; memory = tt; journals = journals })
 
   pub fails_not : {X E : Type 0} (problem : E) (new_log : List Logged) → new_log ≡ log → HasFailed {X = X} {E = E} e (Err problem) old (seen g new_log nodes)
   fails_not {X} {E} problem new_log same =
       subst (λ (m : CoreModel). HasFailed {X = X} {E = E} e (Err problem) m (seen g new_log nodes)) view
-      (record { given = refl; moves = tt; memory = ap (map move_of) same; cause = none_caused (node_of e) ⊥ (journals_of nodes) (λ h. h) })
+      (record { given = refl; moves = tt; memory = ap (map move_of) same; journals = refl })

@@ -3,7 +3,7 @@ use Rattle.std.specs.Prelude.{◌≡◌, ◌≤◌, ℕ, Bool, true, IsTrue, Lis
 use Rattle.fab_base.specs.Faults.{Rose}
 use Rattle.fab_net.specs.declared.event.Event.{Event}
 use Rattle.fab_net.specs.declared.event.Inner.{Inner}
-use Rattle.fab_net.specs.Events.{node_at, node_of}
+use Rattle.fab_net.specs.Events.{node_at}
 use Rattle.fab_world.specs.Machine.{Move}
 use Rattle.fab_node.specs.Standing.{JournalModel}
 use Rattle.fab_core.specs.Cores.{CoreModel, failure, marked, slot, unmarked}
@@ -56,4 +56,4 @@ pub record HasFailed {X E : Type 0} (inner : Inner) (result : Result X E) (old n
   pub given : new.given ≡ old.given
   pub moves : OnOk result (new.moves ≡ old.moves ++ failure inner ∷ [])
   pub memory : OnErr result (new.moves ≡ old.moves)
-  pub cause : IsCaused (node_of inner) ⊥ old.journals new.journals
+  pub journals : new.journals ≡ old.journals

@@ -7,22 +7,23 @@ use Rattle.fab_reports.proofs.Given.{shared_le}
 pub shared_within_word : (w v bytes : List ℕ) → shared w bytes < length w → shared (w ++ v) bytes ≡ shared w bytes
 shared_within_word [] v bytes h = absurd (omega arith)
 shared_within_word (c ∷ w) v [] h = refl
-shared_within_word (c ∷ w) v (b ∷ bytes) h = by (eqb c b) refl h
+shared_within_word (c ∷ w) v (b ∷ bytes) h = by (λ g. shared_within_word w v bytes g) (eqb c b) h
   where
-    by : (t : Bool) → eqb c b ≡ t → cond t (suc (shared w bytes)) 0 < suc (length w) → cond (eqb c b) (suc (shared (w ++ v) bytes)) 0 ≡ cond (eqb c b) (suc (shared w bytes)) 0
-    by true e g = rw e (ap suc (shared_within_word w v bytes (omega arith)))
-    by false e g = rw e refl
+    by : (shared w bytes < length w → shared (w ++ v) bytes ≡ shared w bytes) → (t : Bool) → cond t (suc (shared w bytes)) 0 < suc (length w)
+        → cond t (suc (shared (w ++ v) bytes)) 0 ≡ cond t (suc (shared w bytes)) 0
+    by later true g = ap suc (later (omega arith))
+    by later false g = refl
 
 -- and what goes on behind it, goes on there
 shared_behind_word : (w v bytes : List ℕ) → shared w bytes ≡ length w → shared (w ++ v) bytes ≡ length w + shared v (drop (length w) bytes)
 shared_behind_word [] v bytes h = omega arith
 shared_behind_word (c ∷ w) v [] h = absurd (omega arith)
-shared_behind_word (c ∷ w) v (b ∷ bytes) h = by (eqb c b) refl h
+shared_behind_word (c ∷ w) v (b ∷ bytes) h = by (λ g. shared_behind_word w v bytes g) (eqb c b) h
   where
-    by : (t : Bool) → eqb c b ≡ t → cond t (suc (shared w bytes)) 0 ≡ suc (length w)
-        → cond (eqb c b) (suc (shared (w ++ v) bytes)) 0 ≡ suc (length w) + shared v (drop (length w) bytes)
-    by true e g = rw e (let more = shared_behind_word w v bytes (omega arith) in omega arith)
-    by false e g = absurd (omega arith)
+    by : (shared w bytes ≡ length w → shared (w ++ v) bytes ≡ length w + shared v (drop (length w) bytes)) → (t : Bool) → cond t (suc (shared w bytes)) 0 ≡ suc (length w)
+        → cond t (suc (shared (w ++ v) bytes)) 0 ≡ suc (length w) + shared v (drop (length w) bytes)
+    by later true g = let more = later (omega arith) in omega arith
+    by later false g = absurd (omega arith)
 
 pub shared_past_word : (w v bytes : List ℕ) → length w ≤ shared w bytes → shared (w ++ v) bytes ≡ shared w bytes + shared v (drop (shared w bytes) bytes)
 shared_past_word w v bytes far =

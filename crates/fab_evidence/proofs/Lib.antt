@@ -7,7 +7,7 @@ pub mod Fronts
 -- names of nodes, each with a space behind it
 pub mod Names
 -- journals one after the other
-pub mod Journals
+pub mod Steps
 -- a report and the journals behind it
 pub mod Audits
 -- worked examples of the definitions

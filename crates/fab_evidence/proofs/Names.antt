@@ -20,20 +20,25 @@ not_space c h = grind (arith, nat_tests)
 space_not : (c : ℕ) → is_word_byte c ≡ true → eqb 32 c ≡ false
 space_not c h = grind (arith, nat_tests)
 
+zero_suc : (n : ℕ) → eqb 0 (suc n) ≡ false
+zero_suc n = grind (arith, nat_tests)
+
+suc_suc : (m n : ℕ) → eqb m n ≡ false → eqb (suc m) (suc n) ≡ false
+suc_suc m n h = grind (arith, nat_tests)
+
 -- of two words that aren't the same, each with a space, the one isn't the front of the other
 not_front : (a b : List ℕ) → list_all is_word_byte a ≡ true → list_all is_word_byte b ≡ true → (a ≡ b → ⊥)
     → eqb (shared (a ++ 32 ∷ []) (b ++ 32 ∷ [])) (length (a ++ 32 ∷ [])) ≡ false
 not_front [] [] wa wb other = absurd (other refl)
 not_front [] (d ∷ b) wa wb other = rw (space_not d (and_parts (is_word_byte d) (list_all is_word_byte b) wb).0) refl
-not_front (c ∷ a) [] wa wb other = rw (not_space c (and_parts (is_word_byte c) (list_all is_word_byte a) wa).0) refl
-not_front (c ∷ a) (d ∷ b) wa wb other = by (eqb c d) refl
+not_front (c ∷ a) [] wa wb other = rw (not_space c (and_parts (is_word_byte c) (list_all is_word_byte a) wa).0) (zero_suc (length (a ++ 32 ∷ [])))
+not_front (c ∷ a) (d ∷ b) wa wb other =
+    by (not_front a b (and_parts (is_word_byte c) (list_all is_word_byte a) wa).1 (and_parts (is_word_byte d) (list_all is_word_byte b) wb).1) (eqb c d) refl
   where
-    by : (t : Bool) → eqb c d ≡ t
-        → eqb (cond (eqb c d) (suc (shared (a ++ 32 ∷ []) (b ++ 32 ∷ []))) 0) (suc (length (a ++ 32 ∷ []))) ≡ false
-    by true e =
-        let one : c ≡ d = eqb-true c d e in
-        rw e (not_front a b (and_parts (is_word_byte c) (list_all is_word_byte a) wa).1 (and_parts (is_word_byte d) (list_all is_word_byte b) wb).1 (λ same. other cc))
-    by false e = rw e refl
+    by : ((a ≡ b → ⊥) → eqb (shared (a ++ 32 ∷ []) (b ++ 32 ∷ [])) (length (a ++ 32 ∷ [])) ≡ false) → (t : Bool) → eqb c d ≡ t
+        → eqb (cond t (suc (shared (a ++ 32 ∷ []) (b ++ 32 ∷ []))) 0) (suc (length (a ++ 32 ∷ []))) ≡ false
+    by later true e = let one : c ≡ d = eqb-true c d e in suc_suc (shared (a ++ 32 ∷ []) (b ++ 32 ∷ [])) (length (a ++ 32 ∷ [])) (later (λ same. other cc))
+    by later false e = zero_suc (length (a ++ 32 ∷ []))
 
 neither : (a b : List ℕ) → IsWord a → IsWord b → (a ≡ b → ⊥) → begins_neither (a ++ 32 ∷ []) (b ++ 32 ∷ []) ≡ true
 neither a b wa wb other =

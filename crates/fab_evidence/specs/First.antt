@@ -39,9 +39,9 @@ row_of text = record { kind = kind_of text; text = text }
 abbrev pub rows_of : List ℕ → List Row
 rows_of text = map row_of (lines_in text)
 
--- an event that may not come has no line
+-- what is kept in the place of an event that may not come
 abbrev pub not_enabled : Row
-not_enabled = record { kind = 1; text = codes "not enabled" }
+not_enabled = record { kind = kind_of (codes "event"); text = codes "not enabled" }
 
 -- so many lines, and then such an event
 abbrev pub up_to_barred : ℕ → List Row → List Row

@@ -36,11 +36,7 @@ fn is_whole(name: &[u8], shared: usize) -> bool
 }
 
 /// Which of these nodes is named at the front, and the bytes behind its name and a space.
-fn node_of<'a>(
-    program: &Resolved,
-    nodes: &[u16],
-    bytes: &'a [u8],
-) -> Result<(u16, &'a [u8]), Stop>
+fn node_of<'a>(program: &Resolved, nodes: &[u16], bytes: &'a [u8]) -> Result<(u16, &'a [u8]), Stop>
     ensures { Gives (λ x. (x.0, x.1.now)) result (kind_at (name_before program.now) nodes.now bytes.now) }
 {
     let mut longest = 0;

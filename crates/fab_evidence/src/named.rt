@@ -37,7 +37,9 @@ fn named_inner(program: &Resolved, event: &ShownInner) -> Option<Inner>
         ShownInner::Begin { worker } => Some(Inner::Begin(node_named(program, worker.as_str())?)),
         ShownInner::Resume { worker } => Some(Inner::Resume(node_named(program, worker.as_str())?)),
         ShownInner::Deliver {
-            sender, receiver, ..
+            sender,
+            receiver,
+            ..
         } => {
             let sender = node_named(program, sender.as_str())?;
             let receiver = node_named(program, receiver.as_str())?;

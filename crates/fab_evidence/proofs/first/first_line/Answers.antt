@@ -1,5 +1,6 @@
 use Rattle.std.proofs.Common.{◌≡◌, ◌∷◌, take, ap, ◌∙◌, rules, arith}
 use Rattle.std.proofs.lemmas.Bool.{ne_eqb}
+use Rattle.std.proofs.lemmas.List.{nil_from_length}
 use Rattle.std.proofs.lemmas.Grind.{common_steps}
 use Rattle.fab_evidence.specs.First.{lines_in}
 use Rattle.fab_evidence.proofs.Lines.{ended_here, never_ended, one_on}
@@ -18,4 +19,4 @@ returns-then-byte-eq10-clause-lines c =
     grind (arith, common_steps, e)
 
 pub returns-clause-lines : goal.returns-clause-lines
-returns-clause-lines c = never_ended c.args.bytes.now c.letters.rest.now c.letters.count c.letters.invariant (search rules) c.requires
+returns-clause-lines c = never_ended c.args.bytes.now c.letters.rest.now c.letters.count c.letters.invariant (nil_from_length c.letters.rest.now (c.in_default.ensures {u = tt}).cases) c.requires

@@ -1,5 +1,5 @@
 use Rattle.std.proofs.Common.{length}
-use Rattle.fab_evidence.proofs.Journals.{Goes}
+use Rattle.fab_evidence.proofs.Steps.{Goes}
 use Rattle.fab_evidence.proofs.journals.journals_of.Given as goal
 
 abbrev pub invariant-journals : goal.invariant-journals

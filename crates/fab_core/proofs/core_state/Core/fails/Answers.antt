@@ -6,7 +6,7 @@ use Rattle.fab_net.specs.declared.note.Logged.{Logged}
 use Rattle.std.proofs.lemmas.Result.{err_from_is_err_and}
 use Rattle.fab_world.specs.Machine.{node_of}
 use Rattle.fab_core.specs.Cores.{IsCore, failure, move_of}
-use Rattle.fab_core.specs.Moved.{HasFailed, IsCaused}
+use Rattle.fab_core.specs.Moved.{HasFailed}
 use Rattle.fab_core.specs.Places.{AreOthers, HasFailedAt, HasNode, journals_of}
 use Rattle.fab_core.proofs.Failed.{failed_on, failing, failing_among, failing_below, failing_node, fails_not}
 use Rattle.fab_core.proofs.Fallen.{IsDropped}
@@ -63,4 +63,4 @@ returns g c =
     failed_on c.args.self.now c.self.inside.given c.self.inside.log.items c.self.inside.nodes.items c.self.view_is c.args.inner _ c.note.new.log.items c.fail_at.new.nodes.items
     (ap (map move_of) (c.note.ensures ∙ (λ j. c.reserve.ensures.items j ++ c.failed_in.ensures j ∷ []))
     ∙ map-append move_of c.self.inside.log.items (record { event = events.CrashIn 0 c.args.inner; bytes = c.in_ok-bytes.bytes; notes = []; whole = false; marked = true } ∷ []))
-    (subst (λ k. IsCaused k ⊥ (journals_of c.self.inside.nodes.items) (journals_of c.fail_at.new.nodes.items)) c.node_of.ensures c.fail_at.ensures.journals)
+    c.fail_at.ensures.journals

@@ -1,5 +1,5 @@
 -- Journals are read one after the other: what one step says of the bytes, and of those behind it.
-use Rattle.std.proofs.Common.{◌≡◌, ℕ, suc, ◌==◌, ◌<◌, ◌||◌, Bool, true, false, List, [], ◌∷◌, ◌++◌, length, Ok, Err, refl, sym, ap, subst, ◌∙◌, append_assoc, length-append, arith, inl, inr, ◌⊎◌}
+use Rattle.std.proofs.Common.{◌≡◌, ℕ, suc, ◌==◌, ◌<◌, ◌||◌, if◌then◌else◌, Bool, true, false, List, [], ◌∷◌, ◌++◌, length, Ok, Err, refl, sym, ap, subst, ◌∙◌, append_assoc, length-append, arith, inl, inr, ◌⊎◌}
 use Rattle.std.proofs.lemmas.Bool.{eqb-true, or_parts}
 use Rattle.std.proofs.lemmas.Bool.Decides.{nat_tests}
 use Rattle.std.proofs.lemmas.List.{append-nil}
@@ -28,19 +28,19 @@ joined a b =
 among_in : (n : ℕ) (nodes : List ℕ) → IsIn n nodes → list_any (λ m. m == n) nodes ≡ true
 among_in n [] i = absurd i
 among_in n (m ∷ ms) (inl same) = rw (ap (λ (k : ℕ). m == k) same ∙ eqb-refl m) refl
-among_in n (m ∷ ms) (inr i) = by (m == n)
+among_in n (m ∷ ms) (inr i) = by (among_in n ms i) (m == n)
   where
-    by : (t : Bool) → (t || list_any (λ k. k == n) ms) ≡ true
-    by true = refl
-    by false = among_in n ms i
+    by : list_any (λ k. k == n) ms ≡ true → (t : Bool) → (t || list_any (λ k. k == n) ms) ≡ true
+    by later true = refl
+    by later false = later
 
 in_among : (n : ℕ) (nodes : List ℕ) → list_any (λ m. m == n) nodes ≡ true → IsIn n nodes
 in_among n [] h = absurd cc
-in_among n (m ∷ ms) h = by (m == n) refl h
+in_among n (m ∷ ms) h = by (λ g. in_among n ms g) (m == n) refl h
   where
-    by : (t : Bool) → (m == n) ≡ t → (t || list_any (λ k. k == n) ms) ≡ true → (n ≡ m) ⊎ IsIn n ms
-    by true e g = inl (sym (eqb-true m n e))
-    by false e g = inr (in_among n ms g)
+    by : (list_any (λ k. k == n) ms ≡ true → IsIn n ms) → (t : Bool) → (m == n) ≡ t → (t || list_any (λ k. k == n) ms) ≡ true → (n ≡ m) ⊎ IsIn n ms
+    by later true e g = inl (sym (eqb-true m n e))
+    by later false e g = inr (later g)
 
 module _ (r : Resolved) where
   -- a journal that may come first of these nodes
@@ -75,8 +75,8 @@ module _ (r : Resolved) where
     reads : Reads (journal_at r nodes) (journal_line r) (IsFirst nodes)
     reads = journal_reads nodes n some named
 
-    abbrev left : List ℕ
-    left = behind journal.node nodes
+    abbrev nodes_left : List ℕ
+    nodes_left = behind journal.node nodes
 
     found : (bytes ≡ journal_line r journal ++ after) × IsFirst nodes journal
     found = reads.found bytes journal after are_bytes is
@@ -88,31 +88,30 @@ module _ (r : Resolved) where
     shorter = omega (arith, ap length found.0, length-append (journal_line r journal) after, line_long journal)
 
     -- what goes on behind it, goes on in all
-    with_first : (first second : List ℕ) (journals : List ShownJournal) → first ≡ journal_line r journal ++ second → AreJournals r left second journals
+    with_first : (first second : List ℕ) (journals : List ShownJournal) → first ≡ journal_line r journal ++ second → AreJournals r nodes_left second journals
         → AreJournals r nodes first (journal ∷ journals)
     with_first first second journals cut h = record { order = (found.1.0, found.1.1, h.order); spelled = cut ∙ ap (λ (x : List ℕ). journal_line r journal ++ x) h.spelled }
 
-    pub on_more : (journals : List ShownJournal) → AreJournals r left after journals → AreJournals r nodes bytes (journal ∷ journals)
+    pub on_more : (journals : List ShownJournal) → AreJournals r nodes_left after journals → AreJournals r nodes bytes (journal ∷ journals)
     on_more journals h = with_first bytes after journals found.0 h
 
     -- whatever begins with the line of the journal has it first
     without_first : (second : List ℕ) (journals : List ShownJournal) → AreJournals r nodes (journal_line r journal ++ second) journals
-        → (others : List ShownJournal) × (journals ≡ journal ∷ others) × AreJournals r left second others
+        → (others : List ShownJournal) × (journals ≡ journal ∷ others) × AreJournals r nodes_left second others
     without_first second [] h = let long = line_long journal in absurd (omega (arith, ap length h.spelled, length-append (journal_line r journal) second))
     without_first second (x ∷ xs) h =
-        let one = one_reading reads journal x second (text xs) found.1 (h.order.0, h.order.1) h.spelled in
-        (
+        let one = one_reading reads journal x second (text xs) found.1 (h.order.0, h.order.1) h.spelled in (
           xs,
           ap (λ (y : ShownJournal). y ∷ xs) (sym one.0),
           record { order = subst (λ (y : ShownJournal). AreOf (behind y.node nodes) xs) (sym one.0) h.order.2; spelled = one.1 },
         )
 
     pub on_only : (journals : List ShownJournal) → AreJournals r nodes bytes journals
-        → (others : List ShownJournal) × (journals ≡ journal ∷ others) × AreJournals r left after others
+        → (others : List ShownJournal) × (journals ≡ journal ∷ others) × AreJournals r nodes_left after others
     on_only journals h = without_first after journals (record { order = h.order; spelled = sym found.0 ∙ h.spelled })
 
     -- where none goes on behind it, none is in all
-    pub on_none : (k : ℕ) → AreNone r left after k → AreNone r nodes bytes k
+    pub on_none : (k : ℕ) → AreNone r nodes_left after k → AreNone r nodes bytes k
     on_none k h = record {
       front = journal_line r journal ++ h.front;
       back = h.back;
@@ -195,11 +194,11 @@ module _ (r : Resolved) where
 
   named_behind : (n : ℕ) (nodes : List ℕ) → AreNamed r nodes → AreNamed r (behind n nodes)
   named_behind n [] named = tt
-  named_behind n (m ∷ ms) named = by (m == n)
+  named_behind n (m ∷ ms) named = by (named_behind n ms named.2) (m == n)
     where
-      by : (t : Bool) → AreNamed r (elim t as (λ _. List ℕ) [ true ↦ ms | false ↦ behind n ms ])
-      by true = named.2
-      by false = named_behind n ms named.2
+      by : AreNamed r (behind n ms) → (t : Bool) → AreNamed r (if t then ms else behind n ms)
+      by later true = named.2
+      by later false = later
 
   pub goes_on : (nodes bytes left rest after : List ℕ) (done : List ShownJournal) (journal : ShownJournal) (n : ℕ) → IsIn n left → journal_at r left rest ≡ Ok (journal, after)
       → Goes nodes bytes left rest done → Goes nodes bytes (behind journal.node left) after (done ++ journal ∷ [])
@@ -249,3 +248,7 @@ module _ (r : Resolved) where
 pub first_in : (nodes : List ℕ) → 0 < length nodes → (n : ℕ) × IsIn n nodes
 first_in [] h = absurd (omega arith)
 first_in (n ∷ ns) h = (n, inl refl)
+
+pub some_length : {A : Type 0} (xs : List A) → (length xs == 0) ≡ false → 0 < length xs
+some_length [] h = absurd cc
+some_length (x ∷ xs) h = omega arith
