@@ -8,7 +8,7 @@ use Rattle.fab_tree.specs.declared.resolved.Resolved.{Resolved}
 use Rattle.fab_wire.specs.Reading.{Fails}
 use Rattle.fab_wire.specs.declared.stop.Stop.{Stop}
 use Rattle.fab_wire.specs.declared.stop.Stop.TheVariants as stops
-use Rattle.fab_wire.proofs.ReaderLaws.{IsBytes, IsBytes-rest, Stops, one_reading}
+use Rattle.fab_wire.proofs.ReaderLaws.{IsBytes, IsBytes-rest, one_reading}
 use Rattle.fab_reports.specs.declared.line.Line.{Line}
 use Rattle.fab_reports.specs.Lines.{spelled_line}
 use Rattle.fab_reports.specs.Reading.{report_at}

@@ -1,5 +1,5 @@
 -- One line more of two texts, side by side.
-use Rattle.std.proofs.Common.{◌≡◌, ℕ, zero, suc, ◌-◌, ◌<◌, Bool, true, cond, List, [], ◌∷◌, ◌++◌, map, take, Option, Result, refl, sym, ap, subst, ◌∙◌, arith}
+use Rattle.std.proofs.Common.{◌≡◌, ℕ, zero, suc, ◌-◌, ◌<◌, Bool, true, cond, List, [], ◌∷◌, map, Option, Result, sym, ap, subst, ◌∙◌, arith}
 use Rattle.std.specs.Prelude.{IfOk, nat_lt}
 use Rattle.std.specs.Str.{bytes_eq}
 use Rattle.fab_evidence.specs.declared.shown.Difference.{Difference}

@@ -1,5 +1,5 @@
 -- What the lines of a report tell of a run: its events, each with a mark where a call of the journal counts as having failed in it.
-use Rattle.std.specs.Prelude.{ℕ, ◌==◌, Bool, true, false, not, ◌&&◌, List, [], ◌∷◌, Option, Some, None}
+use Rattle.std.specs.Prelude.{ℕ, ◌==◌, Bool, true, false, not, ◌&&◌, List, [], ◌∷◌, Option}
 use Rattle.std.specs.List.{list_any}
 use Rattle.std.specs.Option.{option_map}
 use Rattle.fab_tree.specs.declared.resolved.Resolved.{Resolved}

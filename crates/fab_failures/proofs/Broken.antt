@@ -1,7 +1,7 @@
 -- Two worlds that are the same but for one node, which has failed for good in the second: what others do keeps them so.
-use Rattle.std.proofs.Common.{◌≡◌, ℕ, suc, ◌==◌, ◌||◌, ◌&&◌, Bool, true, false, not, cond, List, [], ◌∷◌, ◌++◌, map, length, Option, Some, None, is_some, refl, sym, ap, subst, ◌∙◌, arith, inl, inr}
-use Rattle.std.specs.Prelude.{IsTrue, nat_le, if◌then◌else◌}
-use Rattle.std.specs.List.{list_all, AllByRecursion}
+use Rattle.std.proofs.Common.{◌≡◌, ℕ, suc, ◌==◌, ◌||◌, ◌&&◌, Bool, true, false, not, List, [], ◌∷◌, ◌++◌, length, Option, Some, None, is_some, refl, sym, ap, subst, ◌∙◌, arith, inl, inr}
+use Rattle.std.specs.Prelude.{nat_le, if◌then◌else◌}
+use Rattle.std.specs.List.{list_all}
 use Rattle.std.proofs.lemmas.Bool.{and_from, and_parts, cases_eq, eq-eqb, ne_eqb}
 use Rattle.std.proofs.lemmas.Bool.Decides.{nat_tests}
 use Rattle.fab_base.specs.declared.entry.Entry.{Entry}
@@ -11,7 +11,6 @@ use Rattle.fab_net.specs.declared.event.Event.TheVariants as ne
 use Rattle.fab_net.specs.declared.event.Inner.{Inner}
 use Rattle.fab_net.specs.declared.event.Inner.TheVariants as i
 use Rattle.fab_net.specs.declared.note.Logged.{Logged}
-use Rattle.fab_net.specs.declared.note.Note.{Note}
 use Rattle.fab_net.specs.Events.{node_at}
 use Rattle.fab_rights.specs.Computed.{is_node, nodes_in}
 use Rattle.fab_world.specs.Workers.{Act, fresh}

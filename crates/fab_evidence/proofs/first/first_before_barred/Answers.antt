@@ -1,5 +1,5 @@
-use Rattle.std.proofs.Common.{◌≡◌, ◌∷◌, ◌∙◌, ◌<◌, ◌-◌, map, ap, sym, arith, add-one}
-use Rattle.fab_evidence.specs.First.{Row, row_of, rows_of, up_to_barred}
+use Rattle.std.proofs.Common.{◌∷◌, ◌∙◌, ◌<◌, ◌-◌, map, ap, sym, arith, add-one}
+use Rattle.fab_evidence.specs.First.{row_of, rows_of, up_to_barred}
 use Rattle.fab_evidence.proofs.Walking.{differ_rows, first_up_to, same_rows}
 use Rattle.fab_evidence.proofs.first.first_before_barred.Goals as goal
 

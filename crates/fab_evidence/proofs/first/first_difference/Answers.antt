@@ -1,5 +1,5 @@
 use Rattle.std.proofs.Common.{◌∷◌, ◌∙◌, map, ap, sym}
-use Rattle.fab_evidence.specs.First.{Row, row_of, rows_of}
+use Rattle.fab_evidence.specs.First.{row_of, rows_of}
 use Rattle.fab_evidence.proofs.Walking.{differ_rows}
 use Rattle.fab_evidence.proofs.first.first_difference.Goals as goal
 

@@ -1,4 +1,4 @@
-use Rattle.std.proofs.Common.{◌≡◌, sym, arith}
+use Rattle.std.proofs.Common.{sym}
 use Rattle.fab_evidence.proofs.text.read_audit.Goals as goal
 
 pub overflow_sub-result : goal.overflow_sub-result
