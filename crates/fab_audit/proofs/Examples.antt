@@ -1,5 +1,5 @@
 -- Worked examples of right texts and of first wrong lines.
-use Rattle.std.proofs.Common.{◌≡◌, ℕ, true, false, List, [], ◌∷◌, ◌++◌, Option, Some, None, refl, codes, arith}
+use Rattle.std.proofs.Common.{◌≡◌, ℕ, true, false, List, [], ◌∷◌, ◌++◌, Some, refl, codes, arith}
 use Rattle.std.proofs.lemmas.Fmt.{decimal_digit}
 use Rattle.fab_tree.specs.declared.declaration.Role.TheVariants as roles
 use Rattle.fab_tree.specs.declared.name.Name.{Name}
@@ -15,7 +15,7 @@ use Rattle.fab_reports.specs.declared.line.Line.{Line}
 use Rattle.fab_reports.specs.declared.line.Line.TheVariants as l
 use Rattle.fab_evidence.specs.declared.shown.ShownJournal.{ShownJournal}
 use Rattle.fab_evidence.specs.First.{differ_at}
-use Rattle.fab_audit.specs.Runs.{front_of, honest_nodes, moves_of}
+use Rattle.fab_audit.specs.Runs.{front_of, honest_nodes}
 use Rattle.fab_audit.specs.Right.{IsKept, IsRight, first_wrong}
 
 abbrev named : List ℕ → Name
