@@ -14,6 +14,7 @@ pub mod Shortened
 pub mod Posted
 pub mod Crashed
 pub mod Moving
+pub mod Failed
 pub mod Slots
 pub mod Reached
 pub mod Seeing

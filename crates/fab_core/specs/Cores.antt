@@ -62,6 +62,10 @@ failed_in (e.Crash n) = e.Crash n
 abbrev pub marked : Event → Move
 marked event = record { event = failed_in event; marked = true }
 
+-- an event of a node in which a call of its journal failed
+abbrev pub failure : Inner → Move
+failure inner = record { event = e.CrashIn 0 inner; marked = true }
+
 -- ---- nodes, queues and posts by number
 
 abbrev pub is_honest : GivenModel → ℕ → Bool

@@ -1,11 +1,12 @@
 -- What an event makes of all nodes: the move by which the run grows, and what became of the journals.
-use Rattle.std.specs.Prelude.{◌≡◌, ◌≤◌, ℕ, Bool, true, IsTrue, List, [], ◌∷◌, ◌++◌, Option, Some, None, Result, Ok, Err, IfOk, OnErr}
+use Rattle.std.specs.Prelude.{◌≡◌, ◌≤◌, ℕ, Bool, true, IsTrue, List, [], ◌∷◌, ◌++◌, Option, Some, None, Result, Ok, Err, IfOk, OnOk, OnErr}
 use Rattle.fab_base.specs.Faults.{Rose}
 use Rattle.fab_net.specs.declared.event.Event.{Event}
+use Rattle.fab_net.specs.declared.event.Inner.{Inner}
 use Rattle.fab_net.specs.Events.{node_at}
 use Rattle.fab_world.specs.Machine.{Move}
 use Rattle.fab_node.specs.Standing.{JournalModel}
-use Rattle.fab_core.specs.Cores.{CoreModel, marked, slot, unmarked}
+use Rattle.fab_core.specs.Cores.{CoreModel, failure, marked, slot, unmarked}
 use Rattle.fab_core.specs.declared.applied.Applied.{Applied}
 use Rattle.fab_core.specs.declared.applied.Applied.TheVariants as a
 
@@ -48,3 +49,11 @@ pub record IsMoved {E : Type 0} (event : Event) (result : Result Applied E) (old
   pub moves : IfOk result (λ applied. new.moves ≡ old.moves ++ move_by applied event ∷ [])
   pub memory : OnErr result (new.moves ≡ old.moves)
   pub cause : IsCaused (node_at event) (IsCut result) old.journals new.journals
+
+-- A call of a journal counts as having failed in an event. What was given stays, and the journals do. The moves are one more; without memory they
+-- are as before.
+pub record HasFailed {X E : Type 0} (inner : Inner) (result : Result X E) (old new : CoreModel) : Type 0 where
+  pub given : new.given ≡ old.given
+  pub moves : OnOk result (new.moves ≡ old.moves ++ failure inner ∷ [])
+  pub memory : OnErr result (new.moves ≡ old.moves)
+  pub journals : new.journals ≡ old.journals

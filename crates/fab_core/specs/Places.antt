@@ -68,6 +68,15 @@ pub record IsDownAt (n : ℕ) (old new : List (Option NodeModel)) : Type 0 where
   pub here : IsAt n new after
   pub stands : (g : GivenModel) (x : Node) → Stands g x before → Stands g (down x) after
 
+-- it goes down for good, with the journal that it had
+pub record HasFailedAt (n : ℕ) (old new : List (Option NodeModel)) : Type 0 where
+  pub before : NodeModel
+  pub after : NodeModel
+  pub there : IsAt n old before
+  pub here : IsAt n new after
+  pub journal : after.journal ≡ before.journal
+  pub stands : (g : GivenModel) (x : Node) → Stands g x before → Stands g (failed x) after
+
 -- the others are as they were
 pub record AreOthers (n : ℕ) (old new : List (Option NodeModel)) : Type 0 where
   pub long : length new ≡ length old

@@ -8,6 +8,7 @@ mod core_state;
 mod crashing;
 mod cutting;
 mod enabled;
+mod failing;
 mod gathering;
 mod holding;
 mod laws;

@@ -1,7 +1,7 @@
 //! An honest node: what it is, its journal, and whether it is up.
 
 ghost use Rattle.std.specs.Prelude.{◌≡◌, true, false};
-ghost use Rattle.fab_node.specs.Deeds.{down};
+ghost use Rattle.fab_node.specs.Deeds.{down, failed};
 ghost use Rattle.fab_node.specs.Standing.{GivenModel, Stands};
 ghost use Rattle.fab_world.specs.Machine.{Node as Standing};
 
@@ -113,5 +113,15 @@ impl<J: Journal> Node<J> {
         ensures sure { self.new.journal.sure ≡ self.old.journal.sure }
     {
         self.up = false;
+    }
+
+    /// A call of its journal counts as having failed: the node goes down for good. Nothing is asked of the
+    /// journal, which stays as it was.
+    pub fn fail(&mut self)
+        ensures stands { (g : GivenModel) (x : Standing) → Stands g x self.old → Stands g (failed x) self.new }
+        ensures number { self.new.number ≡ self.old.number }
+        ensures journal { self.new.journal ≡ self.old.journal }
+    {
+        fail(&mut self.up, &mut self.failed);
     }
 }

@@ -23,4 +23,7 @@ pub use line::{
     Attempt, Line, ShownCommit, ShownEnding, ShownEvent, ShownInner, ShownName, ShownObject,
     ShownOutcome, ShownValue,
 };
+pub use reading::report_of;
 pub use report::read_events;
+pub use scanning::bytes_until;
+pub use word::{behind, shared_front};

@@ -76,7 +76,7 @@ fn line_of(alloc: Global, place: Place, bytes: &[u8]) -> Result<(Line, &[u8]), S
 }
 
 /// The lines of the report at the front.
-fn report_of(alloc: Global, bytes: &[u8]) -> Result<(Seq<Line>, &[u8]), Stop>
+pub fn report_of(alloc: Global, bytes: &[u8]) -> Result<(Seq<Line>, &[u8]), Stop>
     requires { length bytes.now < 4294967295 }
     ensures { Gives (λ x. (x.0, x.1.now)) result (report_at bytes.now) }
 {

@@ -185,7 +185,7 @@ pub(crate) fn word_until(alloc: Global, bytes: &[u8], end: u8) -> Result<(Text, 
 
 /// The bytes that stand at the front in digits, which end with this byte.
 #[tactic(auto, unfolding(crate::specs::Reading::bytes_before))]
-pub(crate) fn bytes_until(alloc: Global, bytes: &[u8], end: u8) -> Result<(Seq<u8>, &[u8]), Stop>
+pub fn bytes_until(alloc: Global, bytes: &[u8], end: u8) -> Result<(Seq<u8>, &[u8]), Stop>
     ensures { Gives (λ x. (x.0, x.1.now)) result (bytes_before end bytes.now) }
 {
     let ((found, _end), rest) = bytes_of(alloc, bytes, &[end])?;

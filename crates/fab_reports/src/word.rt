@@ -17,7 +17,7 @@ pub(crate) trait Word: Copy {
 }
 
 /// How many bytes two lists have in common at their fronts.
-fn shared_front(text: &[u8], bytes: &[u8]) -> usize
+pub fn shared_front(text: &[u8], bytes: &[u8]) -> usize
     ensures count { result ≡ shared text.now bytes.now }
     ensures within { result ≤ length bytes.now }
 {
@@ -38,7 +38,7 @@ fn shared_front(text: &[u8], bytes: &[u8]) -> usize
 }
 
 /// The bytes behind this text.
-pub(crate) fn behind<'a>(text: &[u8], bytes: &'a [u8]) -> Result<&'a [u8], Stop>
+pub fn behind<'a>(text: &[u8], bytes: &'a [u8]) -> Result<&'a [u8], Stop>
     ensures { Gives (λ rest. (text.now, rest.now)) result (exactly text.now bytes.now) }
 {
     let shared = shared_front(text, bytes);

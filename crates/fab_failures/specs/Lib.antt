@@ -1,0 +1,2 @@
+-- a failed call in the place of a cut
+pub mod Failures
