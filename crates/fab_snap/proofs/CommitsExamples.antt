@@ -2,7 +2,7 @@
 use Rattle.std.proofs.Common.{◌≡◌, ℕ, List, [], ◌∷◌, length, take, pos, Some, None, refl, ap, arith}
 use Rattle.fab_protocol.specs.Versions.{Rows, version_of}
 use Rattle.fab_protocol.proofs.Toy.{account, holding}
-use Rattle.fab_snap.specs.declared.commit.Commit.{Commit}
+use Rattle.fab_snap.specs.declared.write_set.WriteSet.{WriteSet}
 use Rattle.fab_snap.specs.Commits.{StartsWith, object_at, rows_after}
 
 -- 100 and 0
@@ -10,16 +10,16 @@ abbrev start : Rows
 start = (account 0, 1, holding (pos 100)) ∷ (account 1, 1, holding (pos 0)) ∷ []
 
 -- 5 go from the first to the second, a third account is made, and 20 go from the first to the third
-abbrev payment : Commit
+abbrev payment : WriteSet
 payment = record { leaves = (account 0, 2, holding (pos 95)) ∷ (account 1, 2, holding (pos 5)) ∷ [] }
 
-abbrev opening : Commit
+abbrev opening : WriteSet
 opening = record { leaves = (account 2, 1, holding (pos 0)) ∷ [] }
 
-abbrev second : Commit
+abbrev second : WriteSet
 second = record { leaves = (account 2, 2, holding (pos 20)) ∷ (account 0, 3, holding (pos 75)) ∷ [] }
 
-abbrev commits : List Commit
+abbrev commits : List WriteSet
 commits = payment ∷ opening ∷ second ∷ []
 
 nothing_yet : rows_after start (take 0 commits) ≡ start
@@ -55,7 +55,7 @@ not_fewer : StartsWith (take 1 commits) (take 2 commits) → ⊥
 not_fewer s = let other : payment ∷ [] ≡ payment ∷ opening ∷ s.0 = s.1 in cc
 
 -- how many names the first of these leaves
-abbrev first_leaves : List Commit → ℕ
+abbrev first_leaves : List WriteSet → ℕ
 first_leaves [] = 0
 first_leaves (c ∷ cs) = length c.leaves
 

@@ -1,2 +1,3 @@
 pub mod Rises
 mod CommitsExamples
+pub mod Crossing

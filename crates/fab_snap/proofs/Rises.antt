@@ -9,7 +9,7 @@ use Rattle.left_right.specs.Register.{Admits, TurnsAt, Forks, Merges}
 use Rattle.atomic_table.proofs.Lists.{at_set, at_snoc}
 use Rattle.fab_protocol.specs.Tables.{placed_all}
 use Rattle.fab_protocol.specs.Versions.{Rows, name_of}
-use Rattle.fab_snap.specs.declared.commit.Commit.{Commit}
+use Rattle.fab_snap.specs.declared.write_set.WriteSet.{WriteSet}
 use Rattle.fab_snap.specs.declared.state.Change.{Change}
 use Rattle.fab_snap.specs.declared.state.Snap.{Snap}
 use Rattle.fab_snap.specs.declared.rule.View.{View}
@@ -19,39 +19,39 @@ use Rattle.fab_snap.specs.Rule.{Keeps, Knows, Publishes, informed, newcomer}
 
 -- ---- lists that begin with others
 
-pub starts_itself : (l : List Commit) → StartsWith l l
+pub starts_itself : (l : List WriteSet) → StartsWith l l
 starts_itself l = ([], sym (append-nil l))
 
-pub starts_empty : (l : List Commit) → StartsWith l []
+pub starts_empty : (l : List WriteSet) → StartsWith l []
 starts_empty l = (l, refl)
 
-pub starts_on : (a b c : List Commit) → StartsWith c b → StartsWith b a → StartsWith c a
+pub starts_on : (a b c : List WriteSet) → StartsWith c b → StartsWith b a → StartsWith c a
 starts_on a b c g f = (f.0 ++ g.0, g.1 ∙ ap (λ l. l ++ g.0) f.1 ∙ append_assoc a f.0 g.0)
 
-pub no_longer : (a b : List Commit) → StartsWith b a → length a ≤ length b
+pub no_longer : (a b : List WriteSet) → StartsWith b a → length a ≤ length b
 no_longer a b s = subst (λ l. length a ≤ length l) (sym s.1) (front a s.0)
   where
-    front : (xs ys : List Commit) → length xs ≤ length (xs ++ ys)
+    front : (xs ys : List WriteSet) → length xs ≤ length (xs ++ ys)
     front [] ys = omega arith
     front (x ∷ xs) ys = let h = front xs ys in omega arith
 
 -- a list of the same length that begins with another is it
-pub same_list : (a b : List Commit) → StartsWith b a → length b ≡ length a → b ≡ a
+pub same_list : (a b : List WriteSet) → StartsWith b a → length b ≡ length a → b ≡ a
 same_list [] [] s e = refl
 same_list [] (y ∷ ys) s e = absurd (omega arith)
 same_list (x ∷ xs) b s e = s.1 ∙ ap (λ l. (x ∷ xs) ++ l) (none s.0 (left (x ∷ xs) s.0 (sym (ap length s.1) ∙ e))) ∙ append-nil (x ∷ xs)
   where
-    left : (zs ys : List Commit) → length (zs ++ ys) ≡ length zs → length ys ≡ 0
+    left : (zs ys : List WriteSet) → length (zs ++ ys) ≡ length zs → length ys ≡ 0
     left [] ys h = h
     left (z ∷ zs) ys h = left zs ys (omega arith)
 
-    none : (ys : List Commit) → length ys ≡ 0 → ys ≡ []
+    none : (ys : List WriteSet) → length ys ≡ 0 → ys ≡ []
     none [] h = refl
     none (y ∷ ys) h = absurd (omega arith)
 
 -- ---- the rule
 
-nothing : (start : Rows) (all : List Commit) → Knows start all newcomer
+nothing : (start : Rows) (all : List WriteSet) → Knows start all newcomer
 nothing start all = record { starts = tt; seen = starts_empty all; told = starts_empty all }
 
 pub admits : Admits Keeps newcomer
@@ -116,15 +116,15 @@ opens seat v x y count rows told same = turns seat v x y same ([], told ∙ sym 
   count = count ∙ h.count ∙ ap length (sym told);
 })
 
-rows_more : (start : Rows) (commits : List Commit) (c : Commit) → rows_after start (commits ++ c ∷ []) ≡ placed_all name_of c.leaves (rows_after start commits)
+rows_more : (start : Rows) (commits : List WriteSet) (c : WriteSet) → rows_after start (commits ++ c ∷ []) ≡ placed_all name_of c.leaves (rows_after start commits)
 rows_more start [] c = refl
 rows_more start (d ∷ commits) c = rows_more (placed_all name_of d.leaves start) commits c
 
-length_more : (commits : List Commit) (c : Commit) → length (commits ++ c ∷ []) ≡ length commits + 1
+length_more : (commits : List WriteSet) (c : WriteSet) → length (commits ++ c ∷ []) ≡ length commits + 1
 length_more [] c = refl
 length_more (d ∷ commits) c = let h = length_more commits c in omega arith
 
-pub publishes : (seat : ℕ) (v : View) (x y : Snap) (commits all : List Commit) (c : Commit) → commits_of x ≡ commits → IsBehind x → all ≡ commits ++ c ∷ []
+pub publishes : (seat : ℕ) (v : View) (x y : Snap) (commits all : List WriteSet) (c : WriteSet) → commits_of x ≡ commits → IsBehind x → all ≡ commits ++ c ∷ []
     → y.count ≡ x.count + 1 → y.rows.rows ≡ placed_all name_of c.leaves x.rows.rows → commits_of y ≡ all → start_of y ≡ start_of x → TurnsAt Keeps seat v x y Publishes
 publishes seat v x y commits all c is behind more count rows told same =
     let e : commits_of y ≡ commits_of x ++ c ∷ [] = told ∙ more ∙ ap (λ l. l ++ c ∷ []) (sym is) in

@@ -3,7 +3,7 @@ use Rattle.std.specs.Prelude.{◌≡◌, ℕ, List, [], IfSome, Some, None, unwr
 use mathlib.Core.Option.{some}
 use lib.ListN.{get_elem?}
 use Rattle.fab_protocol.specs.Versions.{Rows}
-use Rattle.fab_snap.specs.declared.commit.Commit.{Commit}
+use Rattle.fab_snap.specs.declared.write_set.WriteSet.{WriteSet}
 use Rattle.fab_snap.specs.declared.rule.View.{View}
 use Rattle.fab_snap.specs.declared.state.Snap.{Snap}
 use Rattle.fab_snap.specs.Commits.{StartsWith}
@@ -22,7 +22,7 @@ abbrev pub start_known : View → Rows
 start_known v = unwrap_or v.start []
 
 -- all that is known is so: the start, and commits that the published ones begin with
-pub record Knows (start : Rows) (all : List Commit) (v : View) : Type 0 where
+pub record Knows (start : Rows) (all : List WriteSet) (v : View) : Type 0 where
   pub starts : IfSome v.start (λ rows. rows ≡ start)
   pub seen : StartsWith all v.seen
   pub told : StartsWith all v.told
@@ -42,7 +42,7 @@ pub record Publishes (v : View) (x y : Snap) (w : View) : Type 0 where
   pub behind : IsBehind y
 
 -- these are the commits of the state, and the writer has seen them
-pub record Leads (x : Snap) (v : View) (commits : List Commit) : Type 0 where
+pub record Leads (x : Snap) (v : View) (commits : List WriteSet) : Type 0 where
   pub all : commits_of x ≡ commits
   pub behind : IsBehind x
   pub seen : v.seen ≡ commits

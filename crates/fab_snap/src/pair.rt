@@ -5,9 +5,9 @@ ghost use Rattle.fab_snap.specs.Commits.{StartsWith, object_at, rows_after};
 ghost use Rattle.fab_snap.specs.Rule.{Leads};
 ghost use Rattle.fab_snap.specs.Shown.{start_of};
 
-use crate::commit::Commit;
 use crate::rule::{Notes, Published, Sees, View};
 use crate::state::{Change, Snap};
+use crate::write_set::WriteSet;
 use core::mem::replace_with;
 use fab_base::{NoMemory, Object, Oid};
 use fab_versions::Table;
@@ -21,7 +21,7 @@ use std::sync::Wait;
 /// Who adds commits. It isn't `Drop`: end it by `close`.
 pub struct SnapWriter {
     writer: Writer<Snap, Change, View, Published>,
-    commits: Vec<Commit>,
+    commits: Vec<WriteSet>,
     broken: bool,
 }
 
@@ -106,7 +106,7 @@ impl SnapWriter {
     }
 
     /// The commits that were added.
-    pub fn commits(&self) -> &[Commit]
+    pub fn commits(&self) -> &[WriteSet]
         ensures { result.now ≡ self.now.commits }
     {
         self.commits.as_slice()
@@ -133,7 +133,7 @@ impl SnapWriter {
     /// who still read the copy of the state that the last call took from readers. Each object is copied
     /// three times. Without memory, what is published and the list stay, and nothing can be added from
     /// then on; 4,294,967,295 commits are the most, and one more is answered so, too.
-    pub fn add<R: Wait>(&mut self, rt: &R, commit: &Commit) -> Result<(), NoMemory>
+    pub fn add<R: Wait>(&mut self, rt: &R, commit: &WriteSet) -> Result<(), NoMemory>
         requires { self.old.broken ≡ false }
         ensures ok { OnOk result (self.new ≡ record self.old { commits = self.old.commits ++ commit.now ∷ [] }) }
         ensures err { OnErr result (self.new ≡ record self.old { broken = true }) }
@@ -143,7 +143,7 @@ impl SnapWriter {
         })
     }
 
-    fn added<R: Wait>(self, rt: &R, commit: &Commit) -> (SnapWriter, Result<(), NoMemory>)
+    fn added<R: Wait>(self, rt: &R, commit: &WriteSet) -> (SnapWriter, Result<(), NoMemory>)
         requires { self.broken ≡ false }
         ensures ok { OnOk result.1 (result.0 ≡ record self { commits = self.commits ++ commit.now ∷ [] }) }
         ensures err { OnErr result.1 (result.0 ≡ record self { broken = true }) }
@@ -189,7 +189,7 @@ impl SnapWriter {
 }
 
 /// A writer to which nothing can be added.
-fn refused(writer: Writer<Snap, Change, View, Published>, commits: Vec<Commit>) -> SnapWriter
+fn refused(writer: Writer<Snap, Change, View, Published>, commits: Vec<WriteSet>) -> SnapWriter
     requires { Leads writer.desk.shown.value (view writer.desk.place) commits.items }
     ensures { result ≡ record { start = start_of writer.desk.shown.value; commits = commits.items; broken = true } }
 {
@@ -201,7 +201,7 @@ fn refused(writer: Writer<Snap, Change, View, Published>, commits: Vec<Commit>) 
 }
 
 /// Adds a commit to the list: the change to be published.
-fn changed(commits: &mut Vec<Commit>, commit: &Commit) -> Result<Change, NoMemory>
+fn changed(commits: &mut Vec<WriteSet>, commit: &WriteSet) -> Result<Change, NoMemory>
     ensures ok { IfOk result (λ c. (c.commit ≡ commit.now) × (commits.new.items ≡ commits.old.items ++ commit.now ∷ []) × (c.all.value.items ≡ commits.new.items)) }
     ensures err { OnErr result (commits.new.items ≡ commits.old.items) }
 {

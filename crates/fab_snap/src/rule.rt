@@ -1,8 +1,8 @@
 //! What each thread knows of the published commits, and what a step of one tells it.
 ghost use Rattle.fab_snap.specs.Rule.{Keeps, Publishes, informed, newcomer};
 
-use crate::commit::Commit;
 use crate::state::Snap;
+use crate::write_set::WriteSet;
 use atomic_table::{Join, Split};
 use crossbeam_utils::rule::{Outcome, Protocol};
 use fab_base::{Object, Oid, Seq};
@@ -12,8 +12,8 @@ use std::collections::LinkedList;
 /// of. No value of it is made.
 pub struct View {
     pub start: Option<Seq<(Oid, u32, Object)>>,
-    pub seen: LinkedList<Commit>,
-    pub told: LinkedList<Commit>,
+    pub seen: LinkedList<WriteSet>,
+    pub told: LinkedList<WriteSet>,
 }
 
 /// The commits that are published begin with all that anybody knows.

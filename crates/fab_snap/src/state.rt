@@ -5,7 +5,7 @@ ghost use Rattle.fab_protocol.specs.Versions.{name_of};
 ghost use Rattle.fab_snap.specs.Commits.{object_at};
 ghost use Rattle.fab_snap.specs.Shown.{commits_in};
 
-use crate::commit::Commit;
+use crate::write_set::WriteSet;
 use fab_base::{NoMemory, Object, Oid, Seq};
 use fab_versions::Table;
 use left_right::Absorb;
@@ -15,8 +15,8 @@ use std::snapshot::Snapshot;
 /// A commit, with the list of all commits up to it, which has no bytes.
 #[derive(Drop)]
 pub(crate) struct Change {
-    pub(crate) commit: Commit,
-    pub(crate) all: Snapshot<Vec<Commit>>,
+    pub(crate) commit: WriteSet,
+    pub(crate) all: Snapshot<Vec<WriteSet>>,
 }
 
 /// The rows after so many commits. The start and the last change have no bytes: they tell which rows
@@ -64,7 +64,7 @@ impl Absorb<Change> for Snap {
     type State = (
         u32,
         [(Oid, u32, Object); 0],
-        [Commit; 0],
+        [WriteSet; 0],
         [(Oid, u32, Object); 0],
     );
 
@@ -76,7 +76,7 @@ impl Absorb<Change> for Snap {
         if self.count == u32::MAX {
             return Err(AllocError);
         }
-        let Commit { leaves: copies } = operation.commit.copy(self.alloc)?;
+        let WriteSet { leaves: copies } = operation.commit.copy(self.alloc)?;
         make_room(&mut self.rows, copies.len())?;
         put_all(&mut self.rows, copies);
         self.count += 1;
@@ -94,7 +94,7 @@ impl Absorb<Change> for Snap {
         }
         let last = Snapshot::of(&operation);
         let Change { commit, all: _all } = operation;
-        let Commit { leaves } = commit;
+        let WriteSet { leaves } = commit;
         put_all(&mut self.rows, leaves);
         self.count += 1;
         self.last = Some(last);

@@ -1,5 +1,5 @@
 //! A writer and its readers, by example.
-use crate::{Commit, SnapReader, SnapWriter, last_read, snap_writer};
+use crate::{SnapReader, SnapWriter, WriteSet, last_read, snap_writer};
 use fab_base::{NoMemory, Object, Oid, Seq, Value};
 use fab_versions::Table;
 use std::alloc::{AllocError, Global};
@@ -35,12 +35,12 @@ fn start(alloc: Global) -> Result<Table, NoMemory> {
 }
 
 /// What these accounts have behind a commit.
-fn commit(alloc: Global, amounts: &[(u32, i32)]) -> Result<Commit, NoMemory> {
+fn commit(alloc: Global, amounts: &[(u32, i32)]) -> Result<WriteSet, NoMemory> {
     let mut leaves = Seq::new(alloc);
     for (number, amount) in amounts {
         leaves.push((account(*number), 2, holding(alloc, *amount)?))?;
     }
-    Ok(Commit { leaves })
+    Ok(WriteSet { leaves })
 }
 
 fn add<R: Wait>(
@@ -144,7 +144,7 @@ fn wrong_reads(reader: &mut SnapReader, times: u32) -> u32 {
                 } else {
                     count
                 };
-                let agrees = amount as u32 == wanted && count >= last;
+                let agrees = i64::from(amount) == i64::from(wanted) && count >= last;
                 wrong = wrong.wrapping_add(!agrees as u32);
                 last = count;
             }

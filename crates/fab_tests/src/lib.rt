@@ -18,3 +18,5 @@ mod sink_tests;
 mod tests;
 #[cfg(test)]
 mod view_tests;
+#[cfg(test)]
+mod watch_tests;

@@ -59,7 +59,18 @@ pub(crate) fn report_with<R: Abort + Threads + Wait + Sync, G: Gate + Sync>(
     text: &str,
     gate: &G,
 ) -> Result<(u8, String), NoMemory> {
-    let words = words_of(alloc, "run")?;
+    replied_with(rt, alloc, "run", text, gate)
+}
+
+/// The status and the text that these words give, with this gate around evaluations.
+pub(crate) fn replied_with<R: Abort + Threads + Wait + Sync, G: Gate + Sync>(
+    rt: &R,
+    alloc: Global,
+    words: &str,
+    text: &str,
+    gate: &G,
+) -> Result<(u8, String), NoMemory> {
+    let words = words_of(alloc, words)?;
     let mut source = SureSource::new(Seq::from_slice(alloc, text.as_bytes())?);
     let mut sink = SureSink::new(alloc)?;
     let mut journals = SureJournals::new(alloc)?;

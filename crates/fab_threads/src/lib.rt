@@ -18,7 +18,7 @@ mod watch;
 
 pub use alone::finish;
 pub use name::RunName;
-pub use running::{Finished, run_threads};
+pub use running::{Finished, run_threads, run_turning};
 pub use shared::{Aside, Shared};
 pub use turning::Turning;
 pub use watch::Rest;

@@ -266,6 +266,36 @@ fn run_named<X: Turning + Send, N: RunName + Send + Sync, R: Threads + Wait + Sy
     Ok((held, counts))
 }
 
+/// Has whatever takes turns take them until nothing is due: by a thread for each of these nodes, and what they leave by the calling thread.
+/// How many events each thread made, and how many the calling one. Without memory it is handed back as it then is.
+pub fn run_turning<X: Turning + Send, R: Threads + Wait + Sync, G: Gate + Sync>(
+    rt: &R,
+    alloc: Global,
+    held: X,
+    nodes: &[u16],
+    gate: &G,
+) -> Result<(X, Vec<u64>, u64), X>
+    requires { X.events held ≡ 0 }
+    ensures given { IfOk result (λ r. X.given r.0 ≡ X.given held) }
+    ensures sure { IfOk result (λ r. (n : ℕ) → X.sure r.0 n ≡ X.sure held n) }
+    ensures over { IfOk result (λ r. X.over r.0) }
+    ensures threads { IfOk result (λ r. vec_len r.1 ≡ length nodes.now) }
+    ensures counted { IfOk result (λ r. X.events r.0 ≡ sum r.1.items + r.2) }
+    ensures back_given { IfErr result (λ back. X.given back ≡ X.given held) }
+    ensures back_sure { IfErr result (λ back. (n : ℕ) → X.sure back n ≡ X.sure held n) }
+{
+    let blank = Blank::new(nodes.len() as u64 + 1);
+    let run = run_named::<X, Brand, R, G>(rt, alloc, held, nodes, gate, blank);
+    let (held, counts) = match run {
+        Ok(run) => run,
+        Err(back) => return Err(back),
+    };
+    match finish(rt, alloc, held, gate) {
+        Ok((held, own)) => Ok((held, counts, own)),
+        Err(back) => Err(back),
+    }
+}
+
 /// Runs an exchange until it is over: a thread for each of these nodes, and what they leave by the calling thread. The counts of all
 /// threads and of the calling one add up to the events of the run. Without memory the exchange is handed back as it then is.
 pub fn run_threads<J: Journal + Drop + Send, R: Threads + Wait + Sync, G: Gate + Sync>(
@@ -284,14 +314,8 @@ pub fn run_threads<J: Journal + Drop + Send, R: Threads + Wait + Sync, G: Gate +
     ensures back_given { IfErr result (λ back. back.given ≡ exchange.given) }
     ensures back_sure { IfErr result (λ back. AreAsSure exchange.journals back.journals) }
 {
-    let blank = Blank::new(nodes.len() as u64 + 1);
-    let run = run_named::<Exchange<J>, Brand, R, G>(rt, alloc, exchange, nodes, gate, blank);
-    let (exchange, counts) = match run {
-        Ok(run) => run,
-        Err(back) => return Err(back),
-    };
-    match finish(rt, alloc, exchange, gate) {
-        Ok((exchange, own)) => Ok(Finished {
+    match run_turning(rt, alloc, exchange, nodes, gate) {
+        Ok((exchange, counts, own)) => Ok(Finished {
             exchange,
             counts,
             own,
