@@ -36,12 +36,14 @@ pub record IsWatched (root : List ℕ) (times : ℕ) (P : GivenModel → List Mo
   pub counted : AreCounts times (commits_of_run (given_of h.start h.rights) h.moves) counts
   pub shown : Appends written written'
       (report_of (resolved h.start) h.rights h.moves
-      ++ reads_text (resolved h.start) (values_after (setting (given_of h.start h.rights)) (has_bit reading.classes) (commits_of_run (given_of h.start h.rights) h.moves) reading.oid) counts)
+      ++ reads_text (resolved h.start)
+      (values_after (setting (given_of h.start h.rights)) (has_bit reading.classes) (commits_of_run (given_of h.start h.rights) h.moves) reading.oid) counts)
   pub readable : IsReport (report_of (resolved h.start) h.rights h.moves) (lines_of (resolved h.start) h.rights h.moves)
 
 abbrev pub AreWatched : (List ℕ → ℕ → GivenModel → List Move → Type 0) → Type 0
 AreWatched P =
-    (root : List ℕ) (times : ℕ) (left left' written written' : Option (List ℕ)) (h : Headline (Some (Run (telling.Reads root times))) (P root times) left left' written written')
+    (root : List ℕ) (times : ℕ) (left left' written written' : Option (List ℕ))
+    (h : Headline (Some (Run (telling.Reads root times))) (P root times) left left' written written')
     → IsWatched root times (P root times) left left' written written' h
 
 -- of a whole schedule, and up to an event in which a node's journal failed; of a run that nodes made by themselves, without and with such an event,

@@ -214,7 +214,8 @@ IsNoRefusal _ = ⊥
 -- where `run` is asked of a text that has an accepted bundle, or `watch` of one whose root may be read, it isn't refused
 abbrev pub IsComplete : Option Command → Status → List ℕ → Type 0
 IsComplete command status text =
-    (s : Start) (rights : Rights) (x : Telling) → command ≡ Some (Run x) → Front text (outcome.Bundle s) → IsAcceptedWith s rights → AsksLabels (Run x) s → IsNoRefusal status
+    (s : Start) (rights : Rights) (x : Telling) → command ≡ Some (Run x) → Front text (outcome.Bundle s) → IsAcceptedWith s rights
+    → AsksLabels (Run x) s → IsNoRefusal status
 
 -- this status and the whole reply, or memory ran out, or the sink or a journal failed
 abbrev pub ComesTo : Status → Status → Option (List ℕ) → Option (List ℕ) → List ℕ → Type 0
