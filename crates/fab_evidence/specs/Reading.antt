@@ -46,11 +46,13 @@ pub record AreNone (r : Resolved) (nodes bytes : List ℕ) (left : ℕ) : Type 0
 
 -- a text has no others
 abbrev pub IsOnlyText : Resolved → List ℕ → List ℕ → Evidence → Type 0
-IsOnlyText r nodes text x = (lines : List Line) (journals : List ShownJournal) → IsAuditText r nodes text lines journals → (lines ≡ x.lines) × (journals ≡ x.journals)
+IsOnlyText r nodes text x =
+    (lines : List Line) (journals : List ShownJournal) → IsAuditText r nodes text lines journals → (lines ≡ x.lines) × (journals ≡ x.journals)
 
 -- what reading journals answers: these, and no others; or that there are none
 abbrev pub AnswersJournals : Resolved → List ℕ → List ℕ → Result (List ShownJournal) Stop → Type 0
-AnswersJournals r nodes bytes (Ok journals) = AreJournals r nodes bytes journals × ((others : List ShownJournal) → AreJournals r nodes bytes others → others ≡ journals)
+AnswersJournals r nodes bytes (Ok journals) =
+    AreJournals r nodes bytes journals × ((others : List ShownJournal) → AreJournals r nodes bytes others → others ≡ journals)
 AnswersJournals r nodes bytes (Err stops.Memory) = Unit {0}
 AnswersJournals r nodes bytes (Err (stops.Bad left)) = AreNone r nodes bytes left
 

@@ -58,7 +58,8 @@ AreOkUnlessMemory lines journals (Err errors.Memory) = Unit {0}
 AreOkUnlessMemory lines journals (Err (errors.Bad at)) = ⊥
 
 abbrev pub AnswersAudit : Resolved → List ℕ → List ℕ → Result Evidence TraceError → Type 0
-AnswersAudit r nodes text result = (lines : List Line) (journals : List ShownJournal) → IsAuditText r nodes text lines journals → AreOkUnlessMemory lines journals result
+AnswersAudit r nodes text result =
+    (lines : List Line) (journals : List ShownJournal) → IsAuditText r nodes text lines journals → AreOkUnlessMemory lines journals result
 
 -- a text that is refused is none of an audit, and goes wrong there
 abbrev pub RefusesRightly : Resolved → List ℕ → List ℕ → Result Evidence TraceError → Type 0
