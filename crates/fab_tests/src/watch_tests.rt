@@ -34,3 +34,19 @@ fn a_read_comes_behind_an_evaluation(rt: HostRuntime) -> Result<(), Fail> {
     assert!(&rt; !gate.gave_up());
     Ok(())
 }
+
+/// The first read waits for somebody who never comes, so the run is over before it: all lines tell the end.
+#[test]
+fn a_late_reader_sees_the_end(rt: HostRuntime) -> Result<(), Fail> {
+    let alloc = rt.alloc();
+    let text = format!(in alloc; "{TRANSFER}}}")?;
+    let gate = HoldGate::make(READER, 63);
+    let (status, told) = replied_with(&rt, alloc, "watch a 2", text.as_str(), &gate)?;
+    let end = format!(in alloc;
+        "{COMMITTED}end 11\nread 1 after 1 95\nread 2 after 1 95\nread 3 after 1 95\n"
+    )?;
+    assert_eq!(&rt; status, 0);
+    assert!(&rt; told.as_str().ends_with(end.as_str()), "{told}");
+    assert!(&rt; gate.gave_up());
+    Ok(())
+}
