@@ -1,6 +1,7 @@
 use Rattle.std.proofs.Common.{subst}
 use Rattle.fab_reads.specs.Reads.{NeverFall}
 use Rattle.fab_reads.proofs.Walking.{at_least_none}
+use Rattle.fab_watched.proofs.Agreeing.{rising_no, rising_yes}
 use Rattle.fab_watched.proofs.Counting.{falls_not, rises, risen}
 use Rattle.fab_watched.proofs.counts.never_fall.Goals as goal
 
@@ -21,3 +22,10 @@ returns-then-count-last-clause-no c = λ no fall. falls_not c.loop-count.last c.
 
 pub returns-clause-yes : goal.returns-clause-yes
 returns-clause-yes c = λ yes. risen c.loop-count.last c.loop-count.rest.now c.args.counts.now c.in_default.ensures.cases c.loop-count.invariant.back
+
+pub returns-then-count-last-clause-exact : goal.returns-then-count-last-clause-exact
+returns-then-count-last-clause-exact c = rising_no c.args.counts.now
+    (λ fall. falls_not c.loop-count.last c.in-Some.count.now c.in-Some.after.now c.loop-count.rest.now c.in-Some.ensures.cases.0 c.if-count-last.true (c.loop-count.invariant.on fall).1)
+
+pub returns-clause-exact : goal.returns-clause-exact
+returns-clause-exact c = rising_yes c.args.counts.now (risen c.loop-count.last c.loop-count.rest.now c.args.counts.now c.in_default.ensures.cases c.loop-count.invariant.back)
