@@ -7,6 +7,7 @@ ghost use Rattle.fab_reads.specs.Reads.{AreCountsOf};
 ghost use Rattle.fab_replay.specs.Courses.{HasRun, HasStopped};
 ghost use Rattle.fab_world.specs.Serial.{commits_in};
 
+use crate::watching::run_watched;
 use fab_base::Seq;
 use fab_core::Core;
 use fab_device::Journal;
@@ -15,7 +16,6 @@ use fab_gates::Gate;
 use fab_reads::Reading;
 use fab_replay::honest_nodes;
 use fab_threads::run_threads;
-use fab_watched::run_watched;
 use std::alloc::Global;
 use std::sync::Wait;
 use std::thread::Threads;
