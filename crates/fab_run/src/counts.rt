@@ -72,7 +72,7 @@ fn is_one_row(row: &[Value], other: &[Value]) -> bool
     row == other
 }
 
-/// Whether each read saw the values that stand in its place. There may be more rows than reads.
+/// Whether each read saw the values that stand in its place.
 fn is_as_seen(rows: &[Seq<Value>], seen: &[Seen]) -> bool
     ensures { result ≡ saw_rows rows.now seen.now }
 {
@@ -92,7 +92,7 @@ fn is_as_seen(rows: &[Seq<Value>], seen: &[Seen]) -> bool
 }
 
 /// Whether the reads agree with a run of these commits; the counts are those of the reads, with that of all behind them. The requests of the
-/// commits are evaluated again.
+/// commits are evaluated again, up to the last that a read saw.
 fn agree(
     alloc: Global,
     program: &Resolved,
@@ -117,7 +117,7 @@ fn agree(
         reading.classes,
         commits,
         reading.oid,
-        counts,
+        &counts[..seen.len()],
     )?;
     Ok(is_as_seen(rows.as_slice(), seen))
 }

@@ -1,9 +1,13 @@
-use Rattle.std.proofs.Common.{sym, ◌∙◌}
+use Rattle.std.proofs.Common.{length, sym, ◌∙◌}
 use Rattle.fab_rights.specs.Computed.{has_bit}
 use Rattle.fab_settings.specs.Settings.{setting_of}
 use Rattle.fab_reads.specs.Reads.{values_after}
-use Rattle.fab_run.proofs.Agreeing.{agreed}
+use Rattle.fab_run.proofs.Agreeing.{agreed, rising_before}
 use Rattle.fab_run.proofs.counts.agree.Goals as goal
+
+pub values_after-requires : goal.values_after-requires
+values_after-requires c =
+    record { rising = rising_before (length c.args.seen.now) c.args.counts.now (c.never_fall.ensures.yes c.if-not-never_fall.false) }
 
 pub returns : goal.returns
 returns c = λ rights.
