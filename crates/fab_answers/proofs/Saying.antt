@@ -16,14 +16,14 @@ use Rattle.fab_labelling.specs.Claims.{IsWellLabelled}
 use Rattle.fab_labelling.specs.Refusals.{IsFirstRefusal}
 use Rattle.fab_labelling.proofs.OneRefusal.{one_refusal}
 use Rattle.fab_command.specs.declared.command.Command.{Command}
-use Rattle.fab_command.specs.declared.command.Command.TheVariants.{Check, Evaluate, Flows, Format, Infer, Replay, Run, Trust, View}
+use Rattle.fab_command.specs.declared.command.Command.TheVariants.{Audit, Check, Evaluate, Flows, Format, Infer, Replay, Run, Trust, View}
 use Rattle.fab_command.specs.declared.command.Telling.TheVariants.{Reads, Report, Summary}
 use Rattle.fab_front.specs.declared.texts.Outcome.TheVariants as outcome
 use Rattle.fab_front.specs.declared.status.Status.{Status}
 use Rattle.fab_front.specs.declared.status.Status.TheVariants.{Ok, Syntax, Name, Label as Labelled, Limit}
 use Rattle.fab_front.specs.Front.{Front, IsFront}
 use Rattle.fab_front.specs.Lines.{label_line, line, name_line, what_word}
-use Rattle.fab_front.specs.Refused.{AsksLabels, AsksNames, LacksName, syntax, limit, misnamed, unknown, mislabelled, label_of}
+use Rattle.fab_front.specs.Refused.{AsksBundle, AsksLabels, AsksNames, LacksName, syntax, limit, misnamed, unknown, mislabelled, label_of}
 use Rattle.fab_front.proofs.Faults.{none_first, one_first}
 use Rattle.fab_front.proofs.Outcomes.{no_limit, not_bundle, not_limit, same_at, same_bundle, same_what}
 use Rattle.fab_front.proofs.Refusals.{none_refused}
@@ -32,12 +32,12 @@ use Rattle.fab_answers.specs.Says.{IsSaid, Says, refused, formatted, checked, ev
 -- ---- of a text without a bundle
 
 module _ {command : Command} {text : List ℕ} where
-  pub syntax_said : {at : ℕ} → IsFront text (outcome.Syntax at) → IsSaid command text (Syntax at) (line (codes "syntax at " ++ decimal at))
-  syntax_said {at = at} f = record { is = refused (syntax f.is); only = λ s r. go s r; front = (_, f) }
+  pub syntax_said : {at : ℕ} → AsksBundle command → IsFront text (outcome.Syntax at) → IsSaid command text (Syntax at) (line (codes "syntax at " ++ decimal at))
+  syntax_said {at = at} asks f = record { is = refused (syntax asks f.is); only = λ s r. go s r; front = (_, f) }
     where
       go : {c : Command} (s : Status) (r : List ℕ) → Says c text s r → (s ≡ Syntax at) × (r ≡ line (codes "syntax at " ++ decimal at))
-      go s r (refused (syntax {at = b} g)) = let e = same_at (f.only (outcome.Syntax b) g) in (ap Syntax e, ap (λ x. line (codes "syntax at " ++ decimal x)) e)
-      go s r (refused (limit {what = b} g)) = not_limit (sym (f.only (outcome.Limit b) g))
+      go s r (refused (syntax {at = b} asks g)) = let e = same_at (f.only (outcome.Syntax b) g) in (ap Syntax e, ap (λ x. line (codes "syntax at " ++ decimal x)) e)
+      go s r (refused (limit {what = b} asks g)) = not_limit (sym (f.only (outcome.Limit b) g))
       go s r (refused (misnamed {s = b} asks g h)) = not_bundle (sym (f.only (outcome.Bundle b) g))
       go s r (refused (unknown {s = b} lacks g h)) = not_bundle (sym (f.only (outcome.Bundle b) g))
       go s r (refused (mislabelled {s = b} asks g h k)) = not_bundle (sym (f.only (outcome.Bundle b) g))
@@ -46,12 +46,12 @@ module _ {command : Command} {text : List ℕ} where
       go s r (evaluated {s = b} g h k) = not_bundle (sym (f.only (outcome.Bundle b) g))
       go s r (flow {s = b} g h k l m) = not_bundle (sym (f.only (outcome.Bundle b) g))
 
-  pub limit_said : {what : What} → IsFront text (outcome.Limit what) → IsSaid command text (Limit what) (line (codes "limit " ++ what_word what))
-  limit_said {what = what} f = record { is = refused (limit f.is); only = λ s r. go s r; front = (_, f) }
+  pub limit_said : {what : What} → AsksBundle command → IsFront text (outcome.Limit what) → IsSaid command text (Limit what) (line (codes "limit " ++ what_word what))
+  limit_said {what = what} asks f = record { is = refused (limit asks f.is); only = λ s r. go s r; front = (_, f) }
     where
       go : {c : Command} (s : Status) (r : List ℕ) → Says c text s r → (s ≡ Limit what) × (r ≡ line (codes "limit " ++ what_word what))
-      go s r (refused (syntax {at = b} g)) = not_limit (f.only (outcome.Syntax b) g)
-      go s r (refused (limit {what = b} g)) = let e = same_what (f.only (outcome.Limit b) g) in (ap Limit e, ap (λ x. line (codes "limit " ++ what_word x)) e)
+      go s r (refused (syntax {at = b} asks g)) = not_limit (f.only (outcome.Syntax b) g)
+      go s r (refused (limit {what = b} asks g)) = let e = same_what (f.only (outcome.Limit b) g) in (ap Limit e, ap (λ x. line (codes "limit " ++ what_word x)) e)
       go s r (refused (misnamed {s = b} asks g h)) = no_limit (sym (f.only (outcome.Bundle b) g))
       go s r (refused (unknown {s = b} lacks g h)) = no_limit (sym (f.only (outcome.Bundle b) g))
       go s r (refused (mislabelled {s = b} asks g h k)) = no_limit (sym (f.only (outcome.Bundle b) g))
@@ -78,6 +78,7 @@ named_labels (Trust names) s asks lacks = absurd (true≢false (sym asks ∙ lac
 named_labels (Flows a b) s asks lacks = absurd asks
 named_labels Format s asks lacks = absurd asks
 named_labels Infer s asks lacks = absurd asks
+named_labels Audit s asks lacks = absurd asks
 
 module _ {text : List ℕ} {start : Start} (f : IsFront text (outcome.Bundle start)) where
   same : {b : Start} → Front text (outcome.Bundle b) → b ≡ start
@@ -93,8 +94,8 @@ module _ {text : List ℕ} {start : Start} (f : IsFront text (outcome.Bundle sta
   format_said = record { is = formatted f.is; only = λ s r. go s r; front = (_, f) }
     where
       go : (s : Status) (r : List ℕ) → Says Format text s r → (s ≡ Ok) × (r ≡ canonical start)
-      go s r (refused (syntax {at = b} g)) = not_bundle (f.only (outcome.Syntax b) g)
-      go s r (refused (limit {what = b} g)) = no_limit (f.only (outcome.Limit b) g)
+      go s r (refused (syntax {at = b} asks g)) = not_bundle (f.only (outcome.Syntax b) g)
+      go s r (refused (limit {what = b} asks g)) = no_limit (f.only (outcome.Limit b) g)
       go s r (refused (misnamed asks g h)) = absurd asks
       go s r (refused (unknown lacks g h)) = absurd lacks
       go s r (refused (mislabelled asks g h k)) = absurd asks
@@ -104,8 +105,8 @@ module _ {text : List ℕ} {start : Start} (f : IsFront text (outcome.Bundle sta
   name_said {x = x} asks h = record { is = refused (misnamed asks f.is h); only = λ s r. go asks s r; front = (_, f) }
     where
       go : {c : Command} → AsksNames c → (s : Status) (r : List ℕ) → Says c text s r → (s ≡ Name x.rule x.at) × (r ≡ name_line x.rule x.at)
-      go w s r (refused (syntax {at = b} g)) = not_bundle (f.only (outcome.Syntax b) g)
-      go w s r (refused (limit {what = b} g)) = no_limit (f.only (outcome.Limit b) g)
+      go w s r (refused (syntax {at = b} asks g)) = not_bundle (f.only (outcome.Syntax b) g)
+      go w s r (refused (limit {what = b} asks g)) = no_limit (f.only (outcome.Limit b) g)
       go w s r (refused (misnamed a g k)) = let e = one_first _ _ _ _ (ap faults (same g)) k h in (ap (λ y. Name y.rule y.at) e, ap (λ y. name_line y.rule y.at) e)
       go w s r (refused (unknown lacks g k)) = none_first (ap faults (sym (same g)) ∙ k) h
       go w s r (refused (mislabelled a g k l)) = none_first (ap faults (sym (same g)) ∙ k) h
@@ -126,8 +127,8 @@ module _ {text : List ℕ} {start : Start} (f : IsFront text (outcome.Bundle sta
   unknown_said lacks right = record { is = refused (unknown lacks f.is right); only = λ s r. go lacks s r; front = (_, f) }
     where
       go : {c : Command} → LacksName c start → (s : Status) (r : List ℕ) → Says c text s r → (s ≡ Name Unknown (length text)) × (r ≡ name_line Unknown (length text))
-      go w s r (refused (syntax {at = b} g)) = not_bundle (f.only (outcome.Syntax b) g)
-      go w s r (refused (limit {what = b} g)) = no_limit (f.only (outcome.Limit b) g)
+      go w s r (refused (syntax {at = b} asks g)) = not_bundle (f.only (outcome.Syntax b) g)
+      go w s r (refused (limit {what = b} asks g)) = no_limit (f.only (outcome.Limit b) g)
       go w s r (refused (misnamed a g k)) = none_first (ap faults (same g) ∙ right) k
       go w s r (refused (unknown l g k)) = (refl, refl)
       go {c} w s r (refused (mislabelled a g k l)) = named_labels c start (subst (AsksLabels c) (same g) a) w
@@ -141,8 +142,8 @@ module _ {text : List ℕ} {start : Start} (f : IsFront text (outcome.Bundle sta
   label_said {x = x} asks right h = record { is = refused (mislabelled asks f.is right h); only = λ s r. go asks s r; front = (_, f) }
     where
       go : {c : Command} → AsksLabels c start → (s : Status) (r : List ℕ) → Says c text s r → (s ≡ Labelled x.rule x.at x.source x.target) × (r ≡ label_line (resolved start) x)
-      go w s r (refused (syntax {at = b} g)) = not_bundle (f.only (outcome.Syntax b) g)
-      go w s r (refused (limit {what = b} g)) = no_limit (f.only (outcome.Limit b) g)
+      go w s r (refused (syntax {at = b} asks g)) = not_bundle (f.only (outcome.Syntax b) g)
+      go w s r (refused (limit {what = b} asks g)) = no_limit (f.only (outcome.Limit b) g)
       go w s r (refused (misnamed a g k)) = none_first (ap faults (same g) ∙ right) k
       go {c} w s r (refused (unknown l g k)) = named_labels c start w (lacking c g l)
       go w s r (refused (mislabelled {s = b} {x = y} a g k l)) =
@@ -158,8 +159,8 @@ module _ {text : List ℕ} {start : Start} (f : IsFront text (outcome.Bundle sta
     checked_said = record { is = checked f.is right well; only = λ s r. go s r; front = (_, f) }
       where
         go : (s : Status) (r : List ℕ) → Says Check text s r → (s ≡ Ok) × (r ≡ line (codes "ok"))
-        go s r (refused (syntax {at = b} g)) = not_bundle (f.only (outcome.Syntax b) g)
-        go s r (refused (limit {what = b} g)) = no_limit (f.only (outcome.Limit b) g)
+        go s r (refused (syntax {at = b} asks g)) = not_bundle (f.only (outcome.Syntax b) g)
+        go s r (refused (limit {what = b} asks g)) = no_limit (f.only (outcome.Limit b) g)
         go s r (refused (misnamed a g k)) = none_first (ap faults (same g) ∙ right) k
         go s r (refused (unknown l g k)) = absurd l
         go s r (refused (mislabelled {x = y} a g k l)) = none_refused (resolved start) y well (here g l)
@@ -169,8 +170,8 @@ module _ {text : List ℕ} {start : Start} (f : IsFront text (outcome.Bundle sta
     evaluated_said = record { is = evaluated f.is right well; only = λ s r. go s r; front = (_, f) }
       where
         go : (s : Status) (r : List ℕ) → Says Evaluate text s r → (s ≡ Ok) × (r ≡ evaluation_text (resolved start))
-        go s r (refused (syntax {at = b} g)) = not_bundle (f.only (outcome.Syntax b) g)
-        go s r (refused (limit {what = b} g)) = no_limit (f.only (outcome.Limit b) g)
+        go s r (refused (syntax {at = b} asks g)) = not_bundle (f.only (outcome.Syntax b) g)
+        go s r (refused (limit {what = b} asks g)) = no_limit (f.only (outcome.Limit b) g)
         go s r (refused (misnamed a g k)) = none_first (ap faults (same g) ∙ right) k
         go s r (refused (unknown l g k)) = absurd l
         go s r (refused (mislabelled {x = y} a g k l)) = none_refused (resolved start) y well (here g l)
@@ -181,8 +182,8 @@ module _ {text : List ℕ} {start : Start} (f : IsFront text (outcome.Bundle sta
     flow_said {x = x} {y = y} {t = t} p q l = record { is = flow f.is right p q l.is; only = λ s r. go s r; front = (_, f) }
       where
         go : (s : Status) (r : List ℕ) → Says (Flows a b) text s r → (s ≡ Ok) × (r ≡ t)
-        go s r (refused (syntax {at = c} g)) = not_bundle (f.only (outcome.Syntax c) g)
-        go s r (refused (limit {what = c} g)) = no_limit (f.only (outcome.Limit c) g)
+        go s r (refused (syntax {at = c} asks g)) = not_bundle (f.only (outcome.Syntax c) g)
+        go s r (refused (limit {what = c} asks g)) = no_limit (f.only (outcome.Limit c) g)
         go s r (refused (misnamed c g k)) = none_first (ap faults (same g) ∙ right) k
         go s r (refused (unknown m g k)) = both_found a b p q (lacking (Flows a b) g m)
         go s r (refused (mislabelled c g k m)) = absurd c

@@ -15,7 +15,7 @@ use Rattle.fab_answers.specs.Says.{IsAnsweredBy, Says, refused, formatted}
 
 -- a refusal of the text is said to a command of runs, too, and its report isn't
 of_replay : {text : List ℕ} → Front text (outcome.Syntax 12) → Says Replay text (Syntax 12) (line (codes "syntax at " ++ decimal 12))
-of_replay f = refused (syntax f)
+of_replay f = refused (syntax tt f)
 
 no_report : {text report : List ℕ} → Says Replay text Ok report → ⊥
 no_report s = elim s [ refused r ↦ elim r [ ] ]

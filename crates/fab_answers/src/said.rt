@@ -1,6 +1,7 @@
 //! What is said of a text.
 ghost use Rattle.std.specs.Prelude.{IfOk};
 ghost use Rattle.fab_front.specs.Front.{IsFront};
+ghost use Rattle.fab_front.specs.Refused.{AsksBundle};
 ghost use Rattle.fab_front.specs.declared.texts.Outcome.TheVariants.{Bundle};
 ghost use Rattle.fab_answers.specs.Says.{IsAnsweredBy};
 
@@ -19,9 +20,10 @@ pub enum Said {
     Bundle(Start),
 }
 
-/// What a command says of a text: its reply, where the text has no bundle or it is one of `check`, `eval`, `flows`
+/// What a command that is asked of a bundle says of a text: its reply, where the text has no bundle or it is one of `check`, `eval`, `flows`
 /// and `fmt`, and else the bundle.
 pub fn said_of(alloc: Global, command: &Command, text: &[u8]) -> Result<Said, NoMemory>
+    requires { AsksBundle command.now }
     ensures { IfOk result (IsAnsweredBy command.now text.now) }
 {
     match front(alloc, text)? {
@@ -41,7 +43,8 @@ pub fn said_of(alloc: Global, command: &Command, text: &[u8]) -> Result<Said, No
 
 /// What a command says of a text with this bundle.
 fn of_bundle(alloc: Global, command: &Command, text: &[u8], start: Start) -> Result<Said, NoMemory>
-    requires { IsFront text.now (Bundle start) }
+    requires asked { AsksBundle command.now }
+    requires front { IsFront text.now (Bundle start) }
     ensures { IfOk result (IsAnsweredBy command.now text.now) }
 {
     match command {
@@ -66,5 +69,6 @@ fn of_bundle(alloc: Global, command: &Command, text: &[u8], start: Start) -> Res
         | Command::View { .. }
         | Command::Trust { .. }
         | Command::Infer => Ok(Said::Bundle(start)),
+        Command::Audit => unreachable!(),
     }
 }

@@ -1,7 +1,7 @@
 -- Worked examples of what words ask for.
 use Rattle.std.proofs.Common.{◌≡◌, ℕ, List, [], ◌∷◌, ◌++◌, Some, None, refl, codes}
 use Rattle.std.specs.Fmt.{digits}
-use Rattle.fab_command.specs.declared.command.Command.TheVariants.{Flows, Infer, Run, Trust, View}
+use Rattle.fab_command.specs.declared.command.Command.TheVariants.{Audit, Flows, Infer, Run, Trust, View}
 use Rattle.fab_command.specs.declared.command.Telling.TheVariants.{Reads, Report}
 use Rattle.fab_command.specs.declared.task.Task.TheVariants.{Drill, Generate, Reply}
 use Rattle.fab_asked.specs.Words.{asked}
@@ -52,6 +52,12 @@ infer_alone = refl
 
 infer_with_name : asked (codes "infer" ∷ codes "w1" ∷ []) ≡ None
 infer_with_name = refl
+
+audit_alone : asked (codes "audit" ∷ []) ≡ Some (Reply Audit)
+audit_alone = refl
+
+audit_with_name : asked (codes "audit" ∷ codes "w1" ∷ []) ≡ None
+audit_with_name = refl
 
 -- 32 names, and one more
 abbrev eight : List (List ℕ)

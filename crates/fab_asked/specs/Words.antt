@@ -4,7 +4,7 @@ use Rattle.std.specs.List.{list_all}
 use Rattle.std.specs.Str.{bytes_eq}
 use Rattle.std.specs.declared.alloc.Global.{Global}
 use Rattle.fab_command.specs.declared.command.Command.{Command}
-use Rattle.fab_command.specs.declared.command.Command.TheVariants.{Check, Evaluate, Flows, Format, Infer, Replay, Run, Trust, View}
+use Rattle.fab_command.specs.declared.command.Command.TheVariants.{Audit, Check, Evaluate, Flows, Format, Infer, Replay, Run, Trust, View}
 use Rattle.fab_command.specs.declared.command.Telling.TheVariants.{Reads, Report}
 use Rattle.fab_command.specs.declared.task.Task.{Task}
 use Rattle.fab_command.specs.declared.task.Task.TheVariants.{Drill, Generate, Reply}
@@ -24,7 +24,8 @@ command_of word =
     else (if bytes_eq word (codes "fmt") then Some Format
     else (if bytes_eq word (codes "replay") then Some Replay
     else (if bytes_eq word (codes "run") then Some (Run Report)
-    else (if bytes_eq word (codes "infer") then Some Infer else None)))))
+    else (if bytes_eq word (codes "infer") then Some Infer
+    else (if bytes_eq word (codes "audit") then Some Audit else None))))))
 
 -- the command of a word and two operands, which are names
 abbrev pub command_with : List ℕ → List ℕ → List ℕ → Option Command

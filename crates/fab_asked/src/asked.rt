@@ -29,6 +29,8 @@ fn named(word: &str) -> Option<Command>
         Some(Command::Run(Telling::Report))
     } else if word == "infer" {
         Some(Command::Infer)
+    } else if word == "audit" {
+        Some(Command::Audit)
     } else {
         None
     }

@@ -1,2 +1,26 @@
+-- how far the events come
+pub mod Fronts
+-- journals that never fail
+pub mod Sureness
+-- one event
+pub mod Telling
+-- one event after the other
+pub mod Retold
+-- what a node is behind moves
+pub mod Unbroken
+-- lines of journals
+pub mod Kept
+-- nodes that are not hostile
+pub mod Honest
+-- names of nodes
+pub mod Names
+-- what is so of a text is one thing
+pub mod Verdicts
+-- what is compared
+pub mod Comparing
+-- with which statuses the reply comes
+pub mod Statuses
+-- the reply, and that there is no other
+pub mod Replies
 -- worked examples of the definitions
 mod Examples

@@ -36,4 +36,6 @@ pub enum Command {
     Trust { nodes: Seq<Text> },
     /// A bundle's text with the least labels for its holes.
     Infer,
+    /// Whether a report, and journals behind it, are those of a run of the bundle in front of them.
+    Audit,
 }

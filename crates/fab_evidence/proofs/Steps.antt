@@ -33,7 +33,7 @@ among_in n (m ∷ ms) (inr i) = by (among_in n ms i) (m == n)
     by later true = refl
     by later false = later
 
-in_among : (n : ℕ) (nodes : List ℕ) → list_any (λ m. m == n) nodes ≡ true → IsIn n nodes
+pub in_among : (n : ℕ) (nodes : List ℕ) → list_any (λ m. m == n) nodes ≡ true → IsIn n nodes
 in_among n [] h = absurd cc
 in_among n (m ∷ ms) h = by (λ g. in_among n ms g) (m == n) refl h
   where
@@ -61,7 +61,7 @@ module _ (r : Resolved) where
       ))
       (λ journal fits. ((codes "journal ", (journal.node, journal.bytes)), (refl, (in_among journal.node nodes fits.0, fits.1)), refl))
 
-  line_long : (journal : ShownJournal) → 0 < length (journal_line r journal)
+  pub line_long : (journal : ShownJournal) → 0 < length (journal_line r journal)
   line_long journal = omega arith
 
   -- ---- one step
@@ -191,7 +191,7 @@ module _ (r : Resolved) where
     none = λ k h. h;
   }
 
-  named_behind : (n : ℕ) (nodes : List ℕ) → AreNamed r nodes → AreNamed r (behind n nodes)
+  pub named_behind : (n : ℕ) (nodes : List ℕ) → AreNamed r nodes → AreNamed r (behind n nodes)
   named_behind n [] named = tt
   named_behind n (m ∷ ms) named = by (named_behind n ms named.2) (m == n)
     where

@@ -4,6 +4,8 @@ pub mod Named
 pub mod Marks
 -- the same, told line by line from the last
 pub mod Telling
+-- where the report begins in a text
+pub mod Parts
 -- the text of an audit, and where a text stops being one
 pub mod Texts
 -- reading it from left to right

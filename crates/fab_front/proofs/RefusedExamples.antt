@@ -8,22 +8,31 @@ use Rattle.fab_tree.specs.declared.resolved.Resolved.{Resolved}
 use Rattle.fab_tree.specs.declared.resolved.Root.{Root}
 use Rattle.fab_language.specs.declared.rule.Fault.{Fault}
 use Rattle.fab_language.specs.Faults.{faults, IsFirst}
-use Rattle.fab_command.specs.declared.command.Command.TheVariants.{Check, Flows, Format, Infer, Replay, Run, Trust, View}
+use Rattle.fab_command.specs.declared.command.Command.TheVariants.{Audit, Check, Flows, Format, Infer, Replay, Run, Trust, View}
 use Rattle.fab_command.specs.declared.command.Telling.TheVariants.{Reads, Report}
 use Rattle.fab_front.specs.declared.texts.Outcome.TheVariants as outcome
+use Rattle.fab_front.specs.declared.status.Status.{Status}
 use Rattle.fab_front.specs.declared.status.Status.TheVariants.{Ok, Limit, Name, Syntax}
 use Rattle.fab_front.specs.Front.{Front}
 use Rattle.fab_front.specs.Lines.{line, name_line}
 use Rattle.fab_front.specs.Named.{are_node_names}
 use Rattle.fab_front.specs.Readable.{IsReadable, is_declared_hostile}
-use Rattle.fab_front.specs.Refused.{AsksLabels, AsksNames, LacksName, Refuses, limit, misnamed, syntax}
+use Rattle.fab_front.specs.Refused.{AsksLabels, AsksNames, LacksName, Refuses, limit, mislabelled, misnamed, syntax, unknown}
 
--- a refusal of the text is one for every command
+-- a refusal of the text is one for every command of a text that is a bundle
 of_format : {text : List ℕ} → Front text (outcome.Syntax 12) → Refuses Format text (Syntax 12) (line (codes "syntax at " ++ decimal 12))
-of_format f = syntax f
+of_format f = syntax tt f
 
 of_replay : {text : List ℕ} → Front text (outcome.Limit Depth) → Refuses Replay text (Limit Depth) (codes "limit depth\n")
-of_replay f = limit f
+of_replay f = limit tt f
+
+-- the text of `audit` is none, so nothing here refuses it
+of_audit : {text reply : List ℕ} {status : Status} → Refuses Audit text status reply → ⊥
+of_audit (syntax asks f) = asks
+of_audit (limit asks f) = asks
+of_audit (misnamed asks f h) = asks
+of_audit (unknown lacks f h) = lacks
+of_audit (mislabelled asks f h k) = asks
 
 -- `fmt` asks for no rule of names, and `flows` for none of labels
 no_names : AsksNames Format → ⊥

@@ -82,3 +82,11 @@ no_least_line at = line (codes "no least at " ++ decimal at)
 abbrev pub robust_line : Resolved → ℕ → ℕ → ℕ → List ℕ
 robust_line r at source principal = line (codes "robust at " ++ decimal at
     ++ codes " from " ++ side_text r (side.Label source) ++ codes " to " ++ side_text r (side.Principal principal))
+
+-- the line of a place at which a text stops being one of a report with journals
+abbrev pub trace_line : ℕ → List ℕ
+trace_line at = line (codes "trace at " ++ decimal at)
+
+-- the three lines of a line that is wrong: its number, what was found in its place, and what belongs there
+abbrev pub wrong_lines : ℕ → List ℕ → List ℕ → List ℕ
+wrong_lines number found kept = line (codes "wrong line " ++ decimal number) ++ line (codes "found " ++ found) ++ line (codes "kept " ++ kept)

@@ -13,7 +13,7 @@ use Rattle.fab_language.specs.Numbers.{resolved}
 use Rattle.fab_labelling.specs.declared.rule.Refusal.{Refusal}
 use Rattle.fab_labelling.specs.Refusals.{IsFirstRefusal}
 use Rattle.fab_command.specs.declared.command.Command.{Command}
-use Rattle.fab_command.specs.declared.command.Command.TheVariants.{Check, Evaluate, Flows, Format, Infer, Replay, Run, Trust, View}
+use Rattle.fab_command.specs.declared.command.Command.TheVariants.{Audit, Check, Evaluate, Flows, Format, Infer, Replay, Run, Trust, View}
 use Rattle.fab_command.specs.declared.command.Telling.TheVariants.{Reads, Report, Summary}
 use Rattle.fab_front.specs.declared.texts.Outcome.TheVariants as outcome
 use Rattle.fab_front.specs.declared.status.Status.{Status}
@@ -23,7 +23,20 @@ use Rattle.fab_front.specs.Lines.{label_line, line, name_line, what_word}
 use Rattle.fab_front.specs.Named.{are_node_names}
 use Rattle.fab_front.specs.Readable.{IsReadable}
 
--- every command but `fmt` and `infer` asks for the rules of names and types of the text as it stands
+-- what is asked of a text that is a bundle and no more; that of `audit` has a report behind its bundle
+abbrev pub AsksBundle : Command → Type 0
+AsksBundle Audit = ⊥
+AsksBundle Check = Unit {0}
+AsksBundle Evaluate = Unit {0}
+AsksBundle Replay = Unit {0}
+AsksBundle (Run x) = Unit {0}
+AsksBundle (View names) = Unit {0}
+AsksBundle (Trust names) = Unit {0}
+AsksBundle (Flows a b) = Unit {0}
+AsksBundle Format = Unit {0}
+AsksBundle Infer = Unit {0}
+
+-- every command of such a text but `fmt` and `infer` asks for the rules of names and types of the text as it stands
 abbrev pub AsksNames : Command → Type 0
 AsksNames Check = Unit {0}
 AsksNames Evaluate = Unit {0}
@@ -34,6 +47,7 @@ AsksNames (Trust names) = Unit {0}
 AsksNames (Flows a b) = Unit {0}
 AsksNames Format = ⊥
 AsksNames Infer = ⊥
+AsksNames Audit = ⊥
 
 -- one of the roots of this name may be read
 abbrev pub HasReadable : Start → List ℕ → Type 0
@@ -52,6 +66,7 @@ AsksLabels (Trust names) s = are_node_names (resolved s) names ≡ true
 AsksLabels (Flows a b) s = ⊥
 AsksLabels Format s = ⊥
 AsksLabels Infer s = ⊥
+AsksLabels Audit s = ⊥
 
 -- the label of a word of the command line
 abbrev pub label_of : Start → List ℕ → Option Label
@@ -65,12 +80,12 @@ LacksName (Trust names) s = are_node_names (resolved s) names ≡ false
 LacksName (Run (Reads root times)) s = HasReadable s root → ⊥
 LacksName _ s = ⊥
 
--- Refuses command text status written: a text is refused as it comes to no bundle, the same for every command; for the first fault of its names, the
--- same for every command that asks for them; for a word of the command, as a name behind the text's last byte; and for the first refusal of its labels,
+-- Refuses command text status written: a text is refused as it comes to no bundle, the same for every command of a text that is one; for the first fault
+-- of its names, the same for every command that asks for them; for a word of the command, as a name behind the text's last byte; and for the first refusal of its labels,
 -- the same for every command that asks for these.
 pub data Refuses (command : Command) (text : List ℕ) : Status → List ℕ → Type 0 where
-  syntax : {at : ℕ} → Front text (outcome.Syntax at) → Refuses command text (Syntax at) (line (codes "syntax at " ++ decimal at))
-  limit : {what : What} → Front text (outcome.Limit what) → Refuses command text (Limit what) (line (codes "limit " ++ what_word what))
+  syntax : {at : ℕ} → AsksBundle command → Front text (outcome.Syntax at) → Refuses command text (Syntax at) (line (codes "syntax at " ++ decimal at))
+  limit : {what : What} → AsksBundle command → Front text (outcome.Limit what) → Refuses command text (Limit what) (line (codes "limit " ++ what_word what))
   misnamed : {s : Start} {x : Fault}
       → AsksNames command → Front text (outcome.Bundle s) → IsFirst (faults s) x → Refuses command text (Name x.rule x.at) (name_line x.rule x.at)
   unknown : {s : Start}

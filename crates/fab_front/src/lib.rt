@@ -14,7 +14,7 @@ pub use lines::{
     barred_line, label_line, limit_line, name_line, no_least_line, robust_line, syntax_line,
 };
 pub use reading::{ReadError, read_all};
-pub use replies::{mislabelled, no_least, refused, unknown, unrobust, usage};
+pub use replies::{mislabelled, no_least, refused, trace, unknown, unrobust, usage, wrong};
 pub use status::Status;
 pub use texts::{Outcome, front};
 pub use writing::write_all;

@@ -1,7 +1,7 @@
 //! The lines of refusals.
 ghost use Rattle.std.specs.Prelude.{◌≡◌, ◌++◌, IfOk, OnOk, codes};
 ghost use Rattle.std.specs.Fmt.{decimal};
-ghost use Rattle.fab_front.specs.Lines.{label_line, label_rule_word as label_word_of, line, name_line, no_least_line, robust_line, rule_word as rule_word_of, side_text, what_word as word_of};
+ghost use Rattle.fab_front.specs.Lines.{label_line, label_rule_word as label_word_of, line, line as line_of, name_line, no_least_line, robust_line, rule_word as rule_word_of, side_text, trace_line, what_word as word_of, wrong_lines};
 
 use fab_base::{NoMemory, Seq, What};
 use fab_labelling::{LabelRule, Refusal, Side};
@@ -178,5 +178,49 @@ pub fn robust_line(
     out.extend(b" to ")?;
     put_side(&mut out, start, Side::Principal(principal))?;
     out.push(b'\n')?;
+    Ok(out)
+}
+
+/// `trace at` and the place.
+pub fn trace_line(alloc: Global, at: u32) -> Result<Seq<u8>, NoMemory>
+    ensures { IfOk result (λ out. out ≡ trace_line at) }
+{
+    let mut out = Seq::from_slice(alloc, b"trace at ")?;
+    let digits = format!(in alloc; "{at}")?;
+    out.extend(digits.as_str().as_bytes())?;
+    out.push(b'\n')?;
+    Ok(out)
+}
+
+/// `wrong line` and its number.
+fn number_line(alloc: Global, line: u32) -> Result<Seq<u8>, NoMemory>
+    ensures { IfOk result (λ out. out ≡ line_of (codes "wrong line " ++ decimal line)) }
+{
+    let mut out = Seq::from_slice(alloc, b"wrong line ")?;
+    let digits = format!(in alloc; "{line}")?;
+    out.extend(digits.as_str().as_bytes())?;
+    out.push(b'\n')?;
+    Ok(out)
+}
+
+/// A word with its blank, and a text behind it.
+fn titled_line(alloc: Global, title: &[u8], text: &[u8]) -> Result<Seq<u8>, NoMemory>
+    ensures { IfOk result (λ out. out ≡ line_of (title.now ++ text.now)) }
+{
+    let mut out = Seq::from_slice(alloc, title)?;
+    out.extend(text)?;
+    out.push(b'\n')?;
+    Ok(out)
+}
+
+/// `wrong line` and its number, the line that was found, and the one that belongs in its place.
+pub fn wrong_lines(alloc: Global, line: u32, found: &[u8], kept: &[u8]) -> Result<Seq<u8>, NoMemory>
+    ensures { IfOk result (λ out. out ≡ wrong_lines line found.now kept.now) }
+{
+    let mut out = number_line(alloc, line)?;
+    let there = titled_line(alloc, b"found ", found)?;
+    out.extend(there.as_slice())?;
+    let due = titled_line(alloc, b"kept ", kept)?;
+    out.extend(due.as_slice())?;
     Ok(out)
 }

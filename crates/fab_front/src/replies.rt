@@ -1,10 +1,10 @@
 //! The replies to what is refused: the status with the line.
 ghost use Rattle.std.specs.Prelude.{◌≡◌, ◌≤◌, IfOk, codes, length};
 ghost use Rattle.fab_language.specs.declared.rule.NameRule.TheVariants.{Unknown};
-ghost use Rattle.fab_front.specs.Lines.{label_line, line, name_line, no_least_line, robust_line};
-ghost use Rattle.fab_front.specs.declared.status.Status.TheVariants.{Label as Labelled, Name, NoLeast, Robust, Usage};
+ghost use Rattle.fab_front.specs.Lines.{label_line, line, name_line, no_least_line, robust_line, trace_line, wrong_lines};
+ghost use Rattle.fab_front.specs.declared.status.Status.TheVariants.{Label as Labelled, Name, NoLeast, Robust, Trace, Usage, Wrong};
 
-use crate::lines::{label_line, name_line, no_least_line, robust_line};
+use crate::lines::{label_line, name_line, no_least_line, robust_line, trace_line, wrong_lines};
 use crate::status::Status;
 use fab_base::{NoMemory, Seq};
 use fab_labelling::Refusal;
@@ -93,4 +93,25 @@ pub fn unrobust(
         principal,
     };
     Ok((status, reply))
+}
+
+/// The reply to a text behind whose bundle there is no report with journals.
+pub fn trace(alloc: Global, at: u32) -> Result<(Status, Seq<u8>), NoMemory>
+    ensures { IfOk result (λ r. (r.0 ≡ Trace at) × (r.1 ≡ trace_line at)) }
+{
+    let reply = trace_line(alloc, at)?;
+    Ok((Status::Trace { at }, reply))
+}
+
+/// The reply to a report with journals in which a line is wrong.
+pub fn wrong(
+    alloc: Global,
+    line: u32,
+    found: &[u8],
+    kept: &[u8],
+) -> Result<(Status, Seq<u8>), NoMemory>
+    ensures { IfOk result (λ r. (r.0 ≡ Wrong line) × (r.1 ≡ wrong_lines line found.now kept.now)) }
+{
+    let reply = wrong_lines(alloc, line, found, kept)?;
+    Ok((Status::Wrong { line }, reply))
 }

@@ -65,6 +65,15 @@ pub enum Status {
         source: u16,
         principal: u16,
     },
+    /// Behind the bundle there is no report with journals: at this place of the text stands the first byte that doesn't
+    /// fit, or the text ends too soon.
+    Trace {
+        at: u32,
+    },
+    /// The report and the journals aren't those of a run, first in this line, counted from the report's first as 1.
+    Wrong {
+        line: u32,
+    },
 }
 
 impl Status {
@@ -83,6 +92,8 @@ impl Status {
         ensures journal_fault { (node : ℕ) → self ≡ status.JournalFault node → result ≡ 10 }
         ensures no_least { (at : ℕ) → self ≡ status.NoLeast at → result ≡ 12 }
         ensures robust { (at source principal : ℕ) → self ≡ status.Robust at source principal → result ≡ 13 }
+        ensures trace { (at : ℕ) → self ≡ status.Trace at → result ≡ 14 }
+        ensures wrong { (line : ℕ) → self ≡ status.Wrong line → result ≡ 15 }
     {
         match self {
             Status::Ok => 0,
@@ -98,6 +109,8 @@ impl Status {
             Status::JournalFault { .. } => 10,
             Status::NoLeast { .. } => 12,
             Status::Robust { .. } => 13,
+            Status::Trace { .. } => 14,
+            Status::Wrong { .. } => 15,
         }
     }
 }

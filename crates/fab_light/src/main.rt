@@ -3,6 +3,9 @@
 //! says `usage`.
 #![tactic(auto)]
 
+ghost use Rattle.std.specs.Prelude.{IfOk, IfSome};
+ghost use Rattle.fab_front.specs.Refused.{AsksBundle};
+
 use fab_answers::{Said, said_of};
 use fab_asked::asked_with;
 use fab_base::{NoMemory, Seq, SinkError, Source, StdSink, StdSource};
@@ -14,7 +17,9 @@ use std::io::ErrorKind;
 use std::process::ExitCode;
 
 /// The command that the words ask for, if it makes no run.
-fn command_of(alloc: Global, words: &[String]) -> Result<Option<Command>, NoMemory> {
+fn command_of(alloc: Global, words: &[String]) -> Result<Option<Command>, NoMemory>
+    ensures { IfOk result (λ asked. IfSome asked AsksBundle) }
+{
     let words = words
         .iter()
         .map(|word| word.as_str())

@@ -10,6 +10,7 @@ pub mod Numbered
 pub mod Keeping
 pub mod Excluded
 pub mod Steps
+pub mod Failing
 pub mod Scheduled
 pub mod Viewing
 pub mod Counts

@@ -25,7 +25,7 @@ use fab_tree::resolved::Resolved;
 use std::alloc::Global;
 
 /// The report of the run so far.
-fn report_of<J: Journal>(
+pub fn report_of<J: Journal>(
     alloc: Global,
     core: &Core<J>,
     program: &Resolved,

@@ -19,6 +19,7 @@ mod trust;
 mod view;
 mod whole;
 
+pub use answers::report_of;
 pub use course::{ByCall, ByHand, Course, make_run};
 pub use honest::honest_nodes;
 pub use integral::is_integral;
@@ -26,5 +27,6 @@ pub use isolated::is_isolated;
 pub use laws::{no_fault_is_hidden, replays_are_exact, runs_have_one_answer, views_are_public};
 pub use reading::read_in;
 pub use replayed::{Replayed, Told, Wanted};
+pub use running::{Came, come_next, fail_next};
 pub use trust::{first_unkept, is_trusted, trust_in};
 pub use view::view_into;

@@ -1,15 +1,16 @@
 //! The events of a schedule, one after the other.
 
-ghost use Rattle.std.specs.Prelude.{◌≡◌, ◌<◌, ◌≤◌, [], false, true, Option, IsTrue, IfOk, OnErr, length};
+ghost use Rattle.std.specs.Prelude.{◌≡◌, ◌<◌, ◌≤◌, ◌&&◌, [], false, true, Option, IsTrue, IfOk, OnErr, length};
 ghost use Rattle.std.specs.Option.{option_copied};
-ghost use Rattle.fab_world.specs.Machine.{is_running};
+ghost use Rattle.fab_net.specs.declared.event.Event.TheVariants.{CrashIn};
+ghost use Rattle.fab_world.specs.Machine.{Fails, enabled, is_running, may};
 ghost use Rattle.fab_world.specs.Serial.{attempts};
 ghost use Rattle.fab_world.specs.Workers.{Evaluating};
 ghost use Rattle.fab_core.specs.Cores.{HasDone, setting, world};
 ghost use Rattle.fab_eval.specs.declared.done.Done.{Done as AnyDone};
 ghost use Rattle.fab_pauses.specs.Evaluations.{last_of};
 ghost use Rattle.fab_replay.specs.Kept.{IsFrontRun};
-ghost use Rattle.fab_replay.specs.Running.{AreBehind, ComesBy, ComesTo, ComesWith, IsLastDone, IsLastTold, MayCome, failed_by, fails_by};
+ghost use Rattle.fab_replay.specs.Running.{AreBehind, ComesBy, ComesTo, ComesWith, FailsNext, IsLastDone, IsLastTold, MayCome, failed_by, fails_by, is_recovery};
 
 use crate::events::event_of;
 use fab_base::NoMemory;
@@ -24,7 +25,7 @@ use std::alloc::Global;
 /// What became of one event: it came; it came up to its record, since the journal failed; or it may not
 /// come.
 #[derive(Clone, Copy, Debug)]
-pub(crate) enum Came {
+pub enum Came {
     Whole,
     Cut,
     Barred,
@@ -156,8 +157,8 @@ fn come<J: Journal>(core: &mut Core<J>, event: Event, done: Option<&Done>) -> Re
     enact(core, event, done)
 }
 
-/// One event comes, if it may.
-fn next<J: Journal>(
+/// One event comes, if it may. A job that comes again with one answer more goes on where it paused.
+pub fn come_next<J: Journal>(
     alloc: Global,
     core: &mut Core<J>,
     evaluators: &mut Evaluators<'_>,
@@ -174,6 +175,76 @@ fn next<J: Journal>(
 {
     let at = evaluated_for(alloc, core, evaluators, event)?;
     come(core, event, done_at(evaluators, at))
+}
+
+/// Whether it is a recovery, and may come.
+fn recovers<J: Journal>(core: &Core<J>, inner: Inner) -> bool
+    ensures { result ≡ (is_recovery inner && may (setting core.now.given) (world core.now) inner) }
+{
+    match inner {
+        Inner::Recover(node) => core.may_whole(Event::Recover(node)),
+        _ => false,
+    }
+}
+
+/// Whether a call of the journal of its node may fail in an event now: where it writes a record, which may then be cut before its first byte,
+/// and in each recovery.
+#[tactic(auto, using(crate::proofs::Failing::may_fail))]
+fn may_fail<J: Journal>(
+    core: &mut Core<J>,
+    inner: Inner,
+    done: Option<&Done>,
+) -> Result<bool, NoMemory>
+    requires done { ComesWith core.old.given core.old.moves (CrashIn 0 inner) (option_copied done) }
+    requires few { attempts core.old.moves < 4000000000 }
+    ensures given { core.new.given ≡ core.old.given }
+    ensures answer { IfOk result (λ may. may ≡ enabled (setting core.old.given) (world core.old) (Fails 0 inner)) }
+    ensures moves { core.new.moves ≡ core.old.moves }
+    ensures journals { AreBehind (λ n. false) core.old.journals core.new.journals }
+{
+    let recovers = recovers(core, inner);
+    let cut = core.enabled(&Event::CrashIn(0, inner), done)?;
+    Ok(recovers || cut)
+}
+
+/// An event in which a call of the journal of its node counts as having failed comes, if it may, and says whether it did. Nothing is asked
+/// of a journal.
+pub fn fail_next<J: Journal>(
+    alloc: Global,
+    core: &mut Core<J>,
+    evaluators: &mut Evaluators<'_>,
+    inner: Inner,
+) -> Result<bool, NoMemory>
+    requires few { attempts core.old.moves < 4000000000 }
+    requires program { evaluators.old.program ≡ core.old.given.program }
+    ensures program { evaluators.new.program ≡ evaluators.old.program }
+    ensures given { core.new.given ≡ core.old.given }
+    ensures failed { IfOk result (FailsNext core.old.given inner core.old.moves core.new.moves) }
+    ensures memory { OnErr result (core.new.moves ≡ core.old.moves) }
+    ensures journals { AreBehind (λ n. false) core.old.journals core.new.journals }
+{
+    let at = evaluated_for(alloc, core, evaluators, Event::CrashIn(0, inner))?;
+    fail_with(core, inner, done_at(evaluators, at))
+}
+
+/// The same, with the evaluation that it takes.
+fn fail_with<J: Journal>(
+    core: &mut Core<J>,
+    inner: Inner,
+    done: Option<&Done>,
+) -> Result<bool, NoMemory>
+    requires done { ComesWith core.old.given core.old.moves (CrashIn 0 inner) (option_copied done) }
+    requires few { attempts core.old.moves < 4000000000 }
+    ensures given { core.new.given ≡ core.old.given }
+    ensures failed { IfOk result (FailsNext core.old.given inner core.old.moves core.new.moves) }
+    ensures memory { OnErr result (core.new.moves ≡ core.old.moves) }
+    ensures journals { AreBehind (λ n. false) core.old.journals core.new.journals }
+{
+    let may = may_fail(core, inner, done)?;
+    if may {
+        core.fail(inner)?;
+    }
+    Ok(may)
 }
 
 /// The events of the schedule come in order, up to the first that may not come or in which a journal fails. A job that comes again with
@@ -198,7 +269,7 @@ pub(crate) fn run<J: Journal>(
     'events: while let Some((scheduled, after)) = rest.split_first() {
         let event = event_of(*scheduled);
         number += 1;
-        match next(alloc, core, &mut evaluators, event)? {
+        match come_next(alloc, core, &mut evaluators, event)? {
             Came::Whole => {}
             Came::Cut => {
                 return Ok(Ran::Cut {

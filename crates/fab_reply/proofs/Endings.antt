@@ -4,18 +4,19 @@ use Rattle.fab_device.specs.Kept.{Makers}
 use Rattle.std.specs.Io.KnownBytes.{Appends, Keeps, IsAtEnd, Consumes}
 use Rattle.fab_base.specs.declared.limit.What.TheVariants.{Bytes}
 use Rattle.fab_command.specs.declared.command.Command.{Command}
-use Rattle.fab_command.specs.declared.command.Command.TheVariants.{Check, Evaluate, Flows, Format, Infer, Replay, Run, Trust, View}
+use Rattle.fab_command.specs.declared.command.Command.TheVariants.{Audit, Check, Evaluate, Flows, Format, Infer, Replay, Run, Trust, View}
 use Rattle.fab_front.specs.declared.status.Status.{Status}
-use Rattle.fab_front.specs.declared.status.Status.TheVariants.{Ok, Usage, ReadFault, WriteFault, Memory, Syntax, Limit, Name, Label as Labelled, NotEnabled, JournalFault, NoLeast, Robust}
+use Rattle.fab_front.specs.declared.status.Status.TheVariants.{Ok, Usage, ReadFault, WriteFault, Memory, Syntax, Limit, Name, Label as Labelled, NotEnabled, JournalFault, NoLeast, Robust, Trace, Wrong}
 use Rattle.fab_front.specs.declared.texts.Outcome.TheVariants as outcome
 use Rattle.fab_front.specs.Front.{IsFront, IsTooLong}
 use Rattle.fab_front.specs.Lines.{line, what_word}
-use Rattle.fab_reply.specs.Reply.{Answers, one_reply, interrupted, ran, in_run, without_text, sound, faulty, IsNoRefusal, Interrupted, IsComplete, IsJournalFault, Ran, Replies, usage, said, replayed, barred, unrobust, inferred}
+use Rattle.fab_reply.specs.Reply.{Answers, one_reply, interrupted, ran, in_run, without_text, sound, faulty, IsNoRefusal, Interrupted, IsComplete, IsJournalFault, Ran, Replies, usage, said, replayed, barred, unrobust, inferred, audited}
 use Rattle.fab_reply.specs.Reply.{AreCut, cut_short, untouched, AreLeft, JournalsAre, RepliesInPart, IsReply, IsInput, unasked, read, RepliesWith, Ends, ComesTo, SpeaksOfText}
-use Rattle.fab_front.specs.Refused.{syntax, limit, misnamed as name_refused, unknown, mislabelled}
+use Rattle.fab_front.specs.Refused.{AsksBundle, syntax, limit, misnamed as name_refused, unknown, mislabelled}
 use Rattle.fab_answers.specs.Says.{MakesRuns, Says, refused, formatted, checked, evaluated, flow}
 use Rattle.fab_answers.proofs.Saying.{limit_said}
 use Rattle.fab_inferred.specs.Infers.{Infers, misnamed, no_least, no_solution, solved}
+use Rattle.fab_audit.proofs.Statuses.{IsOfAudit, AsOk, AsSyntax, AsLimit, AsName, AsLabel, AsTrace, AsWrong, one_of_long_audit, status_of_audit}
 use Rattle.fab_front.proofs.Accepting.{short}
 use Rattle.fab_front.proofs.Fronts.{one_of_long}
 use Rattle.fab_node.specs.Standing.{GivenModel}
@@ -24,7 +25,7 @@ use Rattle.fab_replay.specs.declared.replayed.Wanted.{Wanted}
 use Rattle.fab_reply.specs.Headline.{Headline, IsPartFor, IsWholeFor}
 use Rattle.fab_reply.specs.Replays.{given_of}
 use Rattle.fab_reply.proofs.Replaying.{done_headline, fault_headline, no_fault, replay_unfailed}
-use Rattle.fab_reply.proofs.Replying.{no_reply, said_reply, usage_reply}
+use Rattle.fab_reply.proofs.Replying.{audited_reply, no_reply, said_reply, usage_reply}
 use Rattle.fab_reply.proofs.Wishes.{root_asked, runs_by}
 
 all_some : {A : Type 0} {P : A → Type 0} (o : Option A) → ((x : A) → P x) → IfSome o P
@@ -39,7 +40,22 @@ some_more (Some x) f h = f x h
 
 -- a reply to a text that is too long
 long_reply : {command : Command} {text : List ℕ} → IsTooLong text → IsReply (Some command) text (Limit Bytes) (line (codes "limit " ++ what_word Bytes))
-long_reply h = said_reply (limit_said (one_of_long h))
+long_reply {command} {text} h = by command
+  where
+    of_bundle : {c : Command} → AsksBundle c → IsReply (Some c) text (Limit Bytes) (line (codes "limit " ++ what_word Bytes))
+    of_bundle asks = said_reply (limit_said asks (one_of_long h))
+
+    by : (c : Command) → IsReply (Some c) text (Limit Bytes) (line (codes "limit " ++ what_word Bytes))
+    by Audit = audited_reply (one_of_long_audit h)
+    by Check = of_bundle tt
+    by Evaluate = of_bundle tt
+    by (Flows a b) = of_bundle tt
+    by Format = of_bundle tt
+    by Replay = of_bundle tt
+    by (Run x) = of_bundle tt
+    by (View names) = of_bundle tt
+    by (Trust names) = of_bundle tt
+    by Infer = of_bundle tt
 
 reply_of_long : {command : Command} {text reply : List ℕ} {status : Status} (more : List ℕ) → length text ≡ 4194305 → IsReply (Some command) text status reply → IsReply (Some command) (text ++ more) status reply
 reply_of_long {command = command} {text = text} {reply = reply} more l r =
@@ -135,6 +151,8 @@ module _ (command : Option Command) (l l' w w' : Option (List ℕ)) (old new : M
   exactly (NotEnabled event) e f = with_reply e
   exactly (NoLeast at) e f = with_reply e
   exactly (Robust at source principal) e f = with_reply e
+  exactly (Trace at) e f = with_reply e
+  exactly (Wrong line) e f = with_reply e
   exactly (JournalFault node) e f = with_reply e
 
   -- a run of an accepted bundle isn't refused
@@ -159,6 +177,8 @@ module _ (command : Option Command) (l l' w w' : Option (List ℕ)) (old new : M
   completely (NotEnabled event) e f = through e
   completely (NoLeast at) e f = through e
   completely (Robust at source principal) e f = through e
+  completely (Trace at) e f = through e
+  completely (Wrong line) e f = through e
   completely (JournalFault node) e f = through e
 
   speaks_not : {status : Status} → SpeaksOfText status → Limit Bytes ≡ status → ⊥
@@ -208,6 +228,8 @@ module _ (command : Option Command) (l l' w w' : Option (List ℕ)) (old new : M
   read_whole (NotEnabled event) e s = to_end s e
   read_whole (NoLeast at) e s = to_end s e
   read_whole (Robust at source principal) e s = to_end s e
+  read_whole (Trace at) e s = to_end s e
+  read_whole (Wrong line) e s = to_end s e
   read_whole (JournalFault node) e s = to_end s e
 
   -- where nothing is asked, `usage` comes
@@ -232,12 +254,14 @@ module _ (command : Option Command) (l l' w w' : Option (List ℕ)) (old new : M
   usage_comes (NotEnabled event) e f none = as_usage none e
   usage_comes (NoLeast at) e f none = as_usage none e
   usage_comes (Robust at source principal) e f none = as_usage none e
+  usage_comes (Trace at) e f none = as_usage none e
+  usage_comes (Wrong line) e f none = as_usage none e
   usage_comes (JournalFault node) e f none = as_usage none e
 
   -- and only there
   not_usage : {asked : Command} {text reply : List ℕ} {s : Status} → Says asked text s reply → s ≡ Usage → ⊥
-  not_usage (refused (syntax g)) h = absurd (cc)
-  not_usage (refused (limit g)) h = absurd (cc)
+  not_usage (refused (syntax asks g)) h = absurd (cc)
+  not_usage (refused (limit asks g)) h = absurd (cc)
   not_usage (refused (name_refused asks g k)) h = absurd (cc)
   not_usage (refused (unknown lacks g k)) h = absurd (cc)
   not_usage (refused (mislabelled asks g k m)) h = absurd (cc)
@@ -252,6 +276,15 @@ module _ (command : Option Command) (l l' w w' : Option (List ℕ)) (old new : M
   inferred_no_usage (no_solution g k m) h = absurd (cc)
   inferred_no_usage (solved g k m n) h = absurd (cc)
 
+  audited_no_usage : {s : Status} → IsOfAudit s → s ≡ Usage → ⊥
+  audited_no_usage AsOk h = absurd (cc)
+  audited_no_usage AsSyntax h = absurd (cc)
+  audited_no_usage AsLimit h = absurd (cc)
+  audited_no_usage AsName h = absurd (cc)
+  audited_no_usage AsLabel h = absurd (cc)
+  audited_no_usage AsTrace h = absurd (cc)
+  audited_no_usage AsWrong h = absurd (cc)
+
   nothing_asked : {asked : Option Command} {text reply : List ℕ} → Answers asked text Usage reply → asked ≡ None
   nothing_asked (one_reply r) = of_usage r.is
     where
@@ -259,6 +292,7 @@ module _ (command : Option Command) (l l' w w' : Option (List ℕ)) (old new : M
       of_usage usage = refl
       of_usage (said x) = absurd (not_usage x refl)
       of_usage (inferred x) = absurd (inferred_no_usage x refl)
+      of_usage (audited x) = absurd (audited_no_usage (status_of_audit x) refl)
   nothing_asked {asked = asked} {text = text} {reply = reply} (interrupted x) = elim x [ ]
   nothing_asked {asked = asked} {text = text} {reply = reply} (ran x) = elim x [ ]
 
@@ -275,13 +309,15 @@ module _ (command : Option Command) (l l' w w' : Option (List ℕ)) (old new : M
   only_unasked (NotEnabled event) e h = absurd (cc)
   only_unasked (NoLeast at) e h = absurd (cc)
   only_unasked (Robust at source principal) e h = absurd (cc)
+  only_unasked (Trace at) e h = absurd (cc)
+  only_unasked (Wrong line) e h = absurd (cc)
   only_unasked (JournalFault node) e h = absurd (cc)
 
   -- ---- runs
 
   said_no_fault : {asked : Command} {text reply : List ℕ} {s : Status} {node : ℕ} → Says asked text s reply → s ≡ JournalFault node → ⊥
-  said_no_fault (refused (syntax g)) h = absurd (cc)
-  said_no_fault (refused (limit g)) h = absurd (cc)
+  said_no_fault (refused (syntax asks g)) h = absurd (cc)
+  said_no_fault (refused (limit asks g)) h = absurd (cc)
   said_no_fault (refused (name_refused asks g k)) h = absurd (cc)
   said_no_fault (refused (unknown lacks g k)) h = absurd (cc)
   said_no_fault (refused (mislabelled asks g k m)) h = absurd (cc)
@@ -296,6 +332,15 @@ module _ (command : Option Command) (l l' w w' : Option (List ℕ)) (old new : M
   inferred_no_fault (no_solution g k m) h = absurd (cc)
   inferred_no_fault (solved g k m n) h = absurd (cc)
 
+  audited_no_fault : {s : Status} {node : ℕ} → IsOfAudit s → s ≡ JournalFault node → ⊥
+  audited_no_fault AsOk h = absurd (cc)
+  audited_no_fault AsSyntax h = absurd (cc)
+  audited_no_fault AsLimit h = absurd (cc)
+  audited_no_fault AsName h = absurd (cc)
+  audited_no_fault AsLabel h = absurd (cc)
+  audited_no_fault AsTrace h = absurd (cc)
+  audited_no_fault AsWrong h = absurd (cc)
+
   -- no reply has the status of a journal's fault
   no_journal_fault : {asked : Option Command} {text reply : List ℕ} {s : Status} {node : ℕ} → Replies asked text s reply → s ≡ JournalFault node → ⊥
   no_journal_fault usage h = absurd (cc)
@@ -304,6 +349,7 @@ module _ (command : Option Command) (l l' w w' : Option (List ℕ)) (old new : M
   no_journal_fault (barred w g k m) h = absurd (cc)
   no_journal_fault (unrobust w g k m n) h = absurd (cc)
   no_journal_fault (inferred x) h = inferred_no_fault x h
+  no_journal_fault (audited x) h = audited_no_fault (status_of_audit x) h
 
   of_run : {asked : Option Command} {text reply : List ℕ} {status : Status} {node : ℕ} → Answers asked text status reply → status ≡ JournalFault node → MakesRuns asked
   of_run (one_reply r) h = absurd (no_journal_fault r.is h)
@@ -327,6 +373,8 @@ module _ (command : Option Command) (l l' w w' : Option (List ℕ)) (old new : M
   fault_of_run (NotEnabled event) e node h = absurd (cc)
   fault_of_run (NoLeast at) e node h = absurd (cc)
   fault_of_run (Robust at source principal) e node h = absurd (cc)
+  fault_of_run (Trace at) e node h = absurd (cc)
+  fault_of_run (Wrong line) e node h = absurd (cc)
 
   -- what is so of a command that makes a run is so of one that is asked
   for_runs : (P : Option Command → Type 0) → MakesRuns command → ((c : Command) → command ≡ Some c → MakesRuns (Some c) → P (Some c)) → P command
@@ -347,6 +395,7 @@ module _ (command : Option Command) (l l' w w' : Option (List ℕ)) (old new : M
   is_left (Flows a b) text reply status runs h = absurd runs
   is_left Format text reply status runs h = absurd runs
   is_left Infer text reply status runs h = absurd runs
+  is_left Audit text reply status runs h = absurd runs
 
   -- the headline holds of what was written
   pub whole_headline : (status : Status) → Ends command status l l' w w' old new → MakesRuns command → status ≡ Ok → Headline command (IsWholeFor command) l l' w w'
@@ -383,6 +432,8 @@ module _ (command : Option Command) (l l' w w' : Option (List ℕ)) (old new : M
   left_unfailed c text reply (NotEnabled event) h k = replay_unfailed c text reply (NotEnabled event) old new h k
   left_unfailed c text reply (NoLeast at) h k = ap (λ (m : Makers). m.faults) h
   left_unfailed c text reply (Robust at source principal) h k = ap (λ (m : Makers). m.faults) h
+  left_unfailed c text reply (Trace at) h k = ap (λ (m : Makers). m.faults) h
+  left_unfailed c text reply (Wrong line) h k = ap (λ (m : Makers). m.faults) h
   left_unfailed c text reply (JournalFault node) h k = replay_unfailed c text reply (JournalFault node) old new h k
   left_unfailed c text reply Usage h k = ap (λ (m : Makers). m.faults) h
   left_unfailed c text reply ReadFault h k = ap (λ (m : Makers). m.faults) h
@@ -404,6 +455,7 @@ module _ (command : Option Command) (l l' w w' : Option (List ℕ)) (old new : M
   are_unfailed (Some (Flows a b)) text reply status h k = ap (λ (m : Makers). m.faults) h
   are_unfailed (Some Format) text reply status h k = ap (λ (m : Makers). m.faults) h
   are_unfailed (Some Infer) text reply status h k = ap (λ (m : Makers). m.faults) h
+  are_unfailed (Some Audit) text reply status h k = ap (λ (m : Makers). m.faults) h
   are_unfailed None text reply status h k = ap (λ (m : Makers). m.faults) h
 
   whole_unfailed : (status : Status) → RepliesWith status command l l' w w' old new → (IsJournalFault status → ⊥) → new.faults ≡ old.faults
@@ -435,4 +487,6 @@ module _ (command : Option Command) (l l' w w' : Option (List ℕ)) (old new : M
   makers_unfailed (NotEnabled event) e none = whole_unfailed (NotEnabled event) e none
   makers_unfailed (NoLeast at) e none = whole_unfailed (NoLeast at) e none
   makers_unfailed (Robust at source principal) e none = whole_unfailed (Robust at source principal) e none
+  makers_unfailed (Trace at) e none = whole_unfailed (Trace at) e none
+  makers_unfailed (Wrong line) e none = whole_unfailed (Wrong line) e none
   makers_unfailed (JournalFault node) e none = absurd (none tt)

@@ -7,7 +7,8 @@ use Rattle.fab_labelling.specs.Claims.{IsWellLabelled}
 use Rattle.fab_labelling.specs.Refusals.{IsFirstRefusal}
 use Rattle.fab_command.specs.declared.command.Command.{Command}
 use Rattle.fab_command.specs.declared.command.Telling.{Telling}
-use Rattle.fab_command.specs.declared.command.Command.TheVariants.{Check, Evaluate, Flows, Format, Infer, Replay, Run, Trust, View}
+use Rattle.fab_command.specs.declared.command.Command.TheVariants.{Audit, Check, Evaluate, Flows, Format, Infer, Replay, Run, Trust, View}
+use Rattle.fab_front.specs.declared.texts.Outcome.{Outcome}
 use Rattle.fab_front.specs.declared.texts.Outcome.TheVariants as outcome
 use Rattle.fab_front.specs.declared.status.Status.{Status}
 use Rattle.fab_front.specs.declared.status.Status.TheVariants.{NotEnabled, Ok, Robust, Usage}
@@ -20,6 +21,7 @@ use Rattle.fab_front.proofs.Outcomes.{no_limit, not_bundle, same_bundle}
 use Rattle.fab_front.proofs.Refusals.{none_refused}
 use Rattle.fab_answers.specs.Says.{IsSaid, MakesRuns, Says, refused, formatted, checked, evaluated, flow}
 use Rattle.fab_inferred.specs.Infers.{IsInferred, Infers, misnamed as first_misnamed, no_least, no_solution, solved}
+use Rattle.fab_audit.specs.Audits.{IsAudited}
 use Rattle.fab_rights.specs.declared.rights.Rights.{Rights}
 use Rattle.fab_trusted.specs.declared.rows.Guard.{Guard}
 use Rattle.fab_trusted.specs.Robust.{IsFirstUnkept, IsRobust, guards}
@@ -34,7 +36,7 @@ use Rattle.fab_replay.specs.Replays.{HasNoFault, is_scheduled, text_of as text_b
 use Rattle.fab_replay.proofs.Exact.{one_answer}
 use Rattle.fab_fitting.proofs.Rights.{one_rights}
 use Rattle.fab_reply.specs.Replays.{IsSetOf, IsUnrobust, ReplaysTo, Wants, given_of}
-use Rattle.fab_reply.specs.Reply.{Replies, usage, said, replayed, barred, unrobust, inferred, IsReply, status_of, text_of}
+use Rattle.fab_reply.specs.Reply.{Replies, usage, said, replayed, barred, unrobust, inferred, audited, HasOutcome, IsReply, status_of, text_of}
 use Rattle.fab_reply.proofs.Trusting.{one_unkept, robust_is_kept}
 use Rattle.fab_reply.proofs.Wishes.{names_found, root_found, runs_by, same_text, tells_alike}
 
@@ -44,6 +46,37 @@ usage_reply text = record { is = usage; only = λ s r. go s r; front = tt }
     go : (s : Status) (r : List ℕ) → Replies None text s r → (s ≡ Usage) × (r ≡ line (codes "usage"))
     go s r usage = (refl, refl)
 
+-- nothing is said to `audit` of a text as if it were a bundle
+none_said : {text reply : List ℕ} {status : Status} {A : Type 0} → Says Audit text status reply → A
+none_said (refused (syntax asks g)) = absurd asks
+none_said (refused (limit asks g)) = absurd asks
+none_said (refused (misnamed asks g h)) = absurd asks
+none_said (refused (unknown lacks g h)) = absurd lacks
+none_said (refused (mislabelled asks g h k)) = absurd asks
+
+-- what `audit` comes to is the reply to it
+pub audited_reply : {text reply : List ℕ} {status : Status} → IsAudited text status reply → IsReply (Some Audit) text status reply
+audited_reply {text} {reply} {status} k = record { is = audited k.is; only = λ s r. go s r; front = tt }
+  where
+    go : (s : Status) (r : List ℕ) → Replies (Some Audit) text s r → (s ≡ status) × (r ≡ reply)
+    go s r (said x) = none_said x
+    go s r (replayed w g h m) = absurd w
+    go s r (barred w g h m) = absurd w
+    go s r (audited x) = k.only s r x
+
+-- a text with an outcome has the one that is asked for
+has_outcome : (c : Command) {text : List ℕ} → (x : Outcome) × IsFront text x → HasOutcome (Some c) text
+has_outcome Audit h = tt
+has_outcome Check h = h
+has_outcome Evaluate h = h
+has_outcome (Flows a b) h = h
+has_outcome Format h = h
+has_outcome Replay h = h
+has_outcome (Run x) h = h
+has_outcome (View names) h = h
+has_outcome (Trust names) h = h
+has_outcome Infer h = h
+
 -- ---- of a bundle
 
 module _ {text : List ℕ} {start : Start} (f : IsFront text (outcome.Bundle start)) where
@@ -52,8 +85,8 @@ module _ {text : List ℕ} {start : Start} (f : IsFront text (outcome.Bundle sta
 
   -- of a text whose bundle is accepted nothing is said to a command of runs whose words all name something
   nothing_said : {c : Command} {A : Type 0} → MakesRuns (Some c) → (LacksName c start → ⊥) → faults start ≡ [] → IsWellLabelled (resolved start) → (s : Status) (r : List ℕ) → Says c text s r → A
-  nothing_said runs found named labelled s r (refused (syntax {at = b} g)) = not_bundle (f.only (outcome.Syntax b) g)
-  nothing_said runs found named labelled s r (refused (limit {what = b} g)) = no_limit (f.only (outcome.Limit b) g)
+  nothing_said runs found named labelled s r (refused (syntax {at = b} asks g)) = not_bundle (f.only (outcome.Syntax b) g)
+  nothing_said runs found named labelled s r (refused (limit {what = b} asks g)) = no_limit (f.only (outcome.Limit b) g)
   nothing_said runs found named labelled s r (refused (misnamed asks g k)) = none_first (ap faults (same g) ∙ named) k
   nothing_said {c} runs found named labelled s r (refused (unknown lacks g k)) = absurd (found (subst (LacksName c) (same g) lacks))
   nothing_said runs found named labelled s r (refused (mislabelled {x = y} asks g k l)) =
@@ -124,14 +157,15 @@ module _ {text : List ℕ} {start : Start} (f : IsFront text (outcome.Bundle sta
   unrobust_of Evaluate set named labelled of x h = absurd h
   unrobust_of Format set named labelled of x h = absurd h
   unrobust_of Infer set named labelled of x h = absurd h
+  unrobust_of Audit set named labelled of x h = absurd h
 
   -- what `infer` comes to is the reply to it
   pub inferred_reply : {status : Status} {reply : List ℕ} → IsInferred text status reply → IsReply (Some Infer) text status reply
   inferred_reply {status} {reply} k = record { is = inferred k.is; only = λ s r. go s r; front = (_, f) }
     where
       refused_not : {A : Type 0} (s : Status) (r : List ℕ) → Says Infer text s r → A
-      refused_not s r (refused (syntax {at = b} g)) = not_bundle (f.only (outcome.Syntax b) g)
-      refused_not s r (refused (limit {what = b} g)) = no_limit (f.only (outcome.Limit b) g)
+      refused_not s r (refused (syntax {at = b} asks g)) = not_bundle (f.only (outcome.Syntax b) g)
+      refused_not s r (refused (limit {what = b} asks g)) = no_limit (f.only (outcome.Limit b) g)
       refused_not s r (refused (misnamed asks g h)) = absurd asks
       refused_not s r (refused (unknown lacks g h)) = absurd lacks
       refused_not s r (refused (mislabelled asks g h l)) = absurd asks
@@ -154,7 +188,7 @@ module _ {text : List ℕ} {start : Start} (f : IsFront text (outcome.Bundle sta
 
     module _ (command : Command) (wanted : Wanted) (wants : Wants start command wanted) where
       pub replay_reply : (reply : List ℕ) → ReplaysTo start rights wanted (replays.Done reply) → IsReply (Some command) text Ok reply
-      replay_reply reply m = record { is = replayed wants f.is accepted m; only = λ s r. go wants m s r; front = (_, f) }
+      replay_reply reply m = record { is = replayed wants f.is accepted m; only = λ s r. go wants m s r; front = has_outcome command (_, f) }
         where
           go : {c : Command} {u : Wanted} → Wants start c u → ReplaysTo start rights u (replays.Done reply) → (s : Status) (r : List ℕ) → Replies (Some c) text s r → (s ≡ Ok) × (r ≡ reply)
           go {c} {u} w m s r (said x) = not_said u w accepted s r x
@@ -162,9 +196,10 @@ module _ {text : List ℕ} {start : Start} (f : IsFront text (outcome.Bundle sta
           go {c} {u} w m s r (barred {wanted = z} {event = n} v g k l) = let e = one_replay c z u (replays.NotEnabled n) (replays.Done reply) v w g k l m tt tt in (ap status_of e, ap text_of e)
           go {c} {u} w m s r (unrobust {names = names} {x = y} n g k l o) = is_robust names u w y g o
           go w m s r (inferred x) = absurd w
+          go w m s r (audited x) = absurd w
 
       pub barred_reply : (event : ℕ) → ReplaysTo start rights wanted (replays.NotEnabled event) → IsReply (Some command) text (NotEnabled event) (barred_line event)
-      barred_reply event m = record { is = barred wants f.is accepted m; only = λ s r. go wants m s r; front = (_, f) }
+      barred_reply event m = record { is = barred wants f.is accepted m; only = λ s r. go wants m s r; front = has_outcome command (_, f) }
         where
           go : {c : Command} {u : Wanted} → Wants start c u → ReplaysTo start rights u (replays.NotEnabled event) → (s : Status) (r : List ℕ) → Replies (Some c) text s r
               → (s ≡ NotEnabled event) × (r ≡ barred_line event)
@@ -173,6 +208,7 @@ module _ {text : List ℕ} {start : Start} (f : IsFront text (outcome.Bundle sta
           go {c} {u} w m s r (barred {wanted = z} {event = n} v g k l) = let e = one_replay c z u (replays.NotEnabled n) (replays.NotEnabled event) v w g k l m tt tt in (ap status_of e, ap text_of e)
           go {c} {u} w m s r (unrobust {names = names} {x = y} n g k l o) = is_robust names u w y g o
           go w m s r (inferred x) = absurd w
+          go w m s r (audited x) = absurd w
 
   -- a text whose bundle is accepted, and whose root may be read, has no reply for `run`
   unscheduled : (b : Start) (x : Telling) {A : Type 0} (u : Wanted) → Wants b (Run x) u → IsTrue (is_scheduled u) → A
@@ -190,7 +226,7 @@ module _ {text : List ℕ} {start : Start} (f : IsFront text (outcome.Bundle sta
 
 -- what is said of a text is the reply to it
 pub said_reply : {command : Command} {text reply : List ℕ} {status : Status} → IsSaid command text status reply → IsReply (Some command) text status reply
-said_reply {text = text} {reply = reply} {status = status} k = record { is = said k.is; only = λ s r. go k s r; front = k.front }
+said_reply {command} {text} {reply} {status} k = record { is = said k.is; only = λ s r. go k s r; front = has_outcome command k.front }
   where
     whole : {c : Command} {b : Start} → IsSaid c text status reply → Front text (outcome.Bundle b) → IsFront text (outcome.Bundle b)
     whole {b = b} k g = subst (IsFront text) (sym (k.front.1.only (outcome.Bundle b) g)) k.front.1
@@ -200,8 +236,8 @@ said_reply {text = text} {reply = reply} {status = status} k = record { is = sai
     of_bundle k g = at (whole k g) k.is
       where
         at : {b : Start} {A : Type 0} {s : Status} {r : List ℕ} → IsFront text (outcome.Bundle b) → Says Infer text s r → A
-        at f (refused (syntax {at = b} g)) = not_bundle (f.only (outcome.Syntax b) g)
-        at f (refused (limit {what = b} g)) = no_limit (f.only (outcome.Limit b) g)
+        at f (refused (syntax {at = b} asks g)) = not_bundle (f.only (outcome.Syntax b) g)
+        at f (refused (limit {what = b} asks g)) = no_limit (f.only (outcome.Limit b) g)
         at f (refused (misnamed asks g h)) = absurd asks
         at f (refused (unknown lacks g h)) = absurd lacks
         at f (refused (mislabelled asks g h l)) = absurd asks
@@ -218,3 +254,4 @@ said_reply {text = text} {reply = reply} {status = status} k = record { is = sai
     go k s r (barred {wanted = u} w g h m) = not_said (whole k g) u w h status reply k.is
     go k s r (unrobust {s = b} n g h m o) = nothing_said (whole k g) tt (λ lacks. true≢false (sym n ∙ lacks)) h m status reply k.is
     go k s r (inferred x) = not_inferred k x
+    go k s r (audited x) = none_said k.is

@@ -11,7 +11,7 @@ use Rattle.fab_language.specs.Numbers.{resolved}
 use Rattle.fab_command.specs.declared.command.Command.{Command}
 use Rattle.fab_command.specs.declared.command.Telling.{Telling}
 use Rattle.fab_command.specs.declared.command.Telling.TheVariants as telling
-use Rattle.fab_command.specs.declared.command.Command.TheVariants.{Check, Evaluate, Flows, Format, Infer, Replay, Run, Trust, View}
+use Rattle.fab_command.specs.declared.command.Command.TheVariants.{Audit, Check, Evaluate, Flows, Format, Infer, Replay, Run, Trust, View}
 use Rattle.fab_listing.specs.Listing.{listing, node_count, nodes_where, sent_text}
 use Rattle.fab_places.specs.declared.masks.Seen.{Seen}
 use Rattle.fab_rights.specs.Computed.{has_bit}
@@ -88,6 +88,7 @@ same_text s rights Evaluate u w accepted h k is moves = absurd h
 same_text s rights (Flows a b) u w accepted h k is moves = absurd h
 same_text s rights Format u w accepted h k is moves = absurd h
 same_text s rights Infer u w accepted h k is moves = absurd h
+same_text s rights Audit u w accepted h k is moves = absurd h
 
 -- so an answer tells of either run of the schedule
 pub tells_alike : (g : GivenModel) (u w : Wanted) (moves : List Move) (x : Replayed) → HasNoFault x → IsTrue (is_scheduled u) → IsTrue (is_scheduled w)
@@ -124,6 +125,7 @@ wished P replay run view trust Evaluate u h = absurd h
 wished P replay run view trust (Flows a b) u h = absurd h
 wished P replay run view trust Format u h = absurd h
 wished P replay run view trust Infer u h = absurd h
+wished P replay run view trust Audit u h = absurd h
 
 -- it makes runs
 pub runs_by : (s : Start) (c : Command) (u : Wanted) → Wants s c u → MakesRuns (Some c)
@@ -187,6 +189,7 @@ asks_names Evaluate h = tt
 asks_names (Flows a b) h = tt
 asks_names Format h = absurd h
 asks_names Infer h = absurd h
+asks_names Audit h = absurd h
 
 pub asks_labels : (s : Start) (c : Command) (set : ℕ) → MakesRuns (Some c) → IsSetOf s c set → AsksLabels c s
 asks_labels s Replay set runs h = tt
@@ -200,3 +203,4 @@ asks_labels s Evaluate set runs h = absurd runs
 asks_labels s (Flows a b) set runs h = absurd runs
 asks_labels s Format set runs h = absurd runs
 asks_labels s Infer set runs h = absurd runs
+asks_labels s Audit set runs h = absurd runs

@@ -16,7 +16,7 @@ use Rattle.fab_core.specs.Cores.{setting}
 use Rattle.fab_core.specs.Starts.{given_by}
 use Rattle.fab_command.specs.declared.command.Command.{Command}
 use Rattle.fab_command.specs.declared.command.Telling.{Telling}
-use Rattle.fab_command.specs.declared.command.Command.TheVariants.{Check, Evaluate, Flows, Format, Infer, Replay, Run, Trust, View}
+use Rattle.fab_command.specs.declared.command.Command.TheVariants.{Audit, Check, Evaluate, Flows, Format, Infer, Replay, Run, Trust, View}
 use Rattle.fab_command.specs.declared.command.Telling.TheVariants as telling
 use Rattle.fab_front.specs.Named.{are_node_names, is_named}
 use Rattle.fab_front.specs.Refused.{HasReadable}
@@ -94,6 +94,7 @@ Wants s Evaluate wanted = ⊥
 Wants s (Flows a b) wanted = ⊥
 Wants s Format wanted = ⊥
 Wants s Infer wanted = ⊥
+Wants s Audit wanted = ⊥
 
 -- such runs are made as this command may want, by who makes these
 abbrev pub CanMake : (Wanted → Bool) → Option Command → Type 0

@@ -17,6 +17,7 @@ use Rattle.fab_front.specs.Named.{are_node_names}
 use Rattle.fab_front.specs.Refused.{AsksLabels}
 use Rattle.fab_answers.specs.Says.{Says}
 use Rattle.fab_inferred.specs.Infers.{Infers}
+use Rattle.fab_audit.specs.Audits.{Audits}
 use Rattle.fab_front.specs.Reading.{ReadsText, WritesFront}
 use Rattle.fab_reply.specs.Replays.{ReplaysTo, RunsTo, Wants, given_of}
 use Rattle.fab_rights.specs.declared.rights.Rights.{Rights}
@@ -27,14 +28,14 @@ use Rattle.fab_replay.specs.declared.replayed.Replayed.TheVariants as replays
 use Rattle.fab_replay.specs.declared.replayed.Wanted.{Wanted}
 use Rattle.fab_replay.specs.Kept.{IsCutShort, IsReplayed, IsPossible}
 use Rattle.fab_front.specs.declared.status.Status.{Status}
-use Rattle.fab_front.specs.declared.status.Status.TheVariants.{Ok, Usage, ReadFault, WriteFault, Memory, Syntax, Name, Label as Labelled, Limit, NotEnabled, JournalFault, NoLeast, Robust}
+use Rattle.fab_front.specs.declared.status.Status.TheVariants.{Ok, Usage, ReadFault, WriteFault, Memory, Syntax, Name, Label as Labelled, Limit, NotEnabled, JournalFault, NoLeast, Robust, Trace, Wrong}
 use Rattle.fab_command.specs.declared.command.Command.{Command}
 use Rattle.fab_command.specs.declared.command.Telling.{Telling}
-use Rattle.fab_command.specs.declared.command.Command.TheVariants.{Infer, Replay, Run, Trust, View}
+use Rattle.fab_command.specs.declared.command.Command.TheVariants.{Audit, Infer, Replay, Run, Trust, View}
 
 -- Replies command text status written: the status, and what is written, for what is asked and the text that there was: what is said of it without a
 -- run; what is wanted of the schedule's run, or the first of its events that may not come; for `trust` the first declassification that isn't robust;
--- and for `infer` what its holes come to.
+-- for `infer` what its holes come to; and for `audit` what its report and journals do.
 pub data Replies : Option Command → List ℕ → Status → List ℕ → Type 0 where
   usage : {text : List ℕ} → Replies None text Usage (line (codes "usage"))
   said : {command : Command} {text reply : List ℕ} {status : Status} → Says command text status reply → Replies (Some command) text status reply
@@ -49,6 +50,7 @@ pub data Replies : Option Command → List ℕ → Status → List ℕ → Type 
       → IsFirstUnkept (resolved s) (guards (resolved s)) x
       → Replies (Some (Trust names)) text (Robust x.at x.source x.principal) (robust_line (resolved s) x.at x.source x.principal)
   inferred : {text reply : List ℕ} {status : Status} → Infers text status reply → Replies (Some Infer) text status reply
+  audited : {text reply : List ℕ} {status : Status} → Audits text status reply → Replies (Some Audit) text status reply
 
 -- Interrupted command text status written: a node's journal failed. In the schedule's run that is what is wanted of the run as it stands; or
 -- nothing is written, before there is a run or where there is no memory for its text.
@@ -69,9 +71,10 @@ pub data Ran : Option Command → List ℕ → Status → List ℕ → Type 0 wh
       → IsFront text (outcome.Bundle s) → IsAcceptedWith s rights → RunsTo s rights x (replays.JournalFault node (Some reply))
       → Ran (Some (Run x)) text (JournalFault node) reply
 
--- a text of which something is asked comes to one outcome
+-- a text of which something is asked comes to one outcome; that of `audit` is more than a bundle
 abbrev pub HasOutcome : Option Command → List ℕ → Type 0
 HasOutcome None text = Unit {0}
+HasOutcome (Some Audit) text = Unit {0}
 HasOutcome (Some command) text = (x : Outcome) × IsFront text x
 
 -- this is the reply, and there is no other
@@ -197,6 +200,8 @@ SpeaksOfText (NotEnabled event) = Unit {0}
 SpeaksOfText (JournalFault node) = Unit {0}
 SpeaksOfText (NoLeast at) = Unit {0}
 SpeaksOfText (Robust at source principal) = Unit {0}
+SpeaksOfText (Trace at) = Unit {0}
+SpeaksOfText (Wrong line) = Unit {0}
 SpeaksOfText _ = ⊥
 
 abbrev pub IsJournalFault : Status → Type 0

@@ -8,7 +8,7 @@ ghost use Rattle.fab_reply.specs.Reply.{Answers, AreCut, ComesTo, Ends, IsCut, I
 ghost use Rattle.fab_replay.specs.Courses.{IsCourse};
 ghost use Rattle.fab_front.specs.Reading.{TakesAtMost};
 ghost use Rattle.fab_answers.specs.Says.{MakesRuns};
-ghost use Rattle.fab_command.specs.declared.command.Command.TheVariants.{Infer};
+ghost use Rattle.fab_command.specs.declared.command.Command.TheVariants.{Audit, Infer};
 ghost use Rattle.fab_reply.specs.Replays.{CanMake};
 ghost use Rattle.fab_front.specs.declared.reading.ReadError.TheVariants.{Fault, Memory as Wanting};
 ghost use Rattle.fab_front.specs.declared.status.Status.{Status as AnyStatus};
@@ -16,6 +16,7 @@ ghost use Rattle.fab_front.specs.declared.status.Status.TheVariants.{Ok as Done,
 
 use crate::answers::replayed;
 use fab_answers::{Said, said_of};
+use fab_audit::audited;
 use fab_base::{NoMemory, Seq, Sink, SinkError, Source};
 use fab_command::Command;
 use fab_core::Core;
@@ -30,6 +31,13 @@ fn fills_holes(command: &Command) -> bool
     ensures { IsTrue result ↔ (command.now ≡ Infer) }
 {
     matches!(command, Command::Infer)
+}
+
+/// Whether a command asks for the verdict on a report, and makes no run.
+fn judges(command: &Command) -> bool
+    ensures { IsTrue result ↔ (command.now ≡ Audit) }
+{
+    matches!(command, Command::Audit)
 }
 
 /// What a command replies to a text.
@@ -49,6 +57,9 @@ pub(crate) fn replied<C: Course<Core<M::Item>>, M: Journals>(
     ensures later { (M.seen journals.old).faults ≤ (M.seen journals.new).faults }
     ensures told { (M.seen journals.new).may_fail ≡ (M.seen journals.old).may_fail }
 {
+    if judges(command) {
+        return audited(alloc, text);
+    }
     match said_of(alloc, command, text)? {
         Said::Reply { status, reply } => Ok((status, reply)),
         Said::Bundle(start) => {
@@ -141,8 +152,9 @@ fn run<C: Course<Core<M::Item>>, S: Source, K: Sink, M: Journals>(
 /// schedule's run, `run` for that, or the summary, of a run that its nodes make by themselves, `watch ROOT N` for that report
 /// and what is read of a root beside the run, N times, and behind it, `view NODE ..` for what was
 /// sent in the schedule's run into the set of these nodes and the hostile ones, by those outside it, `trust NODE ..`
-/// for its trusted replay without that set, and `infer` for the canonical text with the least labels for the bundle's
-/// holes. A text has at most 4,194,304 bytes. Of what the source has left, what the sink holds and which journals were kept, the
+/// for its trusted replay without that set, `infer` for the canonical text with the least labels for the bundle's
+/// holes, and `audit` whether the report that stands behind the bundle, and the journals behind it, are those of a run of it.
+/// A text has at most 4,194,304 bytes. Of what the source has left, what the sink holds and which journals were kept, the
 /// clauses speak where these tell it.
 pub fn answer<C: Course<Core<M::Item>>, S: Source, K: Sink, M: Journals>(
     alloc: Global,

@@ -6,18 +6,9 @@ use Rattle.fab_reports.specs.declared.line.ShownCommit.{ShownCommit}
 use Rattle.fab_reports.specs.declared.line.ShownOutcome.{ShownOutcome}
 use Rattle.fab_reports.specs.declared.line.ShownObject.{ShownObject}
 use Rattle.fab_reports.specs.declared.line.Line.{Line}
-use Rattle.fab_reports.specs.declared.line.Line.TheVariants.{Head, Event, Commit, Outcome, Object, End}
+use Rattle.fab_reports.specs.declared.line.Line.TheVariants.{Outcome, Object, End}
+use Rattle.fab_evidence.specs.Marks.{events_in}
 use Rattle.fab_reports.specs.Reports.{listed, numbered_commits, numbered_events}
-
--- the events of lines
-abbrev pub events_in : List Line → List ShownEvent
-events_in [] = []
-events_in (Head ∷ more) = events_in more
-events_in (Event number event ∷ more) = event ∷ events_in more
-events_in (Commit number commit ∷ more) = events_in more
-events_in (Outcome outcome ∷ more) = events_in more
-events_in (Object object ∷ more) = events_in more
-events_in (End count ∷ more) = events_in more
 
 behind_events : (n : ℕ) (events : List ShownEvent) (rest : List Line) → events_in (numbered_events n events ++ rest) ≡ events ++ events_in rest
 behind_events n [] rest = refl

@@ -1,6 +1,7 @@
 -- Where no name is declared twice, the name of a worker or store tells its number.
 use Rattle.std.proofs.Common.{◌≡◌, ℕ, suc, ◌==◌, Bool, true, false, cond, ◌||◌, List, [], ◌∷◌, ◌++◌, length, Option, Some, None, is_some, find, option_map, refl, sym, ap, ◌∙◌, arith}
 use Rattle.std.specs.List.{AllByRecursion, flat_map, list_any, filter}
+use Rattle.std.specs.Option.{option_and_then}
 use Rattle.std.specs.Str.{bytes_eq}
 use Rattle.std.proofs.lemmas.Bool.{eqb-true, false≢true, or_parts}
 use Rattle.std.proofs.lemmas.Slice.Eq.{bytes_eq-Decides}
@@ -22,6 +23,7 @@ use Rattle.fab_language.specs.Unknown.{unknown}
 use Rattle.fab_language.specs.Words.{has_number, node_text, text_or}
 use Rattle.fab_reports.specs.Showable.{IsNode}
 use Rattle.fab_named.proofs.Numbered.{IsAmong}
+use Rattle.fab_evidence.specs.Named.{node_named}
 
 -- ---- names that are declared once
 
@@ -56,14 +58,19 @@ other_behind x front (y ∷ ys) in_front e =
 
 -- ---- the name of a number, and the number of a name
 
-abbrev number_or : Option ℕ → ℕ
-number_or None = 0
-number_or (Some n) = n
+-- the number of the first that has this name, if there is one and it has a number
+abbrev number_in : List Principal → List ℕ → Option ℕ
+number_in [] text = None
+number_in (x ∷ xs) text = cond (bytes_eq x.name.text text) x.node (number_in xs text)
 
--- the number of the first that has this name
-abbrev pub number_in : List Principal → List ℕ → ℕ
-number_in [] text = 0
-number_in (x ∷ xs) text = cond (bytes_eq x.name.text text) (number_or x.node) (number_in xs text)
+named_is : (xs : List Principal) (text : List ℕ) → option_and_then (λ x. x.node) (find (λ x. bytes_eq x.name.text text) xs) ≡ number_in xs text
+named_is [] text = refl
+named_is (x ∷ xs) text = by (named_is xs text) (bytes_eq x.name.text text)
+  where
+    by : option_and_then (λ (y : Principal). y.node) (find (λ y. bytes_eq y.name.text text) xs) ≡ number_in xs text → (b : Bool)
+        → option_and_then (λ (y : Principal). y.node) (cond b (Some x) (find (λ y. bytes_eq y.name.text text) xs)) ≡ cond b x.node (number_in xs text)
+    by later true = refl
+    by later false = later
 
 -- the name of the first that has this number
 abbrev text_in : List Principal → ℕ → List ℕ
@@ -92,7 +99,7 @@ told x xs n b = text_or [] (option_map (λ y. y.name.text) (cond b (Some x) (fin
 
 -- the number of the name of a number is that number, where no name repeats one in front of it
 number_back : (xs front : List Node) (k n : ℕ) → repeats_behind node_name front xs ≡ [] → IsAmong (principals_from k xs) n
-    → number_in (principals_from k xs) (text_in (principals_from k xs) n) ≡ n
+    → number_in (principals_from k xs) (text_in (principals_from k xs) n) ≡ Some n
 number_back [] front k n e is = absurd (false≢true is)
 number_back (x ∷ xs) front k n e is = by (is_node x.role) is (λ j. number_back xs (front ++ x ∷ []) j n behind)
   where
@@ -106,26 +113,26 @@ number_back (x ∷ xs) front k n e is = by (is_node x.role) is (λ j. number_bac
     others = other_behind x (front ++ x ∷ []) xs (λ test none. (any_parts test front x none).1) behind
 
     -- the name that is found behind is another one
-    skips : (d : ℕ) (j : ℕ) → IsAmong (principals_from j xs) n
-        → (IsAmong (principals_from j xs) n → number_in (principals_from j xs) (text_in (principals_from j xs) n) ≡ n)
-        → cond (bytes_eq x.name.text (text_in (principals_from j xs) n)) d (number_in (principals_from j xs) (text_in (principals_from j xs) n)) ≡ n
+    skips : (d : Option ℕ) (j : ℕ) → IsAmong (principals_from j xs) n
+        → (IsAmong (principals_from j xs) n → number_in (principals_from j xs) (text_in (principals_from j xs) n) ≡ Some n)
+        → cond (bytes_eq x.name.text (text_in (principals_from j xs) n)) d (number_in (principals_from j xs) (text_in (principals_from j xs) n)) ≡ Some n
     skips d j g later =
         ap (λ b. cond b d (number_in (principals_from j xs) (text_in (principals_from j xs) n))) (of_text (λ t. bytes_eq x.name.text t ≡ false) xs j n others g)
         ∙ later g
 
     at : (b : Bool) → (n == k) ≡ b → is_some (cond b (Some (principal_of k x)) (find (λ y. has_number n y.node) (principals_from (suc k) xs))) ≡ true
-        → ((j : ℕ) → IsAmong (principals_from j xs) n → number_in (principals_from j xs) (text_in (principals_from j xs) n) ≡ n)
-        → cond (bytes_eq x.name.text (told (principal_of k x) (principals_from (suc k) xs) n b)) k (number_in (principals_from (suc k) xs) (told (principal_of k x) (principals_from (suc k) xs) n b)) ≡ n
+        → ((j : ℕ) → IsAmong (principals_from j xs) n → number_in (principals_from j xs) (text_in (principals_from j xs) n) ≡ Some n)
+        → cond (bytes_eq x.name.text (told (principal_of k x) (principals_from (suc k) xs) n b)) (Some k) (number_in (principals_from (suc k) xs) (told (principal_of k x) (principals_from (suc k) xs) n b)) ≡ Some n
     at true same g later =
-        ap (λ b. cond b k (number_in (principals_from (suc k) xs) x.name.text)) ((bytes_eq-Decides x.name.text x.name.text).1 refl) ∙ sym (eqb-true n k same)
-    at false same g later = skips k (suc k) g (later (suc k))
+        ap (λ b. cond b (Some k) (number_in (principals_from (suc k) xs) x.name.text)) ((bytes_eq-Decides x.name.text x.name.text).1 refl) ∙ ap Some (sym (eqb-true n k same))
+    at false same g later = skips (Some k) (suc k) g (later (suc k))
 
     by : (b : Bool) → is_some (cond (has_number n (cond b (Some k) None)) (Some (principal_of k x)) (find (λ y. has_number n y.node) (principals_from (cond b (suc k) k) xs))) ≡ true
-        → ((j : ℕ) → IsAmong (principals_from j xs) n → number_in (principals_from j xs) (text_in (principals_from j xs) n) ≡ n)
-        → cond (bytes_eq x.name.text (told (principal_of k x) (principals_from (cond b (suc k) k) xs) n (has_number n (cond b (Some k) None)))) (number_or (cond b (Some k) None))
-        (number_in (principals_from (cond b (suc k) k) xs) (told (principal_of k x) (principals_from (cond b (suc k) k) xs) n (has_number n (cond b (Some k) None)))) ≡ n
+        → ((j : ℕ) → IsAmong (principals_from j xs) n → number_in (principals_from j xs) (text_in (principals_from j xs) n) ≡ Some n)
+        → cond (bytes_eq x.name.text (told (principal_of k x) (principals_from (cond b (suc k) k) xs) n (has_number n (cond b (Some k) None)))) (cond b (Some k) None)
+        (number_in (principals_from (cond b (suc k) k) xs) (told (principal_of k x) (principals_from (cond b (suc k) k) xs) n (has_number n (cond b (Some k) None)))) ≡ Some n
     by true g later = at (n == k) refl g later
-    by false g later = skips 0 k g (later k)
+    by false g later = skips None k g (later k)
 
 -- ---- a bundle without faults
 
@@ -152,5 +159,5 @@ module _ (s : Start) (right : faults s ≡ []) where
       left_nil a b (left_nil (a ++ b) c (left_nil (a ++ b ++ c) d four))
 
   -- the name of a worker or store tells its number
-  pub number_told : (n : ℕ) → IsNode (resolved s) n → number_in (resolved s).nodes (node_text (resolved s) n) ≡ n
-  number_told n is = number_back s.program.nodes [] 0 n once is
+  pub number_told : (n : ℕ) → IsNode (resolved s) n → node_named (resolved s) (node_text (resolved s) n) ≡ Some n
+  number_told n is = named_is (resolved s).nodes (node_text (resolved s) n) ∙ number_back s.program.nodes [] 0 n once is

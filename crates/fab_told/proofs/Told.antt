@@ -1,6 +1,6 @@
 -- A report tells the events of its run, so two runs with one report have the same events.
 use Rattle.std.specs.Prelude.{◌≡◌, ℕ, List, [], ◌∷◌, map}
-use Rattle.std.proofs.Common.{refl, sym, ap, ◌∙◌, subst}
+use Rattle.std.proofs.Common.{Option, Some, length, refl, sym, ap, ◌∙◌, subst, arith}
 use Rattle.fab_base.specs.declared.token.Token.{Token}
 use Rattle.fab_base.specs.Tokens.{Lexes}
 use Rattle.fab_tree.specs.declared.resolved.Resolved.{Resolved}
@@ -20,32 +20,44 @@ use Rattle.fab_reports.proofs.Wholes.{one_report}
 use Rattle.fab_trace.specs.Report.{commits_in}
 use Rattle.fab_shown.specs.Shown.{all_held, all_outcomes, lines_of, log_of, report_of, world_behind}
 use Rattle.fab_shown.proofs.Shown.{read_back, showable}
-use Rattle.fab_told.proofs.Events.{event_back, log_told}
-use Rattle.fab_told.proofs.Lines.{events_in, events_listed}
-use Rattle.fab_told.proofs.Names.{number_in, number_told}
+use Rattle.fab_evidence.specs.Marks.{events_in}
+use Rattle.fab_evidence.specs.Named.{named_event}
+use Rattle.fab_told.proofs.Events.{log_told}
+use Rattle.fab_told.proofs.Lines.{events_listed}
+use Rattle.fab_told.proofs.Names.{number_told}
 
 -- a log has the events of its moves
-events_logged : (S : Setting) (w : World) (moves : List Move) → map (λ x. x.event) (logs S w moves) ≡ map (λ m. m.event) moves
-events_logged S w [] = refl
-events_logged S w (move ∷ moves) = ap (λ events. move.event ∷ events) (events_logged S (step S w move) moves)
+pub events_logged : {A : Type 0} (f : Event → A) (S : Setting) (w : World) (moves : List Move) → map (λ x. f x.event) (logs S w moves) ≡ map (λ m. f m.event) moves
+events_logged f S w [] = refl
+events_logged f S w (move ∷ moves) = ap (λ events. f move.event ∷ events) (events_logged f S (step S w move) moves)
+
+-- moves have the same events where these are told alike
+alike : (xs ys : List Move) → map (λ m. Some m.event) xs ≡ map (λ m. Some m.event) ys → map (λ m. m.event) xs ≡ map (λ m. m.event) ys
+alike [] [] e = refl
+alike [] (y ∷ ys) e = absurd (omega (arith, ap length e))
+alike (x ∷ xs) [] e = absurd (omega (arith, ap length e))
+alike (x ∷ xs) (y ∷ ys) e =
+    let one : x.event ≡ y.event = cc in
+    let more : map (λ m. Some m.event) xs ≡ map (λ m. Some m.event) ys = cc in
+    λ j. one j ∷ alike xs ys more j
 
 module _ (text : List ℕ) (ts : List Token) (s : Start) (rights : Rights) (cut : Lexes 0 text ts) (is : IsText ts s) (a : IsAcceptedWith s rights) where
   abbrev r : Resolved
   r = resolved s
 
   -- the events that lines tell
-  abbrev told_by : List Line → List Event
-  told_by lines = map (event_back (number_in r.nodes)) (events_in lines)
+  abbrev told_by : List Line → List (Option Event)
+  told_by lines = map (named_event r) (events_in lines)
 
   -- the lines of a run tell its events
-  told : (moves : List Move) → IsRun (setting_of r rights) moves → told_by (lines_of r rights moves) ≡ map (λ m. m.event) moves
+  told : (moves : List Move) → IsRun (setting_of r rights) moves → told_by (lines_of r rights moves) ≡ map (λ m. Some m.event) moves
   told moves run =
       let log = log_of r rights moves in
       let w = world_behind r rights moves in
       let shown = events_listed (events_of r [] log) (map (commit_of r) (commits_in log)) (printed.all_outcomes r 0 (all_outcomes r rights w)) (printed.all_objects r 0 (all_held r rights w)) in
-      ap (map (event_back (number_in r.nodes))) shown
-      ∙ (log_told r (number_in r.nodes) (number_told s a.named) [] log (showable text ts s rights moves cut is a run).events_are_in
-      ∙ events_logged (setting_of r rights) (at_start (setting_of r rights)) moves)
+      ap (map (named_event r)) shown
+      ∙ (log_told r (number_told s a.named) [] log (showable text ts s rights moves cut is a run).events_are_in
+      ∙ events_logged Some (setting_of r rights) (at_start (setting_of r rights)) moves)
 
   -- one report has one list of lines
   same_lines : (first second : List Move) → IsRun (setting_of r rights) first → IsRun (setting_of r rights) second
@@ -58,4 +70,4 @@ module _ (text : List ℕ) (ts : List Token) (s : Start) (rights : Rights) (cut 
   pub same_events : (first second : List Move) → IsRun (setting_of r rights) first → IsRun (setting_of r rights) second
       → report_of r rights first ≡ report_of r rights second → map (λ m. m.event) first ≡ map (λ m. m.event) second
   same_events first second one other same =
-      sym (told first one) ∙ (ap told_by (same_lines first second one other same) ∙ told second other)
+      alike first second (sym (told first one) ∙ (ap told_by (same_lines first second one other same) ∙ told second other))

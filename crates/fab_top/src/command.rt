@@ -40,7 +40,8 @@ use std::thread::Threads;
 /// evaluation, `flows A B` whether its label A flows to its label B, with the reasons, `fmt` for its
 /// canonical text, `infer` for its canonical text with the least labels for its holes, `replay` for the report of
 /// its schedule's run, `view NODE ..` for what was sent in that run into the set of these nodes and the hostile
-/// ones, by those outside it, and `trust NODE ..` for its trusted replay without that set. A text has at most
+/// ones, by those outside it, `trust NODE ..` for its trusted replay without that set, and `audit` whether the report
+/// that stands behind the bundle, and the journals behind it, are those of a run of it. A text has at most
 /// 4,194,304 bytes. `gen N SIZE` reads nothing, and asks for the text of the bundle that is made up from
 /// these numbers. Of what the source has left, what the sink holds and which journals were kept, the clauses speak
 /// where these tell it.

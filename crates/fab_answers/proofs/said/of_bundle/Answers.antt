@@ -14,4 +14,4 @@ pub returns-in_ok-status-in-Format : goal.returns-in_ok-status-in-Format
 returns-in_ok-status-in-Format c = rw c.in-Format.is c.in_ok-status-in-Format.ensures
 
 pub returns-in-Replay : goal.returns-in-Replay
-returns-in-Replay c = (search rules, c.requires)
+returns-in-Replay c = (search rules, c.requires.front)

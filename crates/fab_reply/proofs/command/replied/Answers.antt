@@ -2,8 +2,21 @@ use Rattle.std.proofs.Common.{sym, ◌∙◌, true≢false}
 use Rattle.fab_reply.specs.Reply.{one_reply}
 use Rattle.fab_device.specs.Kept.{Makers}
 use Rattle.fab_reply.proofs.Replying.{said_reply}
-use Rattle.fab_reply.proofs.Saying.{all_left, answered_infer, is_left, runs_else}
+use Rattle.fab_reply.proofs.Saying.{all_left, answered_audit, answered_infer, asked_else, audit_left, is_left, runs_else}
 use Rattle.fab_reply.proofs.command.replied.Goals as goal
+
+pub returns-then-judges-clause-replies : goal.returns-then-judges-clause-replies
+returns-then-judges-clause-replies g c =
+    answered_audit c.args.command.now c.args.text.now c.audited.result (c.judges.ensures.0 c.if-judges.true) c.audited.ensures
+
+pub returns-then-judges-clause-journals : goal.returns-then-judges-clause-journals
+returns-then-judges-clause-journals g c =
+    let J = g.M.Journals in
+    let old : Makers = J.seen c.args.journals.now in
+    audit_left c.args.command.now c.args.text.now old c.audited.result (c.judges.ensures.0 c.if-judges.true)
+
+pub said_of-requires : goal.said_of-requires
+said_of-requires g c = asked_else c.args.command.now (λ is. true≢false (sym (c.judges.ensures.1 is) ∙ c.if-judges.false))
 
 pub returns-in-Reply-clause-replies : goal.returns-in-Reply-clause-replies
 returns-in-Reply-clause-replies g c = let p = rw c.in-Reply.is at c.in_ok-status.ensures in one_reply (said_reply p)

@@ -1,0 +1,2 @@
+-- what is promised of a run
+pub mod Sound
