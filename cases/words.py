@@ -6,7 +6,7 @@ UNKNOWN = (6, f"name unknown at {len(SMALLEST)}\n")
 
 
 def rows(fill):
-    odd = [[], [""], ["flows", "A", ""], ["flows", "A ", "B"], ["view", "w1", ""], ["trust", "w1", ""], ["infer", ""], ["watch", "", "3"], ["watch", "a", ""], ["watch", "a", "3 "], ["drill", "7", "3 "], ["view", *["s1"] * 33], ["trust", *["s1"] * 33]]
+    odd = [[], [""], ["flows", "A", ""], ["flows", "A ", "B"], ["view", "w1", ""], ["trust", "w1", ""], ["infer", ""], ["audit", ""], ["watch", "", "3"], ["watch", "a", ""], ["watch", "a", "3 "], ["drill", "7", "3 "], ["view", *["s1"] * 33], ["trust", *["s1"] * 33]]
     for words in odd:
         yield f"{words}", [(words, SMALLEST, *NOTHING)]
     # a name has at most 64 bytes, and at most 32 nodes are named

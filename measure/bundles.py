@@ -75,6 +75,7 @@ def transfers(name, n, end=""):
     put(name, "".join(text) + "schedule{" + turn * (n // 4) + end + "}}\n")
 
 
+transfers("transfers-19992.fab", 1_428)
 transfers("transfers-56000.fab", 4_000)
 transfers("transfers-99960.fab", 7_140)
 transfers("transfers-99960-recovered.fab", 7_140, RECOVERED)
@@ -183,6 +184,7 @@ released("released-forth-recovered.fab", 5_000, True, RECOVERED)
 # ---- recoveries in a replay, and fetches
 
 put("recoveries.fab", "worker w1;store s1;run{schedule{" + "crash w1;recover w1;" * 10_000 + "}}\n")
+put("crashes-99960.fab", "worker w1;store s1;run{schedule{" + "crash s1;recover s1;" * 49_980 + "}}\n")
 FETCH = "01010000000000010000000100010000ffff0000000000000000ffff0000"
 put("posts.fab", "principal Bank;hostile worker x1;store s1;s1 actsfor Bank;label T={Bank->;Bank<-};class Account label T access T{int balance;}"
     "run{root a:Account@s1(100);" + f'post x1->s1"{FETCH}";' * 10_000 + "schedule{" + "post x1;deliver x1 s1;" * 10_000 + "}}\n")
