@@ -39,7 +39,8 @@ pub data Audits (text : List ℕ) : Status → List ℕ → Type 0 where
   unreported : {s : Start} {rights : Rights}
       → length text ≤ limit_of Bytes → HasNoReport text → Spells text s rights → Audits text (Trace (length text)) (trace_line (length text))
   traced : {bundle report : List ℕ} {s : Start} {rights : Rights} {at : ℕ}
-      → length text ≤ limit_of Bytes → IsParted text bundle report → Spells bundle s rights → IsBadAudit (resolved s) (honest_nodes (resolved s) rights) report at
+      → length text ≤ limit_of Bytes → IsParted text bundle report → Spells bundle s rights
+      → IsBadAudit (resolved s) (honest_nodes (resolved s) rights) report at
       → Audits text (Trace (length bundle + at)) (trace_line (length bundle + at))
   wrong : {bundle report : List ℕ} {s : Start} {rights : Rights} {x : Difference}
       → length text ≤ limit_of Bytes → IsParted text bundle report → Spells bundle s rights → IsWrong (resolved s) rights report x

@@ -24,7 +24,8 @@ told_move event marked = record { event = event; marked = marked }
 
 -- whether an event that is told came: it may, and the moves are one more; or it may not, and they are as they were
 abbrev pub ComesAsTold : GivenModel → List Move → List Move → Event → Bool → Bool → Type 0
-ComesAsTold g old new event marked true = (enabled (setting g) (world_by g old) (form_of (told_move event marked)) ≡ true) × (new ≡ old ++ told_move event marked ∷ [])
+ComesAsTold g old new event marked true =
+    (enabled (setting g) (world_by g old) (form_of (told_move event marked)) ≡ true) × (new ≡ old ++ told_move event marked ∷ [])
 ComesAsTold g old new event marked false = (enabled (setting g) (world_by g old) (form_of (told_move event marked)) ≡ false) × (new ≡ old)
 
 -- the moves are those of the events up to the first that may not come or names no node, and whether these are all
