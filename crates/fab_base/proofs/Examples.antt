@@ -1,7 +1,7 @@
 -- Worked examples of the definitions.
 use Rattle.std.proofs.Common.{◌≡◌, [], ◌∷◌, Some, None, refl, codes, pos, negsuc}
 use Rattle.fab_base.specs.Arith.{java_quotient}
-use Rattle.fab_base.specs.Tokens.{word_kind, front_at, sign_at, Front, stands, unfit, Lexes, over, blank, token}
+use Rattle.fab_base.specs.Tokens.{word_kind, front_at, sign_at, stands, unfit, Lexes, over, blank, token}
 use Rattle.fab_base.specs.declared.token.Mark.TheVariants as m
 use Rattle.fab_base.specs.declared.token.Kind.TheVariants as k
 use Rattle.fab_base.specs.declared.token.Piece.TheVariants as p

@@ -4,6 +4,7 @@ pub mod FieldSpelling
 pub mod FlatMap
 pub mod JournalSpelling
 pub mod Labels
+pub mod Letters
 pub mod MessageSpelling
 pub mod Principals
 pub mod Sinks

@@ -77,6 +77,15 @@ impl<T> Seq<T> {
 }
 
 impl<T: Drop> Seq<T> {
+    /// The list of this element, with room for no other: a list that grows makes room for four.
+    pub fn of_one(alloc: Global, item: T) -> Result<Seq<T>, NoMemory>
+        ensures { IfOk result (λ s. s ≡ item ∷ []) }
+    {
+        let mut items = Vec::with_capacity(alloc, 1)?;
+        items.push(item)?;
+        Ok(Seq { items })
+    }
+
     /// One more element at the end. Without memory the list stays as it was.
     pub fn push(&mut self, item: T) -> Result<(), NoMemory>
         ensures ok { OnOk result (self.new ≡ self.old ++ item ∷ []) }

@@ -1,27 +1,42 @@
 ghost use Rattle.std.specs.Prelude.{◌≡◌, IfOk, IsAscii};
 
 use crate::seq::NoMemory;
+use arrayvec::ArrayString;
 use std::alloc::Global;
 use std::marker::Model;
+use std::str;
+use std::sync::ArcStr;
 
-/// A text, over a `String`. Contracts see it as its bytes in UTF-8.
+/// So many bytes stand in the text itself, so that it is as large as a `String`, 24 bytes.
+const SHORT: usize = 8;
+
+/// Where the bytes of a text stand: of a short one in itself, so that it takes no memory, and of a longer one
+/// in memory that all its copies share.
+#[derive(Debug, Drop)]
+enum Letters {
+    Short(ArrayString<SHORT>),
+    Long(ArcStr),
+}
+
+/// A text. Contracts see it as its bytes in UTF-8.
 #[derive(Debug)]
 pub struct Text {
-    string: String,
+    letters: Letters,
 }
 
 impl Drop for Text {
     fn drop(self) {
-        let Text { string } = self;
+        let Text { letters } = self;
     }
 }
 
 impl Model for Text {
-    ghost use Rattle.std.specs.Prelude.{List, ℕ, string_bytes};
+    ghost use Rattle.std.specs.Prelude.{List, ℕ};
+    ghost use Rattle.fab_base.specs.Letters.{bytes_of};
 
     ghost Value = { List ℕ };
 
-    ghost view = { λ t. string_bytes t.string };
+    ghost view = { λ t. bytes_of t.letters };
 }
 
 impl Text {
@@ -29,8 +44,11 @@ impl Text {
     pub fn make(alloc: Global, letters: &str) -> Result<Text, NoMemory>
         ensures { IfOk result (λ t. t ≡ letters.now) }
     {
-        let string = String::from_str(alloc, letters)?;
-        Ok(Text { string })
+        let letters = match ArrayString::from(letters) {
+            Ok(short) => Letters::Short(short),
+            Err(_) => Letters::Long(ArcStr::from_str(alloc, letters)?),
+        };
+        Ok(Text { letters })
     }
 
     /// The text of these ASCII letters.
@@ -38,22 +56,30 @@ impl Text {
         requires { IsAscii letters.now }
         ensures { IfOk result (λ t. t ≡ letters.now) }
     {
-        let string = String::from_utf8_lossy(alloc, letters)?;
-        Ok(Text { string })
+        match str::from_utf8(letters) {
+            Ok(text) => Text::make(alloc, text),
+            Err(_) => unreachable!(),
+        }
     }
 
-    /// The same text again.
-    pub fn copy(&self, alloc: Global) -> Result<Text, NoMemory>
+    /// The same text again, sharing what stands elsewhere. It takes no memory, and fails only where a count of copies would overflow.
+    pub fn copy(&self) -> Result<Text, NoMemory>
         ensures { IfOk result (λ t. t ≡ self.now) }
     {
-        let string = String::from_str(alloc, self.string.as_str())?;
-        Ok(Text { string })
+        let letters = match &self.letters {
+            Letters::Short(short) => Letters::Short(*short),
+            Letters::Long(long) => Letters::Long(long.clone()?),
+        };
+        Ok(Text { letters })
     }
 
     /// The text as a `&str`.
     pub fn as_str(&self) -> &str
         ensures { result.now ≡ self.now }
     {
-        self.string.as_str()
+        match &self.letters {
+            Letters::Short(short) => short.as_str(),
+            Letters::Long(long) => long.as_str(),
+        }
     }
 }

@@ -5,7 +5,6 @@ ghost use Rattle.fab_infer.specs.Fill.{IsFilled, of_labels};
 
 use fab_base::{NoMemory, Text};
 use fab_tree::{LabelText, Name};
-use std::alloc::Global;
 
 /// Whether a name is `infer`.
 fn is_infer(name: &Name) -> bool
@@ -55,14 +54,14 @@ impl<'a> Declared<'a> {
     }
 
     /// The name of the label of a number at the place of this one, which stays where there is no label.
-    fn named(&self, alloc: Global, label: u16, name: Name) -> Result<Name, NoMemory>
+    fn named(&self, label: u16, name: Name) -> Result<Name, NoMemory>
         ensures { IfOk result (λ x. x ≡ chosen_name (of_labels self.now.labels.now) (Some label) name) }
     {
         match self.labels.get(usize::from(label)) {
             None => Ok(name),
             Some(found) => {
                 let mut name = name;
-                name.text = found.name.text.copy(alloc)?;
+                name.text = found.name.text.copy()?;
                 Ok(name)
             }
         }
@@ -71,7 +70,6 @@ impl<'a> Declared<'a> {
     /// A label's name, with the name of the first of these labels for a hole, and the labels that are left.
     pub(crate) fn fill_name<'c>(
         &self,
-        alloc: Global,
         name: Name,
         choice: &'c [u16],
     ) -> Result<(Name, &'c [u16]), NoMemory>
@@ -83,7 +81,7 @@ impl<'a> Declared<'a> {
         match choice.split_first() {
             None => Ok((name, choice)),
             Some((label, left)) => {
-                let name = self.named(alloc, *label, name)?;
+                let name = self.named(*label, name)?;
                 Ok((name, left))
             }
         }

@@ -13,7 +13,6 @@ use std::mem;
 
 /// A parameter with a label for its hole, and the labels that are left.
 fn fill_parameter<'c>(
-    alloc: Global,
     declared: &Declared<'_>,
     parameter: Parameter,
     choice: &'c [u16],
@@ -21,7 +20,7 @@ fn fill_parameter<'c>(
     ensures { IfOk result (λ t. IsFilled (λ choice. filled_parameter (of_labels declared.now.labels.now) choice parameter) choice.now t.0 t.1.now) }
 {
     let Parameter { sort, name, label } = parameter;
-    let (label, left) = declared.fill_name(alloc, label, choice)?;
+    let (label, left) = declared.fill_name(label, choice)?;
     Ok((Parameter { sort, name, label }, left))
 }
 
@@ -37,7 +36,7 @@ fn fill_parameters<'c>(
     let mut left = choice;
     let mut out = Seq::new(alloc);
     'parameters: for parameter in parameters.into_vec() {
-        let (parameter, after) = fill_parameter(alloc, declared, parameter, left)?;
+        let (parameter, after) = fill_parameter(declared, parameter, left)?;
         out.push(parameter)?;
         left = after;
     }
@@ -85,7 +84,6 @@ fn fill_other<'c>(
 
 /// The declaration of a local with a label for its hole, and the labels that are left.
 fn fill_declaration<'c>(
-    alloc: Global,
     declared: &Declared<'_>,
     local: Parameter,
     value: Expression,
@@ -95,7 +93,7 @@ fn fill_declaration<'c>(
     ensures { IfOk result (λ t. IsFilled (λ choice. filled_statement (of_labels declared.now.labels.now) choice (Declare local.sort local.name local.label value at)) choice.now t.0 t.1.now) }
 {
     let Parameter { sort, name, label } = local;
-    let (label, left) = declared.fill_name(alloc, label, choice)?;
+    let (label, left) = declared.fill_name(label, choice)?;
     let statement = Statement::Declare {
         sort,
         name,
@@ -171,7 +169,7 @@ fn fill_statement<'c>(
             at,
         } => {
             let local = Parameter { sort, name, label };
-            fill_declaration(alloc, declared, local, value, at, choice)
+            fill_declaration(declared, local, value, at, choice)
         }
         Statement::If {
             condition,

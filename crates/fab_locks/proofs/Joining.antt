@@ -12,7 +12,7 @@ use Rattle.fab_base.specs.declared.message.Items.{Items}
 use Rattle.fab_protocol.specs.Versions.{is_tid}
 use Rattle.fab_protocol.specs.Stores.{Prepared, prepared_as, without}
 use Rattle.fab_locks.specs.Conflicts.{AreDistinct, bars, first_barring, holds_tid}
-use Rattle.fab_locks.proofs.Tids.{distinct_filter, distinct_push, holds_here, one_tid, prepared_absent, tid_self, without_absent}
+use Rattle.fab_locks.proofs.Tids.{distinct_filter, distinct_push, holds_here, kept_here, kept_past, one_tid, prepared_absent, tid_self, without_absent}
 
 -- ---- the first that bars a name
 
@@ -51,6 +51,14 @@ absent_behind_held t (x ∷ xs) ys h held = step (λ k. absent_behind_held t xs 
         (or_parts (holds_tid t xs) (holds_tid t ys) (sym (held_either t xs ys) ∙ subst (λ u. holds_tid u (xs ++ ys) ≡ false) (one_tid x.0 t is) h.0)).1
     step rest false is k = rest k
 
+-- and who is held in the second isn't in the first
+absent_before_held : (t : Tid) (xs ys : List Prepared) → AreDistinct (xs ++ ys) → holds_tid t ys ≡ true → holds_tid t xs ≡ false
+absent_before_held t xs ys h held = step (holds_tid t xs) refl
+  where
+    step : (b : Bool) → holds_tid t xs ≡ b → holds_tid t xs ≡ false
+    step false e = e
+    step true e = absurd (true≢false (sym held ∙ absent_behind_held t xs ys h e))
+
 -- ---- one goes
 
 held_since : (t : Tid) (xs : List Prepared) (p : Prepared) → prepared_as t xs ≡ p ∷ [] → holds_tid t xs ≡ true
@@ -62,6 +70,19 @@ held_since t xs p h = step (holds_tid t xs) refl
       where
         no_nil : (q : Prepared) → q ∷ [] ≡ [] → ⊥
         no_nil q same = cc
+
+-- where none goes, all stay
+none_left : (t : Tid) (ps : List Prepared) → prepared_as t ps ≡ [] → without t ps ≡ ps
+none_left t [] h = refl
+none_left t (p ∷ ps) h = step (λ k. none_left t ps k) (is_tid p.0 t) refl h
+  where
+    no_nil : (q : Prepared) (qs : List Prepared) → q ∷ qs ≡ [] → ⊥
+    no_nil q qs same = cc
+
+    step : (prepared_as t ps ≡ [] → without t ps ≡ ps) → (b : Bool) → is_tid p.0 t ≡ b → prepared_as t (p ∷ ps) ≡ [] → without t (p ∷ ps) ≡ p ∷ ps
+    step rest true e k = absurd (no_nil p (prepared_as t ps) (sym (kept_here (λ q. is_tid q.0 t) p ps e) ∙ k))
+    step rest false e k =
+        kept_here (λ q. not (is_tid q.0 t)) p ps (ap not e) ∙ ap (λ l. p ∷ l) (rest (sym (kept_past (λ q. is_tid q.0 t) p ps e) ∙ k))
 
 module _ (t : Tid) (xs ys : List Prepared) where
   prepared_either : prepared_as t (xs ++ ys) ≡ prepared_as t xs ++ prepared_as t ys
@@ -79,6 +100,29 @@ module _ (t : Tid) (xs ys : List Prepared) where
 
     pub left_first : without t xs ++ ys ≡ without t (xs ++ ys)
     left_first = ap (λ l. without t xs ++ l) (sym (without_absent t ys absent)) ∙ without_either
+
+  module _ (p : Prepared) (distinct : AreDistinct (xs ++ ys)) (was : prepared_as t ys ≡ p ∷ []) where
+    absent_before : holds_tid t xs ≡ false
+    absent_before = absent_before_held t xs ys distinct (held_since t ys p was)
+
+    freed_second : prepared_as t (xs ++ ys) ≡ p ∷ []
+    freed_second = prepared_either ∙ (λ i. prepared_absent t xs absent_before i ++ was i)
+
+    left_second : xs ++ without t ys ≡ without t (xs ++ ys)
+    left_second = ap (λ l. l ++ without t ys) (sym (without_absent t xs absent_before)) ∙ without_either
+
+  -- where it is one of the second, it goes, and else nothing does
+  module _ (distinct : AreDistinct (xs ++ ys)) (left : List Prepared) (is : left ≡ without t ys) where
+    pub freed_newest : (r : Option Items) → MatchOption r (prepared_as t ys ≡ []) (λ items. prepared_as t ys ≡ (t, items) ∷ [])
+        → MatchOption r (xs ++ left ≡ xs ++ ys) (λ items. (prepared_as t (xs ++ ys) ≡ (t, items) ∷ []) × (xs ++ left ≡ without t (xs ++ ys)))
+    freed_newest None h = ap (λ l. xs ++ l) (is ∙ none_left t ys h)
+    freed_newest (Some items) h = (freed_second (t, items) distinct h, ap (λ l. xs ++ l) is ∙ left_second (t, items) distinct h)
+
+    pub distinct_newest : (r : Option Items) → MatchOption r (prepared_as t ys ≡ []) (λ items. prepared_as t ys ≡ (t, items) ∷ [])
+        → AreDistinct (xs ++ left)
+    distinct_newest None h = subst (λ l. AreDistinct (xs ++ l)) (sym (is ∙ none_left t ys h)) distinct
+    distinct_newest (Some items) h =
+        subst AreDistinct (sym (ap (λ l. xs ++ l) is ∙ left_second (t, items) distinct h)) (distinct_filter (λ p. not (is_tid p.0 t)) (xs ++ ys) distinct)
 
   pub freed_behind : (r : Option Items) → prepared_as t xs ≡ []
       → MatchOption r (prepared_as t ys ≡ []) (λ items. prepared_as t ys ≡ (t, items) ∷ [])

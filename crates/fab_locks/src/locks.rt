@@ -114,8 +114,25 @@ impl Locks {
         ensures held { self.new.held ≡ without tid self.old.held }
         ensures spare { self.old.spare ≤ self.new.spare }
     {
-        self.settle();
-        self.free_settled(tid)
+        match self.free_newest(tid) {
+            Some(items) => Some(items),
+            None => {
+                self.settle();
+                self.free_settled(tid)
+            }
+        }
+    }
+
+    /// The same where it is one of few in the list: what goes soon behind its coming never gets into the
+    /// indexes, however many items it has.
+    fn free_newest(&mut self, tid: Tid) -> Option<Items>
+        ensures items { MatchOption result (self.new.held ≡ self.old.held) (λ items. (prepared_as tid self.old.held ≡ (tid, items) ∷ []) × (self.new.held ≡ without tid self.old.held)) }
+        ensures spare { self.old.spare ≤ self.new.spare }
+    {
+        if self.beside.len() > FEW {
+            return None;
+        }
+        free_beside(&mut self.beside, tid)
     }
 
     fn free_settled(&mut self, tid: Tid) -> Option<Items>

@@ -24,7 +24,7 @@ pub(crate) fn principals(alloc: Global, nodes: &[Node]) -> Result<Seq<Principal>
     let mut number = 0u16;
     for node in nodes {
         let of_node = is_node(node.role);
-        principals.push(principal(alloc, number, node)?)?;
+        principals.push(principal(number, node)?)?;
         if of_node {
             number += 1;
         }
@@ -33,12 +33,12 @@ pub(crate) fn principals(alloc: Global, nodes: &[Node]) -> Result<Seq<Principal>
 }
 
 /// A principal that has this number if it is a worker or a store.
-fn principal(alloc: Global, number: u16, node: &Node) -> Result<Principal, NoMemory>
+fn principal(number: u16, node: &Node) -> Result<Principal, NoMemory>
     ensures { IfOk result (λ r. r ≡ principal_of number node.now) }
 {
     Ok(Principal {
         role: node.role,
-        name: copied(alloc, &node.name)?,
+        name: copied(&node.name)?,
         node: if is_node(node.role) {
             Some(number)
         } else {
@@ -81,7 +81,7 @@ impl Numbered for LabelText {
 
     fn numbered(&self, alloc: Global, tables: &Tables<'_>) -> Result<NamedLabel, NoMemory> {
         Ok(NamedLabel {
-            name: copied(alloc, &self.name)?,
+            name: copied(&self.name)?,
             label: label(alloc, tables, self.policies.as_slice())?,
         })
     }
@@ -139,7 +139,7 @@ impl Numbered for Class {
 
     fn numbered(&self, alloc: Global, tables: &Tables<'_>) -> Result<NumberedClass, NoMemory> {
         Ok(NumberedClass {
-            name: copied(alloc, &self.name)?,
+            name: copied(&self.name)?,
             label: label_use(tables, &self.label),
             access: label_use(tables, &self.access),
             fields: each_numbered(alloc, tables, self.fields.as_slice())?,
@@ -157,7 +157,7 @@ impl Numbered for Field {
     fn numbered(&self, alloc: Global, tables: &Tables<'_>) -> Result<NumberedField, NoMemory> {
         Ok(NumberedField {
             sort: numbered_sort(tables, &self.sort),
-            name: copied(alloc, &self.name)?,
+            name: copied(&self.name)?,
         })
     }
 }

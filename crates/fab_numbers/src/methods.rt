@@ -78,7 +78,7 @@ fn numbered_method<'a>(
     let body = numbered_block(alloc, &scope, sites, method.body.as_slice())?;
     let result = numbered_result(alloc, &scope, sites, &method.result)?;
     Ok(NumberedMethod {
-        name: copied(alloc, &method.name)?,
+        name: copied(&method.name)?,
         parameters: method.parameters.len() as u16,
         locals: numbered_locals(alloc, tables, scope.locals.as_slice())?,
         returns: numbered_returns(tables, &method.returns),
@@ -138,21 +138,17 @@ fn numbered_locals(
 {
     let mut made = Seq::new(alloc);
     for local in locals {
-        made.push(numbered_local(alloc, tables, local)?)?;
+        made.push(numbered_local(tables, local)?)?;
     }
     Ok(made)
 }
 
-fn numbered_local(
-    alloc: Global,
-    tables: &Tables<'_>,
-    local: &Declaration<'_>,
-) -> Result<Local, NoMemory>
+fn numbered_local(tables: &Tables<'_>, local: &Declaration<'_>) -> Result<Local, NoMemory>
     ensures { IfOk result (λ r. r ≡ numbered_local tables.now local.now) }
 {
     Ok(Local {
         sort: numbered_sort(tables, local.sort),
-        name: copied(alloc, local.name)?,
+        name: copied(local.name)?,
         label: label_use(tables, local.label),
     })
 }

@@ -35,7 +35,7 @@ fn numbered_root(
     ensures { IfOk result (λ r. r ≡ root_of tables.now number root.now) }
 {
     Ok(NumberedRoot {
-        name: copied(alloc, &root.name)?,
+        name: copied(&root.name)?,
         oid: oid(tables, number, root),
         values: Seq::from_vec(values(alloc, tables, root.values.as_slice())?),
     })

@@ -37,11 +37,11 @@ pub(crate) fn each_numbered<T: Numbered>(
 }
 
 /// The same name again, at the same place.
-pub(crate) fn copied(alloc: Global, name: &Name) -> Result<Name, NoMemory>
+pub(crate) fn copied(name: &Name) -> Result<Name, NoMemory>
     ensures { IfOk result (λ n. n ≡ name.now) }
 {
     Ok(Name {
-        text: name.text.copy(alloc)?,
+        text: name.text.copy()?,
         at: name.at,
     })
 }

@@ -63,12 +63,12 @@ pub fn separated<R: Item>(
 ) -> Result<(Seq<R::Tree>, &[Token]), Refusal>
     ensures { MatchResult result (λ x. Read (Separated R.between R.reads) (behind_items R.first R.parts R.may) room tokens.now x.0 x.1.now) (λ e. Stops (Separated R.between R.reads) (behind_items R.first R.parts R.may) room tokens.now e) }
 {
-    let mut found = Seq::new(alloc);
     if !R::starts(tokens) {
-        return Ok((found, tokens));
+        return Ok((Seq::new(alloc), tokens));
     }
+    // Most lists have one item, and there are as many as calls in a text.
     let (item, after) = R::read(alloc, tokens, room)?;
-    found.push(item)?;
+    let mut found = Seq::of_one(alloc, item)?;
     let mut rest = after;
     'list: while let Some(after) = behind(rest, R::mark()) {
         let (item, after) = R::read(alloc, after, room)?;

@@ -86,7 +86,7 @@ pub fn name(alloc: Global, tokens: &[Token], room: u8) -> Result<(Name, &[Token]
         None => Err(Refusal::Syntax { left: 0 }),
         Some((token, rest)) => match &token.kind {
             Kind::Name(text) => {
-                let text = text.copy(alloc)?;
+                let text = text.copy()?;
                 Ok((Name { text, at: token.at }, rest))
             }
             _ => Err(Refusal::Syntax { left: tokens.len() }),

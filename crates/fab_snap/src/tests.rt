@@ -173,3 +173,49 @@ fn a_thread_reads_beside_the_writer(rt: HostRuntime) -> Result<(), Fail> {
     assert_eq!(rt; last?, (1000, 1000));
     Ok(())
 }
+
+/// Pays 1 twice, up to the first commit that finds no memory, and counts what was added.
+fn adds<R: Wait>(rt: &R, alloc: Global, writer: &mut SnapWriter) -> (u32, bool) {
+    let mut added = 0u32;
+    for paid in 1..3i32 {
+        if writer.is_broken() {
+            return (added, true);
+        }
+        let Ok(commit) = commit(
+            alloc,
+            [(0, 1000i32.wrapping_sub(paid)), (1, paid)].as_slice(),
+        ) else {
+            return (added, false);
+        };
+        match writer.add(rt, &commit) {
+            Ok(()) => added = added.wrapping_add(1),
+            Err(_) => return (added, true),
+        }
+    }
+    (added, false)
+}
+
+/// A refused add leaves list, count and what is read, and breaks the writer. By `rt try --test --fail-alloc N`
+/// each allocation of both adds is refused in turn (docs/PROVING.md has the numbers); without, nothing is.
+#[test]
+fn refused_adds_leave_all(rt: HostRuntime) -> Result<(), Fail> {
+    let alloc = rt.alloc();
+    let start = start(alloc)?;
+    let mut writer = snap_writer(&rt, alloc, start, 2)?;
+    let made = writer.reader();
+    let Ok(mut reader) = made else {
+        writer.close(&rt);
+        return Ok(());
+    };
+    let (added, refused) = adds(&rt, alloc, &mut writer);
+    let seen = read(&mut reader, 1);
+    let ours = read_last(&mut writer, 0);
+    let (count, listed, broken) = (writer.count(), writer.commits().len(), writer.is_broken());
+    writer.close(&rt);
+    let paid = i32::try_from(added).unwrap_or(-1);
+    assert_eq!(rt; (count, listed), (added, added as usize));
+    assert_eq!(rt; broken, refused);
+    assert!(rt; seen.is_err() || seen == Ok((added, paid)));
+    assert!(rt; ours.is_err() || ours == Ok((added, 1000i32.wrapping_sub(paid))));
+    Ok(())
+}

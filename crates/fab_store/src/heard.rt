@@ -24,6 +24,12 @@ fn is_above(tid: Tid, last: Tid) -> bool
     tid.boot > last.boot || tid.boot == last.boot && tid.number > last.number
 }
 
+/// Whether this may be a Prepare, by its kind, the second byte: the one message for which it is asked who bars
+/// a name. It tells what an answer costs, not which one it is.
+pub fn may_be_prepare(bytes: &[u8]) -> bool {
+    bytes.get(1) == Some(&4)
+}
+
 /// Whether workers send such a message, and its tid, if it has one, is the sender's.
 fn is_own(message: &Message, sender: u16) -> bool
     ensures { result ≡ is_own sender message.now }

@@ -12,6 +12,7 @@ ghost use Rattle.fab_store.specs.Stock.{CanKeepSaid, HasRoom, HasRoomFor, OnlyGa
 ghost use Rattle.fab_protocol.specs.Shelves.{CanKeep, IsShelf};
 
 use crate::changes::keep_record;
+use crate::heard::may_be_prepare;
 use crate::plan::StorePlan;
 use crate::senders::none_heard;
 use crate::start::table_at_start;
@@ -142,7 +143,9 @@ impl Store {
         ensures can { IfOk result (λ plan. CanKeepSaid self.new.rights self.new.node plan.entry self.new.shelf) }
         ensures kept { OnlyGainsRoom self.old self.new }
     {
-        self.locks.settle();
+        if may_be_prepare(bytes) {
+            self.locks.settle();
+        }
         let said = self.hears(sender, bytes)?;
         if let Some(entry) = &said.entry {
             self.make_room_for(entry)?;

@@ -1,4 +1,4 @@
-use Rattle.std.proofs.Common.{◌++◌, ◌∷◌, sym, ap, subst, ◌∙◌, append-nil, arith}
+use Rattle.std.proofs.Common.{◌++◌, sym, ap, subst, append-nil, arith}
 use Rattle.std.proofs.lemmas.Result.{err_from_is_err_and}
 use Rattle.fab_tree.specs.Lists.{Is}
 use Rattle.fab_reading.specs.Reading.{Lacks}
@@ -8,7 +8,7 @@ use Rattle.fab_reading.proofs.item.separated.Goals as goal
 
 pub returns-then-not-starts : goal.returns-then-not-starts
 returns-then-not-starts g c =
-    whole (alike (λ v. c.new-found.result) (no_items g.R.Item.first g.R.Item.parts g.R.Item.may g.R.Item.between g.met.R.Item.begins c.args.tokens.now (λ s. not_true c.if-not-starts.true (c.starts.ensures.1 s))) (λ v. sym c.new-found.ensures))
+    whole (alike (λ v. c.new.result) (no_items g.R.Item.first g.R.Item.parts g.R.Item.may g.R.Item.between g.met.R.Item.begins c.args.tokens.now (λ s. not_true c.if-not-starts.true (c.starts.ensures.1 s))) (λ v. sym c.new.ensures))
 
 pub returns-in_err-item : goal.returns-in_err-item
 returns-in_err-item g c =
@@ -20,9 +20,7 @@ list-init g c =
     alike _
     (part (first_item g.R.Item.first g.R.Item.parts g.R.Item.may g.R.Item.between c.args.tokens.now (c.starts.ensures.0 c.if-not-starts.false))
     c.in_ok-item.ensures (items_meet g.R.Item.first g.R.Item.parts g.R.Item.may g.R.Item.between g.met.R.Item.is_part g.met.R.Item.follows))
-    (λ v.
-    ap (λ z. z ++ (c.in_ok-item.item ∷ v)) (sym c.new-found.ensures) ∙ one_more c.new-found.result _ c.in_ok-item.item c.in_ok-push.ensures.ok
-    v)
+    (λ v. ap (λ z. z ++ v) (sym c.in_ok-found.ensures))
 
 pub returns-in_err-item-2 : goal.returns-in_err-item-2
 returns-in_err-item-2 g c =
@@ -48,7 +46,7 @@ list-preserved g c =
     (subst (λ x. Is x c.list.rest.now c.in-Some.after.now) c.mark.ensures c.in-Some.ensures))
     (subst (λ x. Is x c.list.rest.now c.in-Some.after.now) c.mark.ensures c.in-Some.ensures) (g.met.R.Item.level c.args.room))
     c.in_ok-item-2.ensures (items_meet g.R.Item.first g.R.Item.parts g.R.Item.may g.R.Item.between g.met.R.Item.is_part g.met.R.Item.follows))
-    (one_more _ _ _ c.in_ok-push-2.ensures.ok)
+    (one_more _ _ _ c.in_ok-push.ensures.ok)
 
 pub returns : goal.returns
 returns g c =

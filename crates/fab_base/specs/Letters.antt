@@ -1,0 +1,9 @@
+-- The bytes of a text, wherever they stand.
+use Rattle.std.specs.Prelude.{ℕ, List}
+use Rattle.std.specs.Arc.{arc_str_bytes}
+use Rattle.fab_base.specs.declared.text.Letters.{Letters}
+use Rattle.fab_base.specs.declared.text.Letters.TheVariants.{Short, Long}
+
+abbrev pub bytes_of : Letters → List ℕ
+bytes_of (Short s) = s.bytes
+bytes_of (Long s) = arc_str_bytes s
