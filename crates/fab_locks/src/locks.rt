@@ -14,7 +14,7 @@ use std::marker::Model;
 
 /// So many of the newest may stand in the list: more than there are nodes, 32, since an honest worker has
 /// one transaction at a time prepared.
-const FEW: usize = 64;
+const FEW: usize = 128;
 
 /// So many items of theirs: a name that is asked is sought among these.
 const FEW_ITEMS: usize = 512;

@@ -57,7 +57,7 @@ fn tid_of(number: u64) -> Tid {
     Tid {
         worker: (number % 3) as u16,
         boot: 1,
-        number: (number / 3 % 12) as u32,
+        number: (number / 3 % 100) as u32,
     }
 }
 
@@ -146,7 +146,7 @@ fn call(
     let tid = tid_of(number / 16);
     if number % 16 == 15 {
         locks.settle();
-    } else if number % 16 == 0 {
+    } else if number % 256 == 0 {
         locks.free_all(tid.worker);
         list.retain(|one| one.0.worker != tid.worker);
     } else if number % 16 < 5 {
@@ -166,7 +166,7 @@ fn made_up_calls_answer_as_a_plain_list_does(rt: HostRuntime) -> Result<(), Fail
     let mut locks = Locks::new(alloc);
     let mut list = Vec::new(alloc);
     let mut state = 7;
-    for _ in 0..600u32 {
+    for _ in 0..900u32 {
         let number = next(&mut state);
         call(alloc, &mut locks, &mut list, number)?;
         assert!(rt; are_held(&locks, list.as_slice()));

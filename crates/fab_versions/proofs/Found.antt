@@ -1,6 +1,6 @@
 -- What a search among ascending rows finds, and what is read or written there.
 use Rattle.std.proofs.Common.{◌≡◌, ℕ, zero, suc, ◌+◌, ◌<◌, true, List, [], ◌∷◌, length, get_or, set, Some, None, Result, Ok, Err, IfOk, IfErr, refl, sym, ◌∙◌, ap, subst, add-one, arith}
-use Rattle.std.specs.List.{insert}
+use Rattle.std.specs.List.{AllByRecursion, insert}
 use Rattle.std.specs.List.Sorted.{IsSearchInRange, IsBinarySearchResult, IsSortedBy}
 use Rattle.std.specs.Ordering.{is_lt, is_eq}
 use Rattle.std.proofs.lemmas.List.Elements.{All-from_recursion}
@@ -8,7 +8,7 @@ use Rattle.std.proofs.lemmas.List.Sorted.{searchable_from_sorted}
 use Rattle.fab_base.specs.declared.object.Oid.{Oid}
 use Rattle.fab_base.specs.FlatMap.{is_before, is_same}
 use Rattle.fab_base.proofs.Names.{same_self, same_flips}
-use Rattle.fab_base.proofs.NameOrder.{name_cmp, name_cmp_total, derived_cmp, derived_is, before_is, same_is, before_from_less, before_from_greater, differ, not_back, one_name}
+use Rattle.fab_base.proofs.NameOrder.{name_cmp, name_cmp_total, derived_cmp, derived_is, before_is, same_is, before_from_less, before_from_greater, differ, not_back, before_trans, one_name}
 use Rattle.fab_protocol.specs.Tables.{row_of, placed, ascends}
 use Rattle.fab_protocol.proofs.TableLaws.{row_here, row_past, parted, leads_all, placed_before, placed_behind, placed_over}
 use Rattle.fab_versions.specs.Places.{IsAt, IsGap}
@@ -103,3 +103,22 @@ module _ {R : Type 0} (name : R → Oid) where
   placed_in_gap (row ∷ rows) o (suc i) gap r e =
       placed_behind name r (row ∷ []) rows (ap (is_before (name row)) e ∙ gap.before 0 row (omega arith) (omega arith), tt)
       ∙ ap (λ l. row ∷ l) (placed_in_gap rows o i (gap_tail row rows o i gap) r e)
+
+  -- ---- a name behind the last
+  pub before_last : (rows : List R) → ascends name rows ≡ true → (o : Oid) (n : ℕ) (d : R) → n + 1 ≡ length rows → is_before (name (get_or rows n d)) o ≡ true
+      → AllByRecursion (λ row. is_before (name row) o ≡ true) rows
+  before_last [] h o n d e last = tt
+  before_last (row ∷ []) h o zero d e last = (last, tt)
+  before_last (row ∷ []) h o (suc n) d e last = absurd (omega (arith, e))
+  before_last (row ∷ next ∷ rows) h o zero d e last = absurd (omega (arith, e))
+  before_last (row ∷ next ∷ rows) h o (suc n) d e last =
+      let order = parted name row (next ∷ rows) h in
+      let rest = before_last (next ∷ rows) order.1 o n d (omega (arith, e)) last in
+      (before_trans (name row) (name next) o order.0 rest.0, rest)
+
+  pub gap_at_end : (rows : List R) (o : Oid) → AllByRecursion (λ row. is_before (name row) o ≡ true) rows → IsGap name rows o (length rows)
+  gap_at_end rows o h = record {
+    in_range = omega arith;
+    before = λ k d low lt. All-from_recursion (λ x. is_before (name x) o ≡ true) rows h k d lt;
+    behind = λ k d low lt. absurd (omega (arith, low, lt));
+  }

@@ -1,11 +1,8 @@
 -- Blocks of rows in the order of names: the block of a name, and what is found, put and moved there.
-use Rattle.std.proofs.Common.{◌≡◌, ◌⊎◌, inl, inr, ℕ, ◌+◌, ◌<◌, Bool, true, false, cond, not, ◌&&◌, ◌||◌, ◌==◌, if◌then◌else◌, IsTrue, List, [], ◌∷◌, ◌++◌, map, length, take, drop, Some, None, Result, Ok, Err, OnOk, OnErr, is_ok, refl, sym, subst, ap, ◌∙◌, append-nil, append_assoc, take-append-drop, arith}
+use Rattle.std.proofs.Common.{◌≡◌, ◌⊎◌, inl, inr, ℕ, zero, suc, ◌+◌, ◌-◌, ◌<◌, ◌≤◌, Bool, true, false, cond, ◌&&◌, ◌||◌, ◌==◌, if◌then◌else◌, IsTrue, List, [], ◌∷◌, ◌++◌, map, length, get_or, set, take, drop, Option, Some, None, MatchOption, Result, Ok, Err, OnOk, OnErr, is_ok, refl, sym, subst, ap, ◌∙◌, append_assoc, take-append-drop, arith}
 use Rattle.std.specs.Prelude.{nat_lt}
-use Rattle.std.specs.BTreeMap.{insert_entry, is_at}
-use Rattle.std.specs.List.{AllByRecursion, filter}
-use Rattle.std.specs.Map.{lookup, set_value}
-use Rattle.std.specs.Ordering.{is_eq, is_lt, match_ordering}
-use Rattle.std.specs.declared.cmp.Ordering.TheVariants.{Less, Greater}
+use Rattle.std.specs.List.{AllByRecursion, HoldsAt, insert}
+use Rattle.std.specs.Option.{SomeIff}
 use Rattle.std.proofs.lemmas.Bool.{true≢false}
 use Rattle.std.proofs.lemmas.Bool.Decides.{nat_tests}
 use Rattle.std.proofs.lemmas.List.{map-append}
@@ -13,12 +10,13 @@ use Rattle.fab_base.specs.declared.object.Oid.{Oid}
 use Rattle.fab_base.specs.declared.object.Object.{Object}
 use Rattle.fab_base.specs.FlatMap.{is_before, is_same}
 use Rattle.fab_base.proofs.Names.{same_flips}
-use Rattle.fab_base.proofs.NameOrder.{same_is, one_name, cases_name, before_is, before_trans, not_itself, not_back, differ, less_from_before, greater_from_before, derived_cmp, derived_is, derived_itself}
-use Rattle.fab_base.proofs.Lists.{all_append, all_split, all_along, all_two, all_map, all_of_map, some_same}
+use Rattle.fab_base.proofs.NameOrder.{cases_name, before_trans, not_itself, not_back, differ}
+use Rattle.fab_base.proofs.Lists.{all_append, all_split, all_along, all_two, all_map, all_of_map, front_at}
 use Rattle.fab_protocol.specs.Tables.{row_of, placed, ascends}
 use Rattle.fab_protocol.specs.Versions.{Rows, name_of}
 use Rattle.fab_protocol.proofs.TableLaws.{leads, leads_all, parted, headed, row_of_none, row_of_behind, placed_before, placed_behind, all_placed, ascends_placed, ascends_parts}
-use Rattle.fab_versions.specs.Blocked.{Block, rows_in, AreFrom, AreBefore, Precedes, IsBlock, InBlocks, AreBehind, IsBlockOf, IsFree, IsCut}
+use Rattle.fab_versions.specs.Blocked.{Block, rows_in, AreFrom, AreBefore, Precedes, IsBlock, InBlocks, AreBehind, IsBlockAt, IsFreeAt, IsCut}
+use Rattle.fab_versions.specs.Places.{IsAt, IsGap}
 use Rattle.fab_versions.specs.Holdings.{Holding}
 use Rattle.fab_versions.proofs.Merged.{ascends_front}
 
@@ -47,6 +45,10 @@ module _ {T E : Type 0} where
 
   pub not_ok : {e : E} (r : Result T E) (P : Type 0) → r ≡ Err e → OnOk r P
   not_ok r P is = subst (λ s. OnOk s P) (sym is) tt
+
+  pub either_way : (r : Result T E) (P : List Block → Type 0) (xs ys zs : List Block) → xs ≡ (if is_ok r then ys else zs) → P ys → P zs → P xs
+  either_way (Ok x) P xs ys zs e p q = subst P (sym e) p
+  either_way (Err x) P xs ys zs e p q = subst P (sym e) q
 
   pub either : (r : Result T E) (P : Rows → Type 0) (xs ys zs : Rows) → xs ≡ (if is_ok r then ys else zs) → P ys → P zs → P xs
   either (Ok x) P xs ys zs e p q = subst P (sym e) p
@@ -82,22 +84,6 @@ not_below x b h = grind (arith, nat_tests)
 pub none_before_least : (o : Oid) → is_before o least ≡ false
 none_before_least o =
     not_below o.store _ (not_below o.class _ (not_below o.worker _ (not_below o.boot _ (not_below o.number _ (not_below o.site _ (not_below o.index false refl))))))
-
--- keys that a tree doesn't tell apart are one name
-at_is : (o p : Oid) → is_same p o ≡ is_at (derived_cmp o) p
-at_is o p = same_flips p o ∙ same_is o p ∙ ap is_eq (sym (derived_is o p))
-
-key_here : (k : Oid) → is_at (derived_cmp k) k ≡ true
-key_here k = ap is_eq (derived_itself k)
-
-key_apart : (p k : Oid) → is_before p k ≡ true → is_at (derived_cmp k) p ≡ false
-key_apart p k h = sym (at_is k p) ∙ differ p k h
-
-goes_before : (o p : Oid) → is_before o p ≡ true → derived_cmp o p ≡ Less
-goes_before o p h = derived_is o p ∙ less_from_before o p h
-
-goes_behind : (o p : Oid) → is_before p o ≡ true → derived_cmp o p ≡ Greater
-goes_behind o p h = derived_is o p ∙ greater_from_before p o h
 
 -- ---- rows in two parts
 
@@ -224,118 +210,104 @@ blocks_ascend (b ∷ bs) h =
 
 -- ---- the block of a name
 
-abbrev up_to : Oid → Block → Bool
-up_to o b = true && not (is_lt (derived_cmp o b.0))
+-- the last with a key at or before it
+pub record IsBlockOf (o : Oid) (blocks : List Block) (block : Block) : Type 0 where
+  pub front : List Block
+  pub back : List Block
+  pub parts : blocks ≡ front ++ block ∷ back
+  pub reached : is_before o block.0 ≡ false
+  pub passed : AreBehind o back
 
-up_to_is : (o : Oid) (b : Block) → up_to o b ≡ not (is_before o b.0)
-up_to_is o b = ap (λ r. not (is_lt r)) (derived_is o b.0) ∙ ap not (sym (before_is o b.0))
+pub parts_at : (xs : List Block) (i : ℕ) (d : Block) → i < length xs → xs ≡ take i xs ++ get_or xs i d ∷ drop (i + 1) xs
+parts_at xs i d lt = sym (take-append-drop i xs) ∙ ap (λ l. take i xs ++ l) (front_at xs i d lt)
 
-kept : (o : Oid) (b : Block) (bs : List Block) → is_before o b.0 ≡ false → filter (up_to o) (b ∷ bs) ≡ b ∷ filter (up_to o) bs
-kept o b bs k = ap (λ t. cond t (b ∷ filter (up_to o) bs) (filter (up_to o) bs)) (up_to_is o b ∙ ap not k)
+behind_both : (i : ℕ) → suc (i + 1) ≡ suc i + 1
+behind_both i = omega arith
 
-left_out : (o : Oid) (b : Block) (bs : List Block) → is_before o b.0 ≡ true → filter (up_to o) (b ∷ bs) ≡ filter (up_to o) bs
-left_out o b bs k = ap (λ t. cond t (b ∷ filter (up_to o) bs) (filter (up_to o) bs)) (up_to_is o b ∙ ap not k)
+pub set_parts : (xs : List Block) (i : ℕ) (x : Block) → i < length xs → set xs i x ≡ take i xs ++ x ∷ drop (i + 1) xs
+set_parts [] i x lt = absurd (omega arith)
+set_parts (y ∷ ys) zero x lt = refl
+set_parts (y ∷ ys) (suc i) x lt = ap (λ l. y ∷ l) (set_parts ys i x (omega (arith, lt))) ∙ ap (λ n. y ∷ (take i ys ++ x ∷ drop n (y ∷ ys))) (behind_both i)
 
-no_first : (b : Block) (bs : List Block) → b ∷ bs ≡ [] → ⊥
-no_first b bs e = cc
+pub insert_parts : (xs : List Block) (i : ℕ) (x : Block) → i ≤ length xs → insert xs i x ≡ take i xs ++ x ∷ drop i xs
+insert_parts [] zero x le = refl
+insert_parts [] (suc i) x le = absurd (omega (arith, le))
+insert_parts (y ∷ ys) zero x le = refl
+insert_parts (y ∷ ys) (suc i) x le = ap (λ l. y ∷ l) (insert_parts ys i x (omega (arith, le)))
 
-no_last : (t : List Block) (b : Block) → [] ≡ t ++ b ∷ [] → ⊥
-no_last [] b e = cc
-no_last (x ∷ t) b e = cc
+-- keys behind a block are behind its own
+keys_behind : (blocks : List Block) → InBlocks blocks → (i : ℕ) → i < length blocks → (d : Block) → AreBehind (get_or blocks i d).0 (drop (i + 1) blocks)
+keys_behind blocks h i lt d =
+    let b = get_or blocks i d in
+    let its = parts_of (take i blocks) b (drop (i + 1) blocks) (subst InBlocks (parts_at blocks i d lt) h) in
+    all_along (λ next. Precedes b next.0) (λ next. is_before b.0 next.0 ≡ true) (λ next p. p.0) (drop (i + 1) blocks) its.here.apart
 
-same_first : (x y : Block) (xs ys : List Block) → x ∷ xs ≡ y ∷ ys → x ≡ y
-same_first x y xs ys e = cc
+any_default : (xs : List Block) (i : ℕ) (d e : Block) → i < length xs → get_or xs i d ≡ get_or xs i e
+any_default [] i d e lt = absurd (omega arith)
+any_default (x ∷ xs) zero d e lt = refl
+any_default (x ∷ xs) (suc i) d e lt = any_default xs i d e (omega (arith, lt))
 
-same_others : (x y : Block) (xs ys : List Block) → x ∷ xs ≡ y ∷ ys → xs ≡ ys
-same_others x y xs ys e = cc
+-- so a block is that of its own key
+pub own_place : (blocks : List Block) → InBlocks blocks → (i : ℕ) → i < length blocks → (d : Block) → d ≡ get_or blocks i d → IsBlockAt d.0 blocks i
+own_place blocks h i lt d e = record {
+  in_range = lt;
+  reached = λ f. subst (λ b. is_before d.0 b.0 ≡ false) (e ∙ any_default blocks i d f lt) (not_itself d.0);
+  passed = subst (λ b. AreBehind b.0 (drop (i + 1) blocks)) (sym e) (keys_behind blocks h i lt d);
+}
 
--- where nothing is up to a name, all is behind it
-pub none_up_to : (o : Oid) (bs : List Block) → filter (up_to o) bs ≡ [] → AreBehind o bs
-none_up_to o [] e = tt
-none_up_to o (b ∷ bs) e = step (none_up_to o bs) (is_before o b.0) refl
+-- ---- where a search finds it
+
+abbrev pub key_of : Block → Oid
+key_of b = b.0
+
+pub keys_ascend : (blocks : List Block) → InBlocks blocks → IsTrue (ascends key_of blocks)
+keys_ascend [] h = refl
+keys_ascend (b ∷ bs) h = headed key_of b bs (first bs h.0.apart) (keys_ascend bs h.1)
   where
-    step : (filter (up_to o) bs ≡ [] → AreBehind o bs) → (t : Bool) → is_before o b.0 ≡ t → AreBehind o (b ∷ bs)
-    step rest true k = (k, rest (sym (left_out o b bs k) ∙ e))
-    step rest false k = absurd (no_first b (filter (up_to o) bs) (sym (kept o b bs k) ∙ e))
+    first : (others : List Block) → AllByRecursion (λ next. Precedes b next.0) others → IsTrue (leads key_of b.0 others)
+    first [] k = refl
+    first (x ∷ xs) k = k.0.0
 
-all_left_out : (o : Oid) (bs : List Block) → AreBehind o bs → filter (up_to o) bs ≡ []
-all_left_out o [] h = refl
-all_left_out o (b ∷ bs) h = left_out o b bs h.0 ∙ all_left_out o bs h.1
+all_drop : (P : Block → Type 0) (n : ℕ) (xs : List Block) → ((k : ℕ) (d : Block) → n ≤ k → k < length xs → P (get_or xs k d)) → AllByRecursion P (drop n xs)
+all_drop P zero [] f = tt
+all_drop P (suc n) [] f = tt
+all_drop P zero (x ∷ xs) f = (f 0 x (omega arith) (omega arith), all_drop P zero xs (λ k d low lt. f (suc k) d (omega arith) (omega (arith, lt))))
+all_drop P (suc n) (x ∷ xs) f = all_drop P n xs (λ k d low lt. f (suc k) d (omega (arith, low)) (omega (arith, lt)))
 
--- the last up to a name is its block
-pub last_up_to : (o : Oid) (bs : List Block) → InBlocks bs → (t : List Block) (b : Block) → filter (up_to o) bs ≡ t ++ b ∷ [] → IsBlockOf o bs b
-last_up_to o [] h t b e = absurd (no_last t b e)
-last_up_to o (x ∷ xs) h t b e = step (last_up_to o xs h.1) (is_before o x.0) refl
-  where
-    there : ((t : List Block) (b : Block) → filter (up_to o) xs ≡ t ++ b ∷ [] → IsBlockOf o xs b) → is_before o x.0 ≡ false
-        → (t : List Block) → x ∷ filter (up_to o) xs ≡ t ++ b ∷ [] → IsBlockOf o (x ∷ xs) b
-    there rest k [] e =
-        let same : x ≡ b = same_first x b (filter (up_to o) xs) [] e in
-        record {
-          front = [];
-          back = xs;
-          parts = ap (λ y. y ∷ xs) same;
-          reached = subst (λ (y : Block). is_before o y.0 ≡ false) same k;
-          passed = none_up_to o xs (same_others x b (filter (up_to o) xs) [] e);
-        }
-    there rest k (y ∷ t) e =
-        let found : IsBlockOf o xs b = rest t b (same_others x y (filter (up_to o) xs) (t ++ b ∷ []) e) in
-        record { front = x ∷ found.front; back = found.back; parts = ap (λ l. x ∷ l) found.parts; reached = found.reached; passed = found.passed }
+none_behind : (o : Oid) (i : ℕ) (xs : List Block) → length xs ≤ i + 1 → AreBehind o (drop (i + 1) xs)
+none_behind o i xs le = all_drop (λ b. is_before o b.0 ≡ true) (i + 1) xs (λ k d low lt. absurd (omega (arith, le, low, lt)))
 
-    step : ((t : List Block) (b : Block) → filter (up_to o) xs ≡ t ++ b ∷ [] → IsBlockOf o xs b) → (s : Bool) → is_before o x.0 ≡ s → IsBlockOf o (x ∷ xs) b
-    step rest true k =
-        let behind : AreBehind o xs = all_along (λ next. Precedes x next.0) (λ next. is_before o next.0 ≡ true) (λ next p. before_trans o x.0 next.0 k p.0) xs h.0.apart in
-        absurd (no_last t b (sym (all_left_out o (x ∷ xs) (k, behind)) ∙ e))
-    step rest false k = there rest k t (sym (kept o x xs k) ∙ e)
+-- the last of all
+pub last_is : (o : Oid) (blocks : List Block) (i : ℕ) → i + 1 ≡ length blocks → HoldsAt (λ b. is_before o b.0 ≡ false) blocks i → IsBlockAt o blocks i
+last_is o blocks i is up = record { in_range = omega (arith, is); reached = up; passed = none_behind o i blocks (omega (arith, is)) }
 
-none_some : (w : Holding) → None ≡ Some w → ⊥
-none_some w e = cc
+-- the block whose key is the name
+pub key_is : (o : Oid) (blocks : List Block) → InBlocks blocks → (i : ℕ) → IsAt key_of blocks o i → IsBlockAt o blocks i
+key_is o [] h i at = absurd (omega (arith, at.in_range))
+key_is o (b ∷ bs) h i at = record {
+  in_range = at.in_range;
+  reached = λ d. subst (λ k. is_before o k ≡ false) (sym (at.name_here d)) (not_itself o);
+  passed = subst (λ k. AreBehind k (drop (i + 1) (b ∷ bs))) (at.name_here b) (keys_behind (b ∷ bs) h i at.in_range b);
+}
 
--- the block that a key finds
-pub block_at : (key : Oid) (w : Holding) (bs : List Block) → InBlocks bs → lookup (is_at (derived_cmp key)) bs ≡ Some w → IsBlockOf key bs (key, w)
-block_at key w [] h e = absurd (none_some w e)
-block_at key w (x ∷ xs) h e = step (block_at key w xs h.1) (is_same x.0 key) refl
-  where
-    tested : (t : Bool) → is_same x.0 key ≡ t → cond t (Some x.1) (lookup (is_at (derived_cmp key)) xs) ≡ Some w
-    tested t k = sym (ap (λ s. cond s (Some x.1) (lookup (is_at (derived_cmp key)) xs)) (sym (at_is key x.0) ∙ k)) ∙ e
+-- or the one in front of the place where the name would go
+pub key_before : (o : Oid) (blocks : List Block) (i : ℕ) → IsGap key_of blocks o (i + 1) → IsBlockAt o blocks i
+key_before o blocks i gap = record {
+  in_range = omega (arith, gap.in_range);
+  reached = λ d. not_back (get_or blocks i d).0 o (gap.before i d (omega arith) (omega arith));
+  passed = all_drop (λ b. is_before o b.0 ≡ true) (i + 1) blocks gap.behind;
+}
 
-    step : (lookup (is_at (derived_cmp key)) xs ≡ Some w → IsBlockOf key xs (key, w)) → (t : Bool) → is_same x.0 key ≡ t → IsBlockOf key (x ∷ xs) (key, w)
-    step rest true k =
-        let mine : x.0 ≡ key = one_name x.0 key k in
-        let same : x.1 ≡ w = some_same x.1 w (tested true k) in
-        record {
-          front = [];
-          back = xs;
-          parts = ap (λ (o : Oid). (o, x.1) ∷ xs) mine ∙ ap (λ (v : Holding). (key, v) ∷ xs) same;
-          reached = not_itself key;
-          passed = all_along (λ next. Precedes x next.0) (λ next. is_before key next.0 ≡ true) (λ next p. subst (λ o. is_before o next.0 ≡ true) mine p.0) xs h.0.apart;
-        }
-    step rest false k =
-        let found : IsBlockOf key xs (key, w) = rest (tested false k) in
-        record { front = x ∷ found.front; back = found.back; parts = ap (λ l. x ∷ l) found.parts; reached = found.reached; passed = found.passed }
+-- where it would go in front of all, all are behind it
+pub none_before : (o : Oid) (blocks : List Block) → IsGap key_of blocks o 0 → AreBehind o blocks
+none_before o blocks gap = all_drop (λ b. is_before o b.0 ≡ true) 0 blocks gap.behind
 
-set_here : (front : List Block) (b : Block) (back : List Block) (w : Holding) → AllByRecursion (λ x. Precedes x b.0) front
-    → set_value (is_at (derived_cmp b.0)) (front ++ b ∷ back) w ≡ front ++ (b.0, w) ∷ back
-set_here [] b back w h = ap (λ t. cond t ((b.0, w) ∷ back) (b ∷ set_value (is_at (derived_cmp b.0)) back w)) (key_here b.0)
-set_here (x ∷ front) b back w h =
-    ap (λ t. cond t ((x.0, w) ∷ (front ++ b ∷ back)) (x ∷ set_value (is_at (derived_cmp b.0)) (front ++ b ∷ back) w)) (key_apart x.0 b.0 h.0.0)
-    ∙ ap (λ l. x ∷ l) (set_here front b back w h.1)
-
-found_here : (front : List Block) (b : Block) (back : List Block) → AllByRecursion (λ x. Precedes x b.0) front
-    → lookup (is_at (derived_cmp b.0)) (front ++ b ∷ back) ≡ Some b.1
-found_here [] b back h = ap (λ t. cond t (Some b.1) (lookup (is_at (derived_cmp b.0)) back)) (key_here b.0)
-found_here (x ∷ front) b back h =
-    ap (λ t. cond t (Some x.1) (lookup (is_at (derived_cmp b.0)) (front ++ b ∷ back))) (key_apart x.0 b.0 h.0.0) ∙ found_here front b back h.1
-
--- a new key goes between others
-inserted : (front back : List Block) (k : Oid) (w : Holding) → AllByRecursion (λ x. is_before x.0 k ≡ true) front → AreBehind k back
-    → insert_entry derived_cmp (front ++ back) k w ≡ front ++ (k, w) ∷ back
-inserted [] [] k w h g = refl
-inserted [] (x ∷ back) k w h g =
-    ap (λ r. match_ordering {X = List Block} r ((k, w) ∷ x ∷ back) ((x.0, w) ∷ back) (x ∷ insert_entry derived_cmp back k w)) (goes_before k x.0 g.0)
-inserted (x ∷ front) back k w h g =
-    ap (λ r. match_ordering {X = List Block} r ((k, w) ∷ x ∷ (front ++ back)) ((x.0, w) ∷ (front ++ back)) (x ∷ insert_entry derived_cmp (front ++ back) k w)) (goes_behind k x.0 h.0)
-    ∙ ap (λ l. x ∷ l) (inserted front back k w h.1 g)
+-- one step in front of that place
+pub before_gap : (o : Oid) (blocks : List Block) (i : ℕ) (r : Option ℕ) → IsGap key_of blocks o i → SomeIff r (1 ≤ i) (i - 1) → MatchOption r (AreBehind o blocks) (IsBlockAt o blocks)
+before_gap o blocks zero None gap is = none_before o blocks gap
+before_gap o blocks (suc i) None gap is = absurd (is (omega arith))
+before_gap o blocks zero (Some n) gap is = absurd (omega (arith, is.0))
+before_gap o blocks (suc i) (Some n) gap is = let next : suc i ≡ n + 1 = omega (arith, is.1) in key_before o blocks n (subst (IsGap key_of blocks o) next gap)
 
 module _ (o : Oid) (blocks : List Block) (h : InBlocks blocks) (b : Block) (s : IsBlockOf o blocks b) where
   whole : InBlocks (s.front ++ b ∷ s.back)
@@ -361,18 +333,12 @@ module _ (o : Oid) (blocks : List Block) (h : InBlocks blocks) (b : Block) (s : 
       ∙ row_of_behind name_of (rows_in s.front) (b.1.rows ++ rows_in s.back) o in_front
       ∙ row_of_front name_of b.1.rows (rows_in s.back) o behind
 
-  pub key_finds : lookup (is_at (derived_cmp b.0)) blocks ≡ Some b.1
-  key_finds = ap (lookup (is_at (derived_cmp b.0))) s.parts ∙ found_here s.front b s.back its.before
-
   pub block_ascends : IsTrue (ascends name_of b.1.rows)
   block_ascends = its.here.ascending
 
   -- ---- what is written over the block
 
-  module _ (w : Holding) (new : List Block) (set : new ≡ set_value (is_at (derived_cmp b.0)) blocks w) where
-    pub set_is : new ≡ s.front ++ (b.0, w) ∷ s.back
-    set_is = set ∙ ap (λ l. set_value (is_at (derived_cmp b.0)) l w) s.parts ∙ set_here s.front b s.back w its.before
-
+  module _ (w : Holding) (new : List Block) (set_is : new ≡ s.front ++ (b.0, w) ∷ s.back) where
     -- the same rows
     module _ (is : w.rows ≡ b.1.rows) where
       pub rows_stay : rows_in new ≡ rows_in blocks
@@ -417,40 +383,72 @@ module _ (o : Oid) (blocks : List Block) (h : InBlocks blocks) (b : Block) (s : 
 
   -- ---- an empty block behind it
 
-  pub free_behind : (0 < length b.1.rows) × AreBefore o b.1.rows → IsFree o blocks
-  free_behind e =
-      record {
-        front = s.front ++ b ∷ [];
-        back = s.back;
-        parts = s.parts ∙ sym (append_assoc s.front (b ∷ []) s.back);
-        before = all_append (λ x. Precedes x o) s.front (b ∷ []) (all_along (λ x. Precedes x b.0) (λ x. Precedes x o) (λ x p. precedes_from x b.0 o p s.reached) s.front its.before)
-            ((strictly b.1.rows e.0 its.here.from_key e.1, e.1), tt);
-        behind = s.passed;
-      }
-    where
-      strictly : (rows : Rows) → 0 < length rows → AreFrom b.0 rows → AreBefore o rows → is_before b.0 o ≡ true
-      strictly [] lt f g = absurd (omega arith)
-      strictly (row ∷ rows) lt f g = until_before b.0 (name_of row) o f.0 g.0
+  strictly : (rows : Rows) → 0 < length rows → AreFrom b.0 rows → AreBefore o rows → is_before b.0 o ≡ true
+  strictly [] lt f g = absurd (omega arith)
+  strictly (row ∷ rows) lt f g = until_before b.0 (name_of row) o f.0 g.0
 
-  -- what is found under its key is the block
-  pub block_is : (w : Holding) → Some w ≡ lookup (is_at (derived_cmp b.0)) blocks → IsBlockOf o blocks (b.0, w)
-  block_is w e = subst (λ (v : Holding). IsBlockOf o blocks (b.0, v)) (sym (some_same w b.1 (e ∙ key_finds))) s
+  pub all_precede : (0 < length b.1.rows) × AreBefore o b.1.rows → AllByRecursion (λ x. Precedes x o) (s.front ++ b ∷ [])
+  all_precede e =
+      all_append (λ x. Precedes x o) s.front (b ∷ []) (all_along (λ x. Precedes x b.0) (λ x. Precedes x o) (λ x p. precedes_from x b.0 o p s.reached) s.front its.before)
+      ((strictly b.1.rows e.0 its.here.from_key e.1, e.1), tt)
 
-  pub not_missing : None ≡ lookup (is_at (derived_cmp b.0)) blocks → ⊥
-  not_missing e = let no : None ≡ Some b.1 = e ∙ key_finds in none_some b.1 no
+-- ---- the same of the block at a place
+
+module _ (o : Oid) (blocks : List Block) (h : InBlocks blocks) (i : ℕ) (at : IsBlockAt o blocks i) (d : Block) (e : d ≡ get_or blocks i d) where
+  abbrev pub its_block : IsBlockOf o blocks d
+  its_block = record {
+    front = take i blocks;
+    back = drop (i + 1) blocks;
+    parts = parts_at blocks i d at.in_range ∙ ap (λ b. take i blocks ++ b ∷ drop (i + 1) blocks) (sym e);
+    reached = subst (λ b. is_before o b.0 ≡ false) (sym e) (at.reached d);
+    passed = at.passed;
+  }
+
+  pub found_in_block : row_of name_of (rows_in blocks) o ≡ row_of name_of d.1.rows o
+  found_in_block = row_in_block o blocks h d its_block
+
+  module _ (w : Holding) where
+    over : set blocks i (d.0, w) ≡ take i blocks ++ (d.0, w) ∷ drop (i + 1) blocks
+    over = set_parts blocks i (d.0, w) at.in_range
+
+    pub rows_at_stay : w.rows ≡ d.1.rows → rows_in (set blocks i (d.0, w)) ≡ rows_in blocks
+    rows_at_stay is = rows_stay o blocks h d its_block w (set blocks i (d.0, w)) over is
+
+    pub order_at_stays : w.rows ≡ d.1.rows → InBlocks (set blocks i (d.0, w))
+    order_at_stays is = order_stays o blocks h d its_block w (set blocks i (d.0, w)) over is
+
+    module _ (version : ℕ) (object : Object) (is : w.rows ≡ placed name_of (o, version, object) d.1.rows) where
+      pub rows_at_placed : rows_in (set blocks i (d.0, w)) ≡ placed name_of (o, version, object) (rows_in blocks)
+      rows_at_placed = rows_placed o blocks h d its_block w (set blocks i (d.0, w)) over version object is
+
+      pub order_at_placed : InBlocks (set blocks i (d.0, w))
+      order_at_placed = order_with_placed o blocks h d its_block w (set blocks i (d.0, w)) over version object is
 
 -- where all keys are behind a name there is nothing of the name
 pub no_row : (o : Oid) (blocks : List Block) → InBlocks blocks → AreBehind o blocks → row_of name_of (rows_in blocks) o ≡ None
 no_row o blocks h e = row_of_front name_of [] (rows_in blocks) o (back_behind o blocks h e)
 
 -- and the least name is free
-pub least_free : (o : Oid) (blocks : List Block) → AreBehind o blocks → IsFree least blocks
+pub least_free : (o : Oid) (blocks : List Block) → AreBehind o blocks → IsFreeAt least blocks 0
 least_free o blocks e = record {
-  front = [];
-  back = blocks;
-  parts = refl;
+  in_range = omega arith;
   before = tt;
   behind = all_along (λ x. is_before o x.0 ≡ true) (λ x. is_before least x.0 ≡ true) (λ x k. until_before least o x.0 (none_before_least o) k) blocks e;
+}
+
+take_more : (xs : List Block) (i : ℕ) (d : Block) → i < length xs → take (i + 1) xs ≡ take i xs ++ get_or xs i d ∷ []
+take_more [] i d lt = absurd (omega arith)
+take_more (x ∷ xs) zero d lt = refl
+take_more (x ∷ xs) (suc i) d lt = ap (λ n. take n (x ∷ xs)) (sym (behind_both i)) ∙ ap (λ l. x ∷ l) (take_more xs i d (omega (arith, lt)))
+
+-- so is a name behind a block that isn't empty, behind it
+pub free_behind : (o : Oid) (blocks : List Block) → InBlocks blocks → (i : ℕ) → IsBlockAt o blocks i → (d : Block)
+    → d ≡ get_or blocks i d → (0 < length d.1.rows) × AreBefore o d.1.rows → IsFreeAt o blocks (i + 1)
+free_behind o blocks h i at d e f = record {
+  in_range = omega (arith, at.in_range);
+  before = subst (λ l. AllByRecursion (λ x. Precedes x o) l) (ap (λ b. take i blocks ++ b ∷ []) e ∙ sym (take_more blocks i d at.in_range))
+      (all_precede o blocks h d (its_block o blocks h i at d e) f);
+  behind = at.passed;
 }
 
 -- ---- an empty block
@@ -478,28 +476,27 @@ module _ (k : Oid) (w : Holding) (none : w.rows ≡ []) where
         opened front back h.1 f.1 g,
       )
 
-  module _ (blocks : List Block) (h : InBlocks blocks) (free : IsFree k blocks) (new : List Block) (is : new ≡ insert_entry derived_cmp blocks k w) where
-    opened_is : new ≡ free.front ++ (k, w) ∷ free.back
-    opened_is =
-        is
-        ∙ ap (λ l. insert_entry derived_cmp l k w) free.parts
-        ∙ inserted free.front free.back k w (all_along (λ x. Precedes x k) (λ x. is_before x.0 k ≡ true) (λ x p. p.0) free.front free.before) free.behind
+  module _ (blocks : List Block) (h : InBlocks blocks) (i : ℕ) (free : IsFreeAt k blocks i) (new : List Block) (is : new ≡ insert blocks i (k, w)) where
+    opened_is : new ≡ take i blocks ++ (k, w) ∷ drop i blocks
+    opened_is = is ∙ insert_parts blocks i (k, w) free.in_range
+
+    parts : blocks ≡ take i blocks ++ drop i blocks
+    parts = sym (take-append-drop i blocks)
 
     pub opened_rows : rows_in new ≡ rows_in blocks
     opened_rows =
         ap rows_in opened_is
-        ∙ rows_append free.front ((k, w) ∷ free.back)
-        ∙ ap (λ l. rows_in free.front ++ (l ++ rows_in free.back)) none
-        ∙ sym (ap rows_in free.parts ∙ rows_append free.front free.back)
+        ∙ rows_append (take i blocks) ((k, w) ∷ drop i blocks)
+        ∙ ap (λ l. rows_in (take i blocks) ++ (l ++ rows_in (drop i blocks))) none
+        ∙ sym (ap rows_in parts ∙ rows_append (take i blocks) (drop i blocks))
 
     pub opened_order : InBlocks new
-    opened_order = subst InBlocks (sym opened_is) (opened free.front free.back (subst InBlocks free.parts h) free.before free.behind)
+    opened_order = subst InBlocks (sym opened_is) (opened (take i blocks) (drop i blocks) (subst InBlocks parts h) free.before free.behind)
 
 -- ---- the upper half in a block of its own
 
 module _ (key : Oid) (blocks : List Block) (h : InBlocks blocks) (w : Holding) (s : IsBlockOf key blocks (key, w))
-    (lower upper : Holding) (middle : Oid) (c : IsCut w.rows lower.rows middle upper.rows)
-    (left : List Block) (set : left ≡ set_value (is_at (derived_cmp key)) blocks lower) where
+    (lower upper : Holding) (middle : Oid) (c : IsCut w.rows lower.rows middle upper.rows) where
   mine : AreParts s.front (key, w) s.back
   mine = its key blocks h (key, w) s
 
@@ -540,27 +537,10 @@ module _ (key : Oid) (blocks : List Block) (h : InBlocks blocks) (w : Holding) (
   middle_passed : AreBehind middle s.back
   middle_passed = all_along (λ next. Precedes (key, w) next.0) (λ next. is_before middle next.0 ≡ true) middle_before s.back mine.here.apart
 
-  left_is : left ≡ s.front ++ (key, lower) ∷ s.back
-  left_is = set_is key blocks h (key, w) s lower left set
-
-  -- the lower half is at the key still
-  pub lower_found : lookup (is_at (derived_cmp key)) left ≡ Some lower
-  lower_found = ap (lookup (is_at (derived_cmp key))) left_is ∙ found_here s.front (key, lower) s.back mine.before
-
   pub whole_ascends : IsTrue (ascends name_of (lower.rows ++ upper.rows))
   whole_ascends = subst (λ l. IsTrue (ascends name_of l)) c.parts mine.here.ascending
 
-  module _ (new : List Block) (is : new ≡ insert_entry derived_cmp left middle upper) where
-    split_is : new ≡ s.front ++ (key, lower) ∷ (middle, upper) ∷ s.back
-    split_is =
-        is
-        ∙ ap (λ l. insert_entry derived_cmp l middle upper) (left_is ∙ sym (append_assoc s.front ((key, lower) ∷ []) s.back))
-        ∙ inserted (s.front ++ (key, lower) ∷ []) s.back middle upper
-        (all_append (λ x. is_before x.0 middle ≡ true) s.front ((key, lower) ∷ [])
-        (all_along (λ x. Precedes x key) (λ x. is_before x.0 middle ≡ true) (λ x p. before_trans x.0 key middle p.0 key_below) s.front mine.before) (key_below, tt))
-        middle_passed
-        ∙ append_assoc s.front ((key, lower) ∷ []) ((middle, upper) ∷ s.back)
-
+  module _ (new : List Block) (split_is : new ≡ s.front ++ (key, lower) ∷ (middle, upper) ∷ s.back) where
     pub rows_when_split : rows_in new ≡ rows_in blocks
     rows_when_split =
         ap rows_in split_is
@@ -593,37 +573,76 @@ module _ (key : Oid) (blocks : List Block) (h : InBlocks blocks) (w : Holding) (
 
   -- ---- where there is no room for it, both halves in the block again
 
-  module _ (still : List Block) (stays : still ≡ left) (v : Holding) (at : Some v ≡ lookup (is_at (derived_cmp key)) still) (p : Oid × Holding) (returned : p ≡ (middle, upper)) where
-    lower_is : v ≡ lower
-    lower_is = some_same v lower (at ∙ ap (lookup (is_at (derived_cmp key))) stays ∙ lower_found)
+  pub both_ascend : (u v : Holding) → u ≡ lower → v ≡ upper → IsTrue (ascends name_of (u.rows ++ v.rows))
+  both_ascend u v p q = subst (λ l. IsTrue (ascends name_of l)) (λ i. (sym p i).rows ++ (sym q i).rows) whole_ascends
 
-    halves_are : v.rows ++ p.1.rows ≡ lower.rows ++ upper.rows
-    halves_are = ap (λ (x : Holding). x.rows ++ p.1.rows) lower_is ∙ ap (λ (q : Oid × Holding). lower.rows ++ q.1.rows) returned
+  module _ (u : Holding) (is : u.rows ≡ lower.rows ++ upper.rows) (new : List Block) (again : new ≡ s.front ++ (key, u) ∷ s.back) where
+    pub rows_when_joined : rows_in new ≡ rows_in blocks
+    rows_when_joined = rows_stay key blocks h (key, w) s u new again (is ∙ sym c.parts)
 
-    pub halves_ascend : IsTrue (ascends name_of (v.rows ++ p.1.rows))
-    halves_ascend = subst (λ l. IsTrue (ascends name_of l)) (sym halves_are) whole_ascends
+    pub order_when_joined : InBlocks new
+    order_when_joined = order_stays key blocks h (key, w) s u new again (is ∙ sym c.parts)
 
-    module _ (u : Holding) (is : u.rows ≡ v.rows ++ p.1.rows) (new : List Block) (again : new ≡ set_value (is_at (derived_cmp key)) still u) where
-      set_over : new ≡ set_value (is_at (derived_cmp key)) blocks u
-      set_over =
-          again
-          ∙ ap (λ l. set_value (is_at (derived_cmp key)) l u) (stays ∙ left_is)
-          ∙ set_here s.front (key, lower) s.back u mine.before
-          ∙ sym (ap (λ l. set_value (is_at (derived_cmp key)) l u) s.parts ∙ set_here s.front (key, w) s.back u mine.before)
+-- ---- the same at a place
 
-      pub rows_when_joined : rows_in new ≡ rows_in blocks
-      rows_when_joined = rows_stay key blocks h (key, w) s u new set_over (is ∙ halves_are ∙ sym c.parts)
+get_set : (xs : List Block) (i : ℕ) (x d : Block) → i < length xs → get_or (set xs i x) i d ≡ x
+get_set [] i x d lt = absurd (omega arith)
+get_set (y ∷ ys) zero x d lt = refl
+get_set (y ∷ ys) (suc i) x d lt = get_set ys i x d (omega (arith, lt))
 
-      pub order_when_joined : InBlocks new
-      order_when_joined = order_stays key blocks h (key, w) s u new set_over (is ∙ halves_are ∙ sym c.parts)
+set_twice : (xs : List Block) (i : ℕ) (x y : Block) → set (set xs i x) i y ≡ set xs i y
+set_twice [] i x y = refl
+set_twice (z ∷ zs) zero x y = refl
+set_twice (z ∷ zs) (suc i) x y = ap (λ l. z ∷ l) (set_twice zs i x y)
+
+insert_behind : (xs : List Block) (i : ℕ) (x y : Block) → i < length xs → insert (set xs i x) (i + 1) y ≡ take i xs ++ x ∷ y ∷ drop (i + 1) xs
+insert_behind [] i x y lt = absurd (omega arith)
+insert_behind (z ∷ zs) zero x y lt = ap (λ l. x ∷ l) (insert_parts zs 0 y (omega arith))
+insert_behind (z ∷ zs) (suc i) x y lt =
+    ap (λ n. insert (z ∷ set zs i x) n y) (sym (behind_both i))
+    ∙ ap (λ l. z ∷ l) (insert_behind zs i x y (omega (arith, lt)))
+    ∙ ap (λ n. z ∷ (take i zs ++ x ∷ y ∷ drop n (z ∷ zs))) (behind_both i)
+
+module _ (blocks : List Block) (h : InBlocks blocks) (i : ℕ) (lt : i < length blocks) (d : Block) (e : d ≡ get_or blocks i d)
+    (lower upper : Holding) (middle : Oid) (c : IsCut d.1.rows lower.rows middle upper.rows) where
+  abbrev place : IsBlockAt d.0 blocks i
+  place = own_place blocks h i lt d e
+
+  abbrev its_own : IsBlockOf d.0 blocks d
+  its_own = its_block d.0 blocks h i place d e
+
+  module _ (new : List Block) (is : new ≡ insert (set blocks i (d.0, lower)) (i + 1) (middle, upper)) where
+    pub rows_split_at : rows_in new ≡ rows_in blocks
+    rows_split_at = rows_when_split d.0 blocks h d.1 its_own lower upper middle c new (is ∙ insert_behind blocks i (d.0, lower) (middle, upper) lt)
+
+    pub order_split_at : InBlocks new
+    order_split_at = order_when_split d.0 blocks h d.1 its_own lower upper middle c new (is ∙ insert_behind blocks i (d.0, lower) (middle, upper) lt)
+
+  -- or there is no room for it
+  module _ (still : List Block) (stays : still ≡ set blocks i (d.0, lower)) (r : Block) (at : r ≡ get_or still i r) (p : Oid × Holding) (returned : p ≡ (middle, upper)) where
+    again : r ≡ (d.0, lower)
+    again = at ∙ ap (λ l. get_or l i r) stays ∙ get_set blocks i (d.0, lower) r lt
+
+    pub joined_ascends : IsTrue (ascends name_of (r.1.rows ++ p.1.rows))
+    joined_ascends = both_ascend d.0 blocks h d.1 its_own lower upper middle c r.1 p.1 (ap (λ (b : Block). b.1) again) (ap (λ (q : Oid × Holding). q.1) returned)
+
+    module _ (w : Holding) (is : w.rows ≡ r.1.rows ++ p.1.rows) where
+      whole_again : w.rows ≡ lower.rows ++ upper.rows
+      whole_again = is ∙ (λ j. (again j).1.rows ++ (returned j).1.rows)
+
+      put_back : set still i (r.0, w) ≡ take i blocks ++ (d.0, w) ∷ drop (i + 1) blocks
+      put_back = (λ j. set (stays j) i ((again j).0, w)) ∙ set_twice blocks i (d.0, lower) (d.0, w) ∙ set_parts blocks i (d.0, w) lt
+
+      pub rows_joined_at : rows_in (set still i (r.0, w)) ≡ rows_in blocks
+      rows_joined_at = rows_when_joined d.0 blocks h d.1 its_own lower upper middle c w whole_again (set still i (r.0, w)) put_back
+
+      pub order_joined_at : InBlocks (set still i (r.0, w))
+      order_joined_at = order_when_joined d.0 blocks h d.1 its_own lower upper middle c w whole_again (set still i (r.0, w)) put_back
 
 -- ---- the same rows under the same keys
 
 abbrev keyed : Block → Oid × Rows
 keyed b = (b.0, b.1.rows)
-
-abbrev key_of : Oid × Rows → Oid
-key_of p = p.0
 
 abbrev pub under_keys : List Block → List (Oid × Rows)
 under_keys blocks = map keyed blocks
@@ -635,6 +654,10 @@ flat (p ∷ ps) = p.1 ++ flat ps
 rows_flat : (blocks : List Block) → rows_in blocks ≡ flat (under_keys blocks)
 rows_flat [] = refl
 rows_flat (b ∷ bs) = ap (λ l. b.1.rows ++ l) (rows_flat bs)
+
+pub nothing_left : (xs : List Block) → length xs ≡ 0 → xs ≡ []
+nothing_left [] e = refl
+nothing_left (x ∷ xs) e = absurd (omega (arith, e))
 
 pub same_rows : (xs ys : List Block) → under_keys xs ≡ under_keys ys → rows_in xs ≡ rows_in ys
 same_rows xs ys e = rows_flat xs ∙ ap flat e ∙ sym (rows_flat ys)
@@ -665,24 +688,11 @@ same_order (x ∷ xs) (y ∷ ys) e h =
       same_order xs ys others h.1,
     )
 
-keys_ascend : (blocks : List Block) → InBlocks blocks → IsTrue (ascends key_of (under_keys blocks))
-keys_ascend [] h = refl
-keys_ascend (b ∷ bs) h = headed key_of (keyed b) (under_keys bs) (first bs h.0.apart) (keys_ascend bs h.1)
-  where
-    first : (others : List Block) → AllByRecursion (λ next. Precedes b next.0) others → IsTrue (leads key_of b.0 (under_keys others))
-    first [] k = refl
-    first (x ∷ xs) k = k.0.0
-
 -- the next block goes behind those before it
-pub one_more : (all done new rest : List Block) (key : Oid) (old w : Holding) → InBlocks all → under_keys done ++ under_keys ((key, old) ∷ rest) ≡ under_keys all
-    → w.rows ≡ old.rows → new ≡ insert_entry derived_cmp done key w → under_keys new ++ under_keys rest ≡ under_keys all
-one_more all done new rest key old w h e same is =
-    let sorted : IsTrue (ascends key_of (under_keys done ++ (key, old.rows) ∷ under_keys rest)) = subst (λ l. IsTrue (ascends key_of l)) (sym e) (keys_ascend all h) in
-    let before : AllByRecursion (λ x. is_before x.0 key ≡ true) done =
-    all_of_map (λ (p : Oid × Rows). is_before p.0 key ≡ true) keyed done (ascends_parts key_of (under_keys done) (under_keys rest) (key, old.rows) sorted).0 in
-    let at_end : new ≡ done ++ (key, w) ∷ [] = is ∙ ap (λ l. insert_entry derived_cmp l key w) (sym (append-nil done)) ∙ inserted done [] key w before tt in
-    ap (λ l. under_keys l ++ under_keys rest) at_end
-    ∙ ap (λ l. l ++ under_keys rest) (map-append keyed done ((key, w) ∷ []))
+pub one_more : (all done rest : List Block) (key : Oid) (old w : Holding) → under_keys done ++ under_keys ((key, old) ∷ rest) ≡ under_keys all
+    → w.rows ≡ old.rows → under_keys (done ++ (key, w) ∷ []) ++ under_keys rest ≡ under_keys all
+one_more all done rest key old w e same =
+    ap (λ l. l ++ under_keys rest) (map-append keyed done ((key, w) ∷ []))
     ∙ append_assoc (under_keys done) ((key, w.rows) ∷ []) (under_keys rest)
     ∙ ap (λ (rs : Rows). under_keys done ++ (key, rs) ∷ under_keys rest) same
     ∙ e

@@ -1,4 +1,4 @@
--- What a table has: the rows of its tree, and those beside it.
+-- What a table has: the rows of its blocks, and those beside them.
 use Rattle.std.proofs.Common.{◌≡◌, false, IsTrue, IsSome, IfSome, [], ◌++◌, Option, Some, None, option_to_list, is_some, refl, sym, subst, ap, ◌∙◌}
 use Rattle.std.specs.Option.{option_or}
 use Rattle.std.proofs.lemmas.Bool.{false≢true}
@@ -26,7 +26,7 @@ module _ (old new whole : Rows) (h : IsTrue (ascends name_of old)) (is : old ≡
   no_other None e = tt
   no_other (Some row) e = last_alone name_of new row (subst (λ l. IsTrue (ascends name_of l)) e h)
 
--- ---- a tree and a list
+-- ---- blocks and a list
 
 module _ (rows beside : Rows) (h : IsTrue (ascends name_of beside)) where
   -- ---- what is found
@@ -34,7 +34,7 @@ module _ (rows beside : Rows) (h : IsTrue (ascends name_of beside)) where
   pub found_beside : (o : Oid) (row : Row) → row_of name_of beside o ≡ Some row → row_of name_of (rows_of rows beside) o ≡ Some row
   found_beside o row e = merged_row name_of beside rows o h ∙ ap (λ s. option_or s (row_of name_of rows o)) e
 
-  -- a name that isn't there beside the tree is as the tree has it
+  -- a name that isn't there beside the blocks is as the blocks have it
   pub past_beside : (o : Oid) → row_of name_of beside o ≡ None → row_of name_of (rows_of rows beside) o ≡ row_of name_of rows o
   past_beside o none = merged_row name_of beside rows o h ∙ ap (λ s. option_or s (row_of name_of rows o)) none
 
@@ -48,9 +48,9 @@ module _ (rows beside : Rows) (h : IsTrue (ascends name_of beside)) where
     pub goes_beside : (new : Rows) → new ≡ placed name_of row beside → rows_of rows new ≡ placed name_of row (rows_of rows beside)
     goes_beside new e = ap (rows_of rows) e ∙ put_beside name_of row beside rows h g
 
-    pub goes_in_tree : (new : Rows) → is_some (row_of name_of beside (name_of row)) ≡ false → new ≡ placed name_of row rows
+    pub goes_in_blocks : (new : Rows) → is_some (row_of name_of beside (name_of row)) ≡ false → new ≡ placed name_of row rows
         → rows_of new beside ≡ placed name_of row (rows_of rows beside)
-    goes_in_tree new absent e =
+    goes_in_blocks new absent e =
         ap (placed_all name_of beside) e
         ∙ put_among name_of row beside rows h g (none_from (row_of name_of beside (name_of row)) absent)
 
@@ -66,7 +66,7 @@ module _ (rows beside : Rows) (h : IsTrue (ascends name_of beside)) (none : rows
   pub there_alone : (o : Oid) → IsSome (row_of name_of (rows_of rows beside) o) → IsSome (row_of name_of beside o)
   there_alone o there = ap (λ l. is_some (row_of name_of l o)) (sym list_alone) ∙ there
 
--- ---- a row goes from the list into the tree
+-- ---- a row goes from the list into the blocks
 
 pub moved : (rows new before after : Rows) (row : Row) → IsTrue (ascends name_of rows) → IsTrue (ascends name_of after)
     → before ≡ placed name_of row after → row_of name_of after row.0 ≡ None → new ≡ placed name_of row rows

@@ -1,6 +1,6 @@
 -- Rows in blocks, each under a lower bound of its names.
-use Rattle.std.specs.Prelude.{◌≡◌, ◌<◌, true, false, List, [], ◌∷◌, ◌++◌, length, IsTrue}
-use Rattle.std.specs.List.{AllByRecursion}
+use Rattle.std.specs.Prelude.{◌≡◌, ℕ, ◌+◌, ◌<◌, ◌≤◌, true, false, List, [], ◌∷◌, ◌++◌, length, take, drop, IsTrue}
+use Rattle.std.specs.List.{AllByRecursion, HoldsAt}
 use Rattle.fab_base.specs.declared.object.Oid.{Oid}
 use Rattle.fab_base.specs.FlatMap.{is_before}
 use Rattle.fab_protocol.specs.Tables.{ascends}
@@ -43,21 +43,17 @@ InBlocks (block ∷ blocks) = IsBlock block blocks × InBlocks blocks
 abbrev pub AreBehind : Oid → List Block → Type 0
 AreBehind o blocks = AllByRecursion (λ block. is_before o block.0 ≡ true) blocks
 
--- the block in which a name goes: the last with a key at or before it
-pub record IsBlockOf (o : Oid) (blocks : List Block) (block : Block) : Type 0 where
-  pub front : List Block
-  pub back : List Block
-  pub parts : blocks ≡ front ++ block ∷ back
-  pub reached : is_before o block.0 ≡ false
-  pub passed : AreBehind o back
+-- the block in which a name goes stands at place i: the last with a key at or before it
+pub record IsBlockAt (o : Oid) (blocks : List Block) (i : ℕ) : Type 0 where
+  pub in_range : i < length blocks
+  pub reached : HoldsAt (λ block. is_before o block.0 ≡ false) blocks i
+  pub passed : AreBehind o (drop (i + 1) blocks)
 
--- a key under which an empty block can stand: those before it precede it, and the keys of the others are behind it
-pub record IsFree (o : Oid) (blocks : List Block) : Type 0 where
-  pub front : List Block
-  pub back : List Block
-  pub parts : blocks ≡ front ++ back
-  pub before : AllByRecursion (λ block. Precedes block o) front
-  pub behind : AreBehind o back
+-- an empty block can stand at place i under a key: those before it precede it, and the keys of the others are behind it
+pub record IsFreeAt (o : Oid) (blocks : List Block) (i : ℕ) : Type 0 where
+  pub in_range : i ≤ length blocks
+  pub before : AllByRecursion (λ block. Precedes block o) (take i blocks)
+  pub behind : AreBehind o (drop i blocks)
 
 -- rows in two parts, of which the upper begins with this name
 pub record IsCut (rows lower : Rows) (o : Oid) (upper : Rows) : Type 0 where

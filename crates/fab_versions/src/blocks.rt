@@ -1,13 +1,14 @@
 //! Rows in blocks, in the order of names.
-ghost use Rattle.std.specs.Prelude.{◌≡◌, [], MatchOption, IsTrue, IfOk, IfErr, OnOk, OnErr, None, Some};
+ghost use Rattle.std.specs.Prelude.{◌≡◌, ◌<◌, [], length, not, MatchOption, IsTrue, IfOk, IfErr, OnOk, OnErr, None, Some};
+ghost use Rattle.fab_base.specs.FlatMap.{is_before};
 ghost use Rattle.fab_protocol.specs.Tables.{row_of, placed, ascends};
 ghost use Rattle.fab_protocol.specs.Versions.{name_of};
-ghost use Rattle.fab_versions.specs.Blocked.{rows_in, AreBehind, InBlocks, IsBlockOf, IsFree};
+ghost use Rattle.fab_versions.specs.Blocked.{rows_in, AreBehind, InBlocks, IsBlockAt, IsFreeAt};
 
 use crate::row_list::RowList;
 use fab_base::{NoMemory, Object, Oid};
 use std::alloc::Global;
-use std::collections::BTreeMap;
+use std::cmp::Ordering;
 use std::marker::Model;
 
 /// A block of so many rows takes no new name.
@@ -15,22 +16,22 @@ const MOST: usize = 1024;
 
 /// Objects with their versions, each name once, in the order of names. Contracts see these rows.
 ///
-/// They stand in blocks, each a vector under a lower bound of its names, and the blocks in a tree. So a
-/// look-up is a short walk and a binary search, and a new name moves the rows of one block at most.
-/// Names that come in their order fill their blocks, in front of others that stay, too. In another order
-/// a cut leaves half a block and 64 rows, and names that go behind a full block, the last first, have a
-/// block each, which costs them what a plain tree would. The nodes of a tree are half empty where keys
-/// come in their order, but with so few keys that is little. The first block is under the least name, so
-/// that each name has a block.
+/// They stand in blocks, each a vector under a lower bound of its names, and the blocks in a vector in the
+/// order of these bounds. So a look-up is two binary searches. A new name moves the rows of one block at
+/// most, and where a block is full, which is once in some five hundred names, the blocks behind it, 48 bytes
+/// each. Names that come in their order fill their blocks, in front of others that stay, too. In another
+/// order a cut leaves half a block and 64 rows, and names that go behind a full block, the last first, have
+/// a block each. The first block is under the least name, so that each name has a block. A map of blocks
+/// would take two walks for a put, each with more comparisons than both searches.
 #[derive(Debug)]
 pub(crate) struct Blocks {
     alloc: Global,
-    tree: BTreeMap<Oid, RowList>,
+    blocks: Vec<(Oid, RowList)>,
 }
 
 impl Drop for Blocks {
     fn drop(self) {
-        let Blocks { alloc, tree } = self;
+        let Blocks { alloc, blocks } = self;
     }
 }
 
@@ -40,9 +41,9 @@ impl Model for Blocks {
 
     ghost Value = { Rows };
 
-    ghost view = { λ t. rows_in t.tree.entries };
+    ghost view = { λ t. rows_in t.blocks.items };
 
-    ghost invariant = { λ t. InBlocks t.tree.entries };
+    ghost invariant = { λ t. InBlocks t.blocks.items };
 }
 
 impl Blocks {
@@ -52,7 +53,7 @@ impl Blocks {
     {
         Blocks {
             alloc,
-            tree: BTreeMap::new(alloc),
+            blocks: Vec::new(alloc),
         }
     }
 
@@ -60,22 +61,22 @@ impl Blocks {
     pub(crate) fn has_no_block(&self) -> bool
         ensures { IsTrue result → self.now ≡ [] }
     {
-        self.tree.is_empty()
+        self.blocks.is_empty()
     }
 
     /// Does nothing: it is there for what its contract says of the order of the rows.
     pub(crate) fn walk_in_order(&self)
         ensures { IsTrue (ascends name_of self.now) }
     {
-        let _ = self.tree.len();
+        let _ = self.blocks.len();
     }
 
     /// The version and the object of this name, where it is there.
     pub(crate) fn get(&self, oid: Oid) -> Option<(u32, &Object)>
         ensures { MatchOption result (row_of name_of self.now oid ≡ None) (λ found. row_of name_of self.now oid ≡ Some (oid, found.0, found.1.now)) }
     {
-        match block_of(&self.tree, oid) {
-            Some((_, block)) => block.get(oid),
+        match block_of(self.blocks.as_slice(), oid) {
+            Some(at) => self.blocks[at].1.get(oid),
             None => None,
         }
     }
@@ -93,11 +94,11 @@ impl Blocks {
         ensures absent { OnErr result (row_of name_of self.old oid ≡ None) }
         ensures back { IfErr result (λ back. back ≡ object) }
     {
-        match put_in_block(&mut self.tree, MOST, oid, version, object) {
+        match put_in_block(&mut self.blocks, MOST, oid, version, object) {
             Ok(()) => Ok(()),
             Err(object) => {
-                make_room(self.alloc, &mut self.tree, oid);
-                put_in_block(&mut self.tree, usize::MAX, oid, version, object)
+                make_room(self.alloc, &mut self.blocks, oid);
+                put_in_block(&mut self.blocks, usize::MAX, oid, version, object)
             }
         }
     }
@@ -108,7 +109,7 @@ impl Blocks {
     {
         Ok(Blocks {
             alloc,
-            tree: copied(alloc, &self.tree)?,
+            blocks: copied(alloc, self.blocks.as_slice())?,
         })
     }
 
@@ -116,44 +117,55 @@ impl Blocks {
     pub(crate) fn into_rows(self, alloc: Global) -> Result<Vec<(Oid, u32, Object)>, NoMemory>
         ensures { IfOk result (λ rows. rows.items ≡ self) }
     {
-        let Blocks { alloc: _, tree } = self;
-        joined(alloc, tree)
+        let Blocks { alloc: _, blocks } = self;
+        joined(alloc, blocks)
     }
 }
 
-/// The block in which a name goes, with its key: one walk down the tree.
-fn block_of(tree: &BTreeMap<Oid, RowList>, oid: Oid) -> Option<(Oid, &RowList)>
-    requires { InBlocks tree.now.entries }
-    ensures { MatchOption result (AreBehind oid tree.now.entries) (λ found. IsBlockOf oid tree.now.entries (found.0, found.1.now)) }
+/// Where the block stands in which a name goes. `None` where all are behind the name.
+fn block_of(blocks: &[(Oid, RowList)], oid: Oid) -> Option<usize>
+    requires { InBlocks blocks.now }
+    ensures { MatchOption result (AreBehind oid blocks.now) (λ at. IsBlockAt oid blocks.now at) }
 {
-    match tree.range(..=oid).next_back() {
-        Some((key, block)) => Some((*key, block)),
-        None => None,
+    let last = blocks.len().checked_sub(1)?;
+    // A new name mostly goes behind all others.
+    if is_up_to(blocks[last].0, oid) {
+        return Some(last);
+    }
+    match blocks.binary_search_by_key(&oid, |block| block.0) {
+        Ok(at) => Some(at),
+        Err(at) => at.checked_sub(1),
+    }
+}
+
+/// Whether a key is this name, or before it.
+fn is_up_to(key: Oid, oid: Oid) -> bool
+    ensures { result ≡ not (is_before oid key) }
+{
+    match key.cmp(&oid) {
+        Ordering::Less | Ordering::Equal => true,
+        Ordering::Greater => false,
     }
 }
 
 /// Puts an object into the block of its name. A new name is refused where the block has so many rows,
 /// and where there is no memory or no block: then the object comes back.
 fn put_in_block(
-    tree: &mut BTreeMap<Oid, RowList>,
+    blocks: &mut Vec<(Oid, RowList)>,
     most: usize,
     oid: Oid,
     version: u32,
     object: Object,
 ) -> Result<(), Object>
-    requires { InBlocks tree.old.entries }
-    ensures ok { OnOk result (rows_in tree.new.entries ≡ placed name_of (oid, version, object) (rows_in tree.old.entries)) }
-    ensures err { OnErr result (rows_in tree.new.entries ≡ rows_in tree.old.entries) }
-    ensures in_order { InBlocks tree.new.entries }
-    ensures absent { OnErr result (row_of name_of (rows_in tree.old.entries) oid ≡ None) }
+    requires { InBlocks blocks.old.items }
+    ensures ok { OnOk result (rows_in blocks.new.items ≡ placed name_of (oid, version, object) (rows_in blocks.old.items)) }
+    ensures err { OnErr result (rows_in blocks.new.items ≡ rows_in blocks.old.items) }
+    ensures in_order { InBlocks blocks.new.items }
+    ensures absent { OnErr result (row_of name_of (rows_in blocks.old.items) oid ≡ None) }
     ensures back { IfErr result (λ back. back ≡ object) }
 {
-    let key = match block_of(tree, oid) {
-        Some((key, _)) => key,
-        None => return Err(object),
-    };
-    match tree.get_mut(&key) {
-        Some(block) => block.put_few(most, oid, version, object),
+    match block_of(blocks.as_slice(), oid) {
+        Some(at) => blocks[at].1.put_few(most, oid, version, object),
         None => Err(object),
     }
 }
@@ -162,17 +174,17 @@ fn put_in_block(
 /// goes behind the last row gets an empty block, so that names in their order leave full blocks behind
 /// them, and else the rows from its place on, or nearly so, move to a block of their own. Where there is
 /// no block, an empty one is made under the least name. Without memory nothing changes.
-fn make_room(alloc: Global, tree: &mut BTreeMap<Oid, RowList>, oid: Oid)
-    requires { InBlocks tree.old.entries }
-    ensures rows { rows_in tree.new.entries ≡ rows_in tree.old.entries }
-    ensures in_order { InBlocks tree.new.entries }
+fn make_room(alloc: Global, blocks: &mut Vec<(Oid, RowList)>, oid: Oid)
+    requires { InBlocks blocks.old.items }
+    ensures rows { rows_in blocks.new.items ≡ rows_in blocks.old.items }
+    ensures in_order { InBlocks blocks.new.items }
 {
-    match block_of(tree, oid) {
-        Some((key, block)) => {
-            if block.ends_before(oid) {
-                open(alloc, tree, oid);
+    match block_of(blocks.as_slice(), oid) {
+        Some(at) => {
+            if blocks[at].1.ends_before(oid) {
+                open(alloc, blocks, at + 1, oid);
             } else {
-                split(tree, key, oid);
+                split(blocks, at, oid);
             }
         }
         None => {
@@ -185,61 +197,59 @@ fn make_room(alloc: Global, tree: &mut BTreeMap<Oid, RowList>, oid: Oid)
                 site: 0,
                 index: 0,
             };
-            open(alloc, tree, least);
+            open(alloc, blocks, 0, least);
         }
     }
 }
 
-/// An empty block under this key. Without memory nothing changes.
-fn open(alloc: Global, tree: &mut BTreeMap<Oid, RowList>, key: Oid)
-    requires in_order { InBlocks tree.old.entries }
-    requires free { IsFree key tree.old.entries }
-    ensures rows { rows_in tree.new.entries ≡ rows_in tree.old.entries }
-    ensures in_order { InBlocks tree.new.entries }
+/// An empty block under this key, at this place. Without memory nothing changes.
+fn open(alloc: Global, blocks: &mut Vec<(Oid, RowList)>, at: usize, key: Oid)
+    requires in_order { InBlocks blocks.old.items }
+    requires free { IsFreeAt key blocks.old.items at }
+    ensures rows { rows_in blocks.new.items ≡ rows_in blocks.old.items }
+    ensures in_order { InBlocks blocks.new.items }
 {
-    let _ = tree.insert(key, RowList::new(alloc));
+    let _ = blocks.insert(at, (key, RowList::new(alloc)));
 }
 
 /// The upper rows of a block, from the place of a new name on, move to a block of their own. Without
 /// memory nothing changes.
-fn split(tree: &mut BTreeMap<Oid, RowList>, key: Oid, oid: Oid)
-    requires { InBlocks tree.old.entries }
-    ensures rows { rows_in tree.new.entries ≡ rows_in tree.old.entries }
-    ensures in_order { InBlocks tree.new.entries }
+fn split(blocks: &mut Vec<(Oid, RowList)>, at: usize, oid: Oid)
+    requires in_order { InBlocks blocks.old.items }
+    requires in_range { at < length blocks.old.items }
+    ensures rows { rows_in blocks.new.items ≡ rows_in blocks.old.items }
+    ensures in_order { InBlocks blocks.new.items }
 {
-    let Some(block) = tree.get_mut(&key) else {
+    let Some((middle, upper)) = blocks[at].1.cut(oid) else {
         return;
     };
-    let Some((middle, upper)) = block.cut(oid) else {
-        return;
-    };
-    if let Err(refused) = tree.insert(middle, upper) {
+    if let Err(refused) = blocks.insert(at + 1, (middle, upper)) {
         let (_, upper) = refused.value;
-        if let Some(block) = tree.get_mut(&key) {
-            block.join(upper);
-        }
+        blocks[at].1.join(upper);
     }
 }
 
 /// The same blocks. Each object is copied once.
-fn copied(alloc: Global, tree: &BTreeMap<Oid, RowList>) -> Result<BTreeMap<Oid, RowList>, NoMemory>
-    requires { InBlocks tree.now.entries }
-    ensures rows { IfOk result (λ copy. rows_in copy.entries ≡ rows_in tree.now.entries) }
-    ensures in_order { IfOk result (λ copy. InBlocks copy.entries) }
+fn copied(alloc: Global, blocks: &[(Oid, RowList)]) -> Result<Vec<(Oid, RowList)>, NoMemory>
+    requires { InBlocks blocks.now }
+    ensures rows { IfOk result (λ copy. rows_in copy.items ≡ rows_in blocks.now) }
+    ensures in_order { IfOk result (λ copy. InBlocks copy.items) }
 {
-    let mut copy = BTreeMap::new(alloc);
-    for (key, block) in tree {
-        copy.insert(*key, block.copy(alloc)?)?;
+    let mut copy = Vec::with_capacity(alloc, blocks.len())?;
+    let mut rest = blocks;
+    'copies: while let Some((block, after)) = rest.split_first() {
+        copy.push((block.0, block.1.copy(alloc)?))?;
+        rest = after;
     }
     Ok(copy)
 }
 
 /// The rows of blocks, one behind the other. No object is copied.
-fn joined(alloc: Global, tree: BTreeMap<Oid, RowList>) -> Result<Vec<(Oid, u32, Object)>, NoMemory>
-    ensures { IfOk result (λ rows. rows.items ≡ rows_in tree.entries) }
+fn joined(alloc: Global, blocks: Vec<(Oid, RowList)>) -> Result<Vec<(Oid, u32, Object)>, NoMemory>
+    ensures { IfOk result (λ rows. rows.items ≡ rows_in blocks.items) }
 {
     let mut rows = Vec::new(alloc);
-    for (_, block) in tree {
+    for (_, block) in blocks {
         let mut more = block.into_vec();
         rows.append(&mut more)?;
     }

@@ -7,6 +7,7 @@ ghost use Rattle.fab_versions.specs.Places.{IsAt, IsGap};
 
 use fab_base::{NoMemory, Object, Oid};
 use std::alloc::Global;
+use std::cmp::Ordering;
 use std::marker::Model;
 
 /// No fewer rows than these go to a block of their own, where there are twice as many.
@@ -157,10 +158,7 @@ impl RowList {
     pub(crate) fn ends_before(&self, oid: Oid) -> bool
         ensures { IsTrue result → (0 < length self.now.rows) × AreBefore oid self.now.rows }
     {
-        match place(&self.rows, oid) {
-            Ok(_) => false,
-            Err(at) => 0 < at && at == self.rows.len(),
-        }
+        goes_behind(&self.rows, oid)
     }
 
     /// Takes the upper rows out, from the place of a new name on (`place_to_cut`), and says with which name
@@ -270,5 +268,23 @@ fn place(rows: &[(Oid, u32, Object)], oid: Oid) -> Result<usize, usize>
     ensures found { IfOk result (IsAt name_of rows.now oid) }
     ensures absent { IfErr result (IsGap name_of rows.now oid) }
 {
+    // A new name mostly goes behind all others.
+    if goes_behind(rows, oid) {
+        return Err(rows.len());
+    }
     rows.binary_search_by_key(&oid, |row| row.0)
+}
+
+/// Whether there are rows, and this name goes behind the last of them.
+fn goes_behind(rows: &[(Oid, u32, Object)], oid: Oid) -> bool
+    requires { IsTrue (ascends name_of rows.now) }
+    ensures { IsTrue result → (0 < length rows.now) × AreBefore oid rows.now }
+{
+    match rows.len().checked_sub(1) {
+        Some(last) => match rows[last].0.cmp(&oid) {
+            Ordering::Less => true,
+            Ordering::Equal | Ordering::Greater => false,
+        },
+        None => false,
+    }
 }

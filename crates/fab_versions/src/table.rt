@@ -17,19 +17,19 @@ const FEW: usize = 1024;
 /// and for how many more there is room without taking memory.
 ///
 /// Few rows stand in a list alone, where a look-up is a binary search and a new name moves the rows
-/// behind it. More go into a tree of blocks, so to find one or to put one takes time that grows as the
-/// logarithm of their number. A tree can't be asked for room beforehand. Where it finds no memory for a
-/// new name, the row stays in the list, which can: the spare room is the list's. At the next put such
-/// rows go into the tree, if there is memory then.
+/// behind it. More go into blocks, so to find one or to put one takes time that grows as the logarithm
+/// of their number. Blocks can't be asked for room beforehand. Where they find no memory for a new name,
+/// the row stays in the list, which can: the spare room is the list's. At the next put such rows go into
+/// the blocks, if there is memory then.
 #[derive(Debug)]
 pub struct Table {
-    tree: Blocks,
+    blocks: Blocks,
     beside: RowList,
 }
 
 impl Drop for Table {
     fn drop(self) {
-        let Table { tree, beside } = self;
+        let Table { blocks, beside } = self;
     }
 }
 
@@ -38,7 +38,7 @@ impl Model for Table {
 
     ghost Value = { Holding };
 
-    ghost view = { λ t. record { rows = rows_of t.tree t.beside.rows; spare = t.beside.spare } };
+    ghost view = { λ t. record { rows = rows_of t.blocks t.beside.rows; spare = t.beside.spare } };
 }
 
 impl Table {
@@ -47,7 +47,7 @@ impl Table {
         ensures { result ≡ record { rows = []; spare = 0 } }
     {
         Table {
-            tree: Blocks::new(alloc),
+            blocks: Blocks::new(alloc),
             beside: RowList::new(alloc),
         }
     }
@@ -58,7 +58,7 @@ impl Table {
     {
         match self.beside.get(oid) {
             Some((version, object)) => Some((version, object)),
-            None => self.tree.get(oid),
+            None => self.blocks.get(oid),
         }
     }
 
@@ -83,7 +83,7 @@ impl Table {
         ensures there { IsSome (row_of name_of self.old.rows oid) → IsOk result }
         ensures same_room { IsSome (row_of name_of self.old.rows oid) → self.old.spare ≤ self.new.spare }
     {
-        if self.tree.has_no_block() && self.beside.len() < FEW {
+        if self.blocks.has_no_block() && self.beside.len() < FEW {
             self.beside.put(oid, version, object)?;
             return Ok(());
         }
@@ -91,16 +91,16 @@ impl Table {
         self.put_among_many(oid, version, object)
     }
 
-    /// Rows that stand beside the tree go into it, as far as there is memory.
+    /// Rows that stand beside the blocks go into them, as far as there is memory.
     fn settle(&mut self)
         ensures rows { self.new.rows ≡ self.old.rows }
         ensures spare { self.old.spare ≤ self.new.spare }
     {
-        move_into_tree(&mut self.tree, &mut self.beside);
+        move_into_blocks(&mut self.blocks, &mut self.beside);
     }
 
-    /// Puts an object at a version: into the tree, or beside it where the name stands there or where
-    /// the tree finds no memory.
+    /// Puts an object at a version: into the blocks, or beside them where the name stands there or where
+    /// the blocks find no memory.
     fn put_among_many(&mut self, oid: Oid, version: u32, object: Object) -> Result<(), NoMemory>
         ensures ok { OnOk result (self.new.rows ≡ placed name_of (oid, version, object) self.old.rows) }
         ensures err { OnErr result (self.new.rows ≡ self.old.rows) }
@@ -109,12 +109,12 @@ impl Table {
         ensures there { IsSome (row_of name_of self.old.rows oid) → IsOk result }
         ensures same_room { IsSome (row_of name_of self.old.rows oid) → self.old.spare ≤ self.new.spare }
     {
-        self.tree.walk_in_order();
+        self.blocks.walk_in_order();
         if self.beside.has(oid) {
             self.beside.put(oid, version, object)?;
             return Ok(());
         }
-        match self.tree.put_if_room(oid, version, object) {
+        match self.blocks.put_if_room(oid, version, object) {
             Ok(()) => Ok(()),
             Err(object) => {
                 self.beside.put(oid, version, object)?;
@@ -151,10 +151,10 @@ impl Table {
         ensures rows { IfOk result (λ copy. copy.rows ≡ self.now.rows) }
         ensures ascending { IsTrue (ascends name_of self.now.rows) }
     {
-        self.tree.walk_in_order();
-        let tree = self.tree.copy(alloc)?;
+        self.blocks.walk_in_order();
+        let blocks = self.blocks.copy(alloc)?;
         let beside = self.beside.copy(alloc)?;
-        Ok(Table { tree, beside })
+        Ok(Table { blocks, beside })
     }
 
     /// The rows, in the order of names. No object is copied.
@@ -162,12 +162,12 @@ impl Table {
         ensures rows { IfOk result (λ rows. rows ≡ self.rows) }
         ensures ascending { IsTrue (ascends name_of self.rows) }
     {
-        let Table { tree, beside } = self;
-        tree.walk_in_order();
-        if tree.has_no_block() {
+        let Table { blocks, beside } = self;
+        blocks.walk_in_order();
+        if blocks.has_no_block() {
             return Ok(Seq::from_vec(beside.into_vec()));
         }
-        let mut rows = RowList::from_vec(tree.into_rows(alloc)?);
+        let mut rows = RowList::from_vec(blocks.into_rows(alloc)?);
         rows.put_all(beside.into_vec())?;
         Ok(Seq::from_vec(rows.into_vec()))
     }
@@ -184,14 +184,14 @@ pub fn next_version(version: u32) -> u32
     }
 }
 
-/// Rows go from a list into a tree, the last first, as far as there is memory.
-fn move_into_tree(tree: &mut Blocks, list: &mut RowList)
-    ensures rows { rows_of tree.new list.new.rows ≡ rows_of tree.old list.old.rows }
+/// Rows go from a list into blocks, the last first, as far as there is memory.
+fn move_into_blocks(blocks: &mut Blocks, list: &mut RowList)
+    ensures rows { rows_of blocks.new list.new.rows ≡ rows_of blocks.old list.old.rows }
     ensures spare { list.old.spare ≤ list.new.spare }
 {
     'rows: while let Some((oid, version, object)) = list.pop() {
-        tree.walk_in_order();
-        if let Err(back) = tree.put_if_room(oid, version, object) {
+        blocks.walk_in_order();
+        if let Err(back) = blocks.put_if_room(oid, version, object) {
             let _ = list.put(oid, version, back);
             return;
         }
