@@ -174,7 +174,8 @@ fn a_thread_reads_beside_the_writer(rt: HostRuntime) -> Result<(), Fail> {
     Ok(())
 }
 
-/// Pays 1 twice, up to the first commit that finds no memory, and counts what was added.
+/// Pays 1 twice and makes an account of it, so that the rows grow, up to the first commit that finds no memory,
+/// and counts what was added.
 fn adds<R: Wait>(rt: &R, alloc: Global, writer: &mut SnapWriter) -> (u32, bool) {
     let mut added = 0u32;
     for paid in 1..3i32 {
@@ -183,7 +184,7 @@ fn adds<R: Wait>(rt: &R, alloc: Global, writer: &mut SnapWriter) -> (u32, bool) 
         }
         let Ok(commit) = commit(
             alloc,
-            [(0, 1000i32.wrapping_sub(paid)), (1, paid)].as_slice(),
+            [(0, 1000i32.wrapping_sub(paid)), (1, paid), (2, paid)].as_slice(),
         ) else {
             return (added, false);
         };
@@ -195,8 +196,8 @@ fn adds<R: Wait>(rt: &R, alloc: Global, writer: &mut SnapWriter) -> (u32, bool) 
     (added, false)
 }
 
-/// A refused add leaves list, count and what is read, and breaks the writer. By `rt try --test --fail-alloc N`
-/// each allocation of both adds is refused in turn (docs/PROVING.md has the numbers); without, nothing is.
+/// A refused add leaves list, count and what is read, and breaks the writer. By `rt try --test --fail-alloc N` the
+/// Nth allocation is refused (which are those of the adds: docs/PROVING.md, "Wrong bodies"); without, none is.
 #[test]
 fn refused_adds_leave_all(rt: HostRuntime) -> Result<(), Fail> {
     let alloc = rt.alloc();
