@@ -15,7 +15,7 @@ use Rattle.fab_base.proofs.Lists.{all_append, all_split, all_along, all_two, all
 use Rattle.fab_protocol.specs.Tables.{row_of, placed, ascends}
 use Rattle.fab_protocol.specs.Versions.{Rows, name_of}
 use Rattle.fab_protocol.proofs.TableLaws.{leads, leads_all, parted, headed, row_of_none, row_of_behind, placed_before, placed_behind, all_placed, ascends_placed, ascends_parts}
-use Rattle.fab_versions.specs.Blocked.{Block, rows_in, AreFrom, AreBefore, Precedes, IsBlock, InBlocks, AreBehind, IsBlockAt, IsFreeAt, IsCut}
+use Rattle.fab_versions.specs.Blocked.{Block, rows_in, AreFrom, AreBefore, Precedes, IsBlock, InBlocks, AreBehind, IsBlockAt, IsCut}
 use Rattle.fab_versions.specs.Places.{IsAt, IsGap}
 use Rattle.fab_versions.specs.Holdings.{Holding}
 use Rattle.fab_versions.proofs.Merged.{ascends_front}
