@@ -85,13 +85,18 @@ impl Locks {
         Ok(self.beside.push((tid, items))?)
     }
 
-    /// Puts the transactions of the list into the indexes, where they or their items are more than few. What
-    /// finds no memory there stays in the list.
-    pub fn settle(&mut self)
+    /// Puts the transactions of the list into the indexes, where they are more than few. What finds no memory
+    /// there stays in the list. In front of what asks for names their items count, too.
+    pub fn settle(&mut self, for_names: bool)
         ensures held { self.new.held ≡ self.old.held }
         ensures spare { self.old.spare ≤ self.new.spare }
     {
-        if !are_few(self.beside.as_slice()) {
+        let are_few = if for_names {
+            are_few(self.beside.as_slice())
+        } else {
+            self.beside.len() <= FEW
+        };
+        if !are_few {
             self.beside.reverse();
             put_last_first(&mut self.indexed, &mut self.beside);
             self.beside.reverse();
@@ -117,7 +122,7 @@ impl Locks {
         match self.free_newest(tid) {
             Some(items) => Some(items),
             None => {
-                self.settle();
+                self.settle(false);
                 self.free_settled(tid)
             }
         }
@@ -151,7 +156,7 @@ impl Locks {
         ensures held { self.new.held ≡ filter (λ p. not (p.0.worker == worker)) self.old.held }
         ensures spare { self.old.spare ≤ self.new.spare }
     {
-        self.settle();
+        self.settle(false);
         self.free_all_settled(worker);
     }
 

@@ -57,7 +57,7 @@ fn tid_of(number: u64) -> Tid {
     Tid {
         worker: (number % 3) as u16,
         boot: 1,
-        number: (number / 3 % 100) as u32,
+        number: (number / 3 % 200) as u32,
     }
 }
 
@@ -80,6 +80,12 @@ fn made_up(alloc: Global, number: u64) -> Result<Items, NoMemory> {
         class: 2,
         fields: Seq::new(alloc),
     };
+    // A few have as many items as a list of few may have.
+    if number / 4 % 64 == 3 {
+        for _ in 0..300u32 {
+            items.reads.push((oid_of(number), 1))?;
+        }
+    }
     if number / 4 % 3 == 1 {
         items.writes.push((oid_of(number / 16), 1, object))?;
     } else if number / 4 % 3 == 2 {
@@ -145,7 +151,7 @@ fn call(
 ) -> Result<(), NoMemory> {
     let tid = tid_of(number / 16);
     if number % 16 == 15 {
-        locks.settle();
+        locks.settle(number % 32 == 15);
     } else if number % 256 == 0 {
         locks.free_all(tid.worker);
         list.retain(|one| one.0.worker != tid.worker);

@@ -99,3 +99,33 @@ fn a_table_is_a_plain_list(rt: HostRuntime) -> Result<(), Fail> {
     }
     Ok(())
 }
+
+/// Whether a table has these numbers from 1 on, in their order, and finds the first, one in the midst and the last.
+fn has_all(alloc: Global, table: &Table, many: u32) -> Result<bool, NoMemory> {
+    let rows = table.copy(alloc)?.into_rows(alloc)?;
+    let mut number = 0u32;
+    for row in rows.as_slice() {
+        number = number.wrapping_add(1);
+        if row.0.number != number {
+            return Ok(false);
+        }
+    }
+    Ok(number == many
+        && is_at(table.get(named(1)), 1, 1)
+        && is_at(table.get(named(many / 2)), 1, 1)
+        && is_at(table.get(named(many)), 1, 1))
+}
+
+#[test]
+fn names_come_in_order_or_against_it(rt: HostRuntime) -> Result<(), Fail> {
+    let alloc = rt.alloc();
+    for falling in [false, true] {
+        let mut table = Table::new(alloc);
+        for turn in 1..5001u32 {
+            let number = if falling { 5001 - turn } else { turn };
+            table.put(named(number), 1, thing(alloc, 1))?;
+        }
+        assert!(rt; has_all(alloc, &table, 5000)?, "{falling}");
+    }
+    Ok(())
+}

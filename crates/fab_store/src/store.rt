@@ -143,9 +143,7 @@ impl Store {
         ensures can { IfOk result (λ plan. CanKeepSaid self.new.rights self.new.node plan.entry self.new.shelf) }
         ensures kept { OnlyGainsRoom self.old self.new }
     {
-        if may_be_prepare(bytes) {
-            self.locks.settle();
-        }
+        self.locks.settle(may_be_prepare(bytes));
         let said = self.hears(sender, bytes)?;
         if let Some(entry) = &said.entry {
             self.make_room_for(entry)?;

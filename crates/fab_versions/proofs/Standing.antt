@@ -15,7 +15,7 @@ use Rattle.fab_base.proofs.Lists.{all_append, all_split, all_along, all_two, all
 use Rattle.fab_protocol.specs.Tables.{row_of, placed, ascends}
 use Rattle.fab_protocol.specs.Versions.{Rows, name_of}
 use Rattle.fab_protocol.proofs.TableLaws.{leads, leads_all, parted, headed, row_of_none, row_of_behind, placed_before, placed_behind, all_placed, ascends_placed, ascends_parts}
-use Rattle.fab_versions.specs.Blocked.{Block, rows_in, AreFrom, AreBefore, Precedes, IsBlock, InBlocks, AreBehind, IsBlockAt, IsFreeAt, IsCut}
+use Rattle.fab_versions.specs.Blocked.{Block, rows_in, AreFrom, AreBefore, Precedes, IsBlock, InBlocks, AreBehind, IsBlockAt, IsCut}
 use Rattle.fab_versions.specs.Places.{IsAt, IsGap}
 use Rattle.fab_versions.specs.Holdings.{Holding}
 use Rattle.fab_versions.proofs.Merged.{ascends_front}
@@ -383,15 +383,6 @@ module _ (o : Oid) (blocks : List Block) (h : InBlocks blocks) (b : Block) (s : 
 
   -- ---- an empty block behind it
 
-  strictly : (rows : Rows) → 0 < length rows → AreFrom b.0 rows → AreBefore o rows → is_before b.0 o ≡ true
-  strictly [] lt f g = absurd (omega arith)
-  strictly (row ∷ rows) lt f g = until_before b.0 (name_of row) o f.0 g.0
-
-  pub all_precede : (0 < length b.1.rows) × AreBefore o b.1.rows → AllByRecursion (λ x. Precedes x o) (s.front ++ b ∷ [])
-  all_precede e =
-      all_append (λ x. Precedes x o) s.front (b ∷ []) (all_along (λ x. Precedes x b.0) (λ x. Precedes x o) (λ x p. precedes_from x b.0 o p s.reached) s.front its.before)
-      ((strictly b.1.rows e.0 its.here.from_key e.1, e.1), tt)
-
 -- ---- the same of the block at a place
 
 module _ (o : Oid) (blocks : List Block) (h : InBlocks blocks) (i : ℕ) (at : IsBlockAt o blocks i) (d : Block) (e : d ≡ get_or blocks i d) where
@@ -428,70 +419,30 @@ module _ (o : Oid) (blocks : List Block) (h : InBlocks blocks) (i : ℕ) (at : I
 pub no_row : (o : Oid) (blocks : List Block) → InBlocks blocks → AreBehind o blocks → row_of name_of (rows_in blocks) o ≡ None
 no_row o blocks h e = row_of_front name_of [] (rows_in blocks) o (back_behind o blocks h e)
 
--- and the least name is free
-pub least_free : (o : Oid) (blocks : List Block) → AreBehind o blocks → IsFreeAt least blocks 0
-least_free o blocks e = record {
-  in_range = omega arith;
-  before = tt;
-  behind = all_along (λ x. is_before o x.0 ≡ true) (λ x. is_before least x.0 ≡ true) (λ x k. until_before least o x.0 (none_before_least o) k) blocks e;
-}
+-- and the least name is before them
+least_before : (o : Oid) (blocks : List Block) → AreBehind o blocks → AreBehind least blocks
+least_before o blocks e = all_along (λ x. is_before o x.0 ≡ true) (λ x. is_before least x.0 ≡ true) (λ x k. until_before least o x.0 (none_before_least o) k) blocks e
 
-take_more : (xs : List Block) (i : ℕ) (d : Block) → i < length xs → take (i + 1) xs ≡ take i xs ++ get_or xs i d ∷ []
-take_more [] i d lt = absurd (omega arith)
-take_more (x ∷ xs) zero d lt = refl
-take_more (x ∷ xs) (suc i) d lt = ap (λ n. take n (x ∷ xs)) (sym (behind_both i)) ∙ ap (λ l. x ∷ l) (take_more xs i d (omega (arith, lt)))
+-- ---- an empty block in front of all
 
--- so is a name behind a block that isn't empty, behind it
-pub free_behind : (o : Oid) (blocks : List Block) → InBlocks blocks → (i : ℕ) → IsBlockAt o blocks i → (d : Block)
-    → d ≡ get_or blocks i d → (0 < length d.1.rows) × AreBefore o d.1.rows → IsFreeAt o blocks (i + 1)
-free_behind o blocks h i at d e f = record {
-  in_range = omega (arith, at.in_range);
-  before = subst (λ l. AllByRecursion (λ x. Precedes x o) l) (ap (λ b. take i blocks ++ b ∷ []) e ∙ sym (take_more blocks i d at.in_range))
-      (all_precede o blocks h d (its_block o blocks h i at d e) f);
-  behind = at.passed;
-}
+module _ (o : Oid) (w : Holding) (none : w.rows ≡ []) (blocks : List Block) (h : InBlocks blocks) (behind : AreBehind o blocks) (new : List Block)
+    (is : new ≡ insert blocks 0 (least, w)) where
+  opened_is : new ≡ (least, w) ∷ blocks
+  opened_is = is ∙ insert_parts blocks 0 (least, w) (omega arith)
 
--- ---- an empty block
+  pub opened_rows : rows_in new ≡ rows_in blocks
+  opened_rows = ap rows_in opened_is ∙ ap (λ l. l ++ rows_in blocks) none
 
-module _ (k : Oid) (w : Holding) (none : w.rows ≡ []) where
-  empty_precedes : (o : Oid) → is_before k o ≡ true → Precedes (k, w) o
-  empty_precedes o e = (e, subst (AreBefore o) (sym none) tt)
-
-  opened : (front back : List Block) → InBlocks (front ++ back) → AllByRecursion (λ x. Precedes x k) front → AreBehind k back → InBlocks (front ++ (k, w) ∷ back)
-  opened [] back h f g = (
-    record {
-      ascending = subst (λ l. IsTrue (ascends name_of l)) (sym none) refl;
-      from_key = subst (AreFrom k) (sym none) tt;
-      apart = all_along (λ x. is_before k x.0 ≡ true) (λ x. Precedes (k, w) x.0) (λ x e. empty_precedes x.0 e) back g;
-    },
-    h,
-  )
-  opened (x ∷ front) back h f g =
-      let p = all_split (λ next. Precedes x next.0) front back h.0.apart in (
+  pub opened_order : InBlocks new
+  opened_order =
+      subst InBlocks (sym opened_is) (
         record {
-          ascending = h.0.ascending;
-          from_key = h.0.from_key;
-          apart = all_append (λ next. Precedes x next.0) front ((k, w) ∷ back) p.0 (f.0, p.1);
+          ascending = subst (λ l. IsTrue (ascends name_of l)) (sym none) refl;
+          from_key = subst (AreFrom least) (sym none) tt;
+          apart = all_along (λ x. is_before least x.0 ≡ true) (λ x. Precedes (least, w) x.0) (λ x e. (e, subst (AreBefore x.0) (sym none) tt)) blocks (least_before o blocks behind);
         },
-        opened front back h.1 f.1 g,
+        h,
       )
-
-  module _ (blocks : List Block) (h : InBlocks blocks) (i : ℕ) (free : IsFreeAt k blocks i) (new : List Block) (is : new ≡ insert blocks i (k, w)) where
-    opened_is : new ≡ take i blocks ++ (k, w) ∷ drop i blocks
-    opened_is = is ∙ insert_parts blocks i (k, w) free.in_range
-
-    parts : blocks ≡ take i blocks ++ drop i blocks
-    parts = sym (take-append-drop i blocks)
-
-    pub opened_rows : rows_in new ≡ rows_in blocks
-    opened_rows =
-        ap rows_in opened_is
-        ∙ rows_append (take i blocks) ((k, w) ∷ drop i blocks)
-        ∙ ap (λ l. rows_in (take i blocks) ++ (l ++ rows_in (drop i blocks))) none
-        ∙ sym (ap rows_in parts ∙ rows_append (take i blocks) (drop i blocks))
-
-    pub opened_order : InBlocks new
-    opened_order = subst InBlocks (sym opened_is) (opened (take i blocks) (drop i blocks) (subst InBlocks parts h) free.before free.behind)
 
 -- ---- the upper half in a block of its own
 

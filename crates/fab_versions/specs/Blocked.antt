@@ -49,12 +49,6 @@ pub record IsBlockAt (o : Oid) (blocks : List Block) (i : ℕ) : Type 0 where
   pub reached : HoldsAt (λ block. is_before o block.0 ≡ false) blocks i
   pub passed : AreBehind o (drop (i + 1) blocks)
 
--- an empty block can stand at place i under a key: those before it precede it, and the keys of the others are behind it
-pub record IsFreeAt (o : Oid) (blocks : List Block) (i : ℕ) : Type 0 where
-  pub in_range : i ≤ length blocks
-  pub before : AllByRecursion (λ block. Precedes block o) (take i blocks)
-  pub behind : AreBehind o (drop i blocks)
-
 -- rows in two parts, of which the upper begins with this name
 pub record IsCut (rows lower : Rows) (o : Oid) (upper : Rows) : Type 0 where
   pub parts : rows ≡ lower ++ upper

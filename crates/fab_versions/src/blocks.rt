@@ -3,7 +3,7 @@ ghost use Rattle.std.specs.Prelude.{◌≡◌, ◌<◌, [], length, not, MatchOp
 ghost use Rattle.fab_base.specs.FlatMap.{is_before};
 ghost use Rattle.fab_protocol.specs.Tables.{row_of, placed, ascends};
 ghost use Rattle.fab_protocol.specs.Versions.{name_of};
-ghost use Rattle.fab_versions.specs.Blocked.{rows_in, AreBehind, InBlocks, IsBlockAt, IsFreeAt};
+ghost use Rattle.fab_versions.specs.Blocked.{rows_in, AreBehind, InBlocks, IsBlockAt};
 
 use crate::row_list::RowList;
 use fab_base::{NoMemory, Object, Oid};
@@ -18,11 +18,10 @@ const MOST: usize = 1024;
 ///
 /// They stand in blocks, each a vector under a lower bound of its names, and the blocks in a vector in the
 /// order of these bounds. So a look-up is two binary searches. A new name moves the rows of one block at
-/// most, and where a block is full, which is once in some five hundred names, the blocks behind it, 48 bytes
-/// each. Names that come in their order fill their blocks, in front of others that stay, too. In another
-/// order a cut leaves half a block and 64 rows, and names that go behind a full block, the last first, have
-/// a block each. The first block is under the least name, so that each name has a block. A map of blocks
-/// would take two walks for a put, each with more comparisons than both searches.
+/// most, and where the block is full, the blocks behind it, 48 bytes each: that is once in 64 names at the
+/// most, since no cut leaves fewer rows in a block. Names that come in their order fill their blocks but for
+/// 64 rows, in front of others that stay, too. The first block is under the least name, so that each name
+/// has a block. A map of blocks would take two walks for a put, each with more comparisons than both searches.
 #[derive(Debug)]
 pub(crate) struct Blocks {
     alloc: Global,
@@ -170,46 +169,37 @@ fn put_in_block(
     }
 }
 
-/// Makes room for a new name where its block is full, in time that grows with the block. A name that
-/// goes behind the last row gets an empty block, so that names in their order leave full blocks behind
-/// them, and else the rows from its place on, or nearly so, move to a block of their own. Where there is
-/// no block, an empty one is made under the least name. Without memory nothing changes.
+/// Makes room for a new name where its block is full: the block is cut, in time that grows with it and with the
+/// number of blocks behind it. Where there is no block at or before the name, an empty one is made under the
+/// least name. Without memory nothing changes.
 fn make_room(alloc: Global, blocks: &mut Vec<(Oid, RowList)>, oid: Oid)
     requires { InBlocks blocks.old.items }
     ensures rows { rows_in blocks.new.items ≡ rows_in blocks.old.items }
     ensures in_order { InBlocks blocks.new.items }
 {
     match block_of(blocks.as_slice(), oid) {
-        Some(at) => {
-            if blocks[at].1.ends_before(oid) {
-                open(alloc, blocks, at + 1, oid);
-            } else {
-                split(blocks, at, oid);
-            }
-        }
-        None => {
-            let least = Oid {
-                store: 0,
-                class: 0,
-                worker: 0,
-                boot: 0,
-                number: 0,
-                site: 0,
-                index: 0,
-            };
-            open(alloc, blocks, 0, least);
-        }
+        Some(at) => split(blocks, at, oid),
+        None => open(alloc, blocks, oid),
     }
 }
 
-/// An empty block under this key, at this place. Without memory nothing changes.
-fn open(alloc: Global, blocks: &mut Vec<(Oid, RowList)>, at: usize, key: Oid)
+/// An empty block under the least name, in front of all. Without memory nothing changes.
+fn open(alloc: Global, blocks: &mut Vec<(Oid, RowList)>, oid: Oid)
     requires in_order { InBlocks blocks.old.items }
-    requires free { IsFreeAt key blocks.old.items at }
+    requires behind { AreBehind oid blocks.old.items }
     ensures rows { rows_in blocks.new.items ≡ rows_in blocks.old.items }
     ensures in_order { InBlocks blocks.new.items }
 {
-    let _ = blocks.insert(at, (key, RowList::new(alloc)));
+    let least = Oid {
+        store: 0,
+        class: 0,
+        worker: 0,
+        boot: 0,
+        number: 0,
+        site: 0,
+        index: 0,
+    };
+    let _ = blocks.insert(0, (least, RowList::new(alloc)));
 }
 
 /// The upper rows of a block, from the place of a new name on, move to a block of their own. Without

@@ -154,13 +154,6 @@ impl RowList {
         }
     }
 
-    /// Whether there are rows, and this name goes behind the last of them.
-    pub(crate) fn ends_before(&self, oid: Oid) -> bool
-        ensures { IsTrue result → (0 < length self.now.rows) × AreBefore oid self.now.rows }
-    {
-        goes_behind(&self.rows, oid)
-    }
-
     /// Takes the upper rows out, from the place of a new name on (`place_to_cut`), and says with which name
     /// they begin. `None` where there are fewer than two rows, or no memory: then the rows stay.
     pub(crate) fn cut(&mut self, oid: Oid) -> Option<(Oid, RowList)>
