@@ -110,10 +110,12 @@ fn has_all(alloc: Global, table: &Table, many: u32) -> Result<bool, NoMemory> {
             return Ok(false);
         }
     }
-    Ok(number == many
-        && is_at(table.get(named(1)), 1, 1)
-        && is_at(table.get(named(many / 2)), 1, 1)
-        && is_at(table.get(named(many)), 1, 1))
+    Ok(
+        number == many
+            && is_at(table.get(named(1)), 1, 1)
+            && is_at(table.get(named(many / 2)), 1, 1)
+            && is_at(table.get(named(many)), 1, 1),
+    )
 }
 
 #[test]

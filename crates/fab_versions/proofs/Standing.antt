@@ -380,8 +380,7 @@ module _ (o : Oid) (blocks : List Block) (h : InBlocks blocks) (b : Block) (s : 
             },
             its.behind,
           ))
-
-  -- ---- an empty block behind it
+      -- ---- an empty block behind it
 
 -- ---- the same of the block at a place
 
