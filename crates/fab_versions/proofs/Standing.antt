@@ -255,6 +255,20 @@ own_place blocks h i lt d e = record {
   passed = subst (λ b. AreBehind b.0 (drop (i + 1) blocks)) (sym e) (keys_behind blocks h i lt d);
 }
 
+-- and one in front of the next key is that of a name between both
+pub goes_between : (o : Oid) (blocks : List Block) → InBlocks blocks → (i : ℕ) → i + 1 < length blocks → (d e : Block)
+    → is_before o (get_or blocks i d).0 ≡ false → is_before o (get_or blocks (i + 1) e).0 ≡ true → IsBlockAt o blocks i
+goes_between o blocks h i lt d e low high =
+    let next = get_or blocks (i + 1) e in
+    record {
+      in_range = omega (arith, lt);
+      reached = λ f. subst (λ b. is_before o b.0 ≡ false) (any_default blocks i d f (omega (arith, lt))) low;
+      passed = subst (AreBehind o) (sym (front_at blocks (i + 1) e lt)) (
+        high,
+        all_along (λ b. is_before next.0 b.0 ≡ true) (λ b. is_before o b.0 ≡ true) (λ b k. before_trans o next.0 b.0 high k) (drop (i + 1 + 1) blocks) (keys_behind blocks h (i + 1) lt e),
+      );
+    }
+
 -- ---- where a search finds it
 
 abbrev pub key_of : Block → Oid

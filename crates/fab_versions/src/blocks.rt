@@ -22,15 +22,21 @@ const MOST: usize = 1024;
 /// most, since no cut leaves fewer rows in a block. Names that come in their order fill their blocks but for
 /// 64 rows, in front of others that stay, too. The first block is under the least name, so that each name
 /// has a block. A map of blocks would take two walks for a put, each with more comparisons than both searches.
+/// What is written goes in the order of names, so the block of the last put is asked first (`near`).
 #[derive(Debug)]
 pub(crate) struct Blocks {
     alloc: Global,
     blocks: Vec<(Oid, RowList)>,
+    near: usize,
 }
 
 impl Drop for Blocks {
     fn drop(self) {
-        let Blocks { alloc, blocks } = self;
+        let Blocks {
+            alloc,
+            blocks,
+            near,
+        } = self;
     }
 }
 
@@ -53,6 +59,7 @@ impl Blocks {
         Blocks {
             alloc,
             blocks: Vec::new(alloc),
+            near: 0,
         }
     }
 
@@ -93,11 +100,18 @@ impl Blocks {
         ensures absent { OnErr result (row_of name_of self.old oid ≡ None) }
         ensures back { IfErr result (λ back. back ≡ object) }
     {
-        match put_in_block(&mut self.blocks, MOST, oid, version, object) {
+        match put_in_block(&mut self.blocks, &mut self.near, MOST, oid, version, object) {
             Ok(()) => Ok(()),
             Err(object) => {
                 make_room(self.alloc, &mut self.blocks, oid);
-                put_in_block(&mut self.blocks, usize::MAX, oid, version, object)
+                put_in_block(
+                    &mut self.blocks,
+                    &mut self.near,
+                    usize::MAX,
+                    oid,
+                    version,
+                    object,
+                )
             }
         }
     }
@@ -109,6 +123,7 @@ impl Blocks {
         Ok(Blocks {
             alloc,
             blocks: copied(alloc, self.blocks.as_slice())?,
+            near: 0,
         })
     }
 
@@ -116,7 +131,11 @@ impl Blocks {
     pub(crate) fn into_rows(self, alloc: Global) -> Result<Vec<(Oid, u32, Object)>, NoMemory>
         ensures { IfOk result (λ rows. rows.items ≡ self) }
     {
-        let Blocks { alloc: _, blocks } = self;
+        let Blocks {
+            alloc: _,
+            blocks,
+            near: _,
+        } = self;
         joined(alloc, blocks)
     }
 }
@@ -137,6 +156,34 @@ fn block_of(blocks: &[(Oid, RowList)], oid: Oid) -> Option<usize>
     }
 }
 
+/// The same, where the block at a place that is no more than a guess is asked first.
+fn block_near(blocks: &[(Oid, RowList)], near: usize, oid: Oid) -> Option<usize>
+    requires { InBlocks blocks.now }
+    ensures { MatchOption result (AreBehind oid blocks.now) (λ at. IsBlockAt oid blocks.now at) }
+{
+    if is_between(blocks, near, oid) {
+        return Some(near);
+    }
+    block_of(blocks, oid)
+}
+
+/// Whether a name goes in the block at this place, in front of another block.
+fn is_between(blocks: &[(Oid, RowList)], at: usize, oid: Oid) -> bool
+    requires { InBlocks blocks.now }
+    ensures { IsTrue result → IsBlockAt oid blocks.now at }
+{
+    let Some(last) = blocks.len().checked_sub(1) else {
+        return false;
+    };
+    if last <= at {
+        return false;
+    }
+    if !is_up_to(blocks[at].0, oid) {
+        return false;
+    }
+    !is_up_to(blocks[at + 1].0, oid)
+}
+
 /// Whether a key is this name, or before it.
 fn is_up_to(key: Oid, oid: Oid) -> bool
     ensures { result ≡ not (is_before oid key) }
@@ -147,10 +194,11 @@ fn is_up_to(key: Oid, oid: Oid) -> bool
     }
 }
 
-/// Puts an object into the block of its name. A new name is refused where the block has so many rows,
+/// Puts an object into the block of its name, which is looked for near the last one. A new name is refused where the block has so many rows,
 /// and where there is no memory or no block: then the object comes back.
 fn put_in_block(
     blocks: &mut Vec<(Oid, RowList)>,
+    near: &mut usize,
     most: usize,
     oid: Oid,
     version: u32,
@@ -163,8 +211,11 @@ fn put_in_block(
     ensures absent { OnErr result (row_of name_of (rows_in blocks.old.items) oid ≡ None) }
     ensures back { IfErr result (λ back. back ≡ object) }
 {
-    match block_of(blocks.as_slice(), oid) {
-        Some(at) => blocks[at].1.put_few(most, oid, version, object),
+    match block_near(blocks.as_slice(), *near, oid) {
+        Some(at) => {
+            *near = at;
+            blocks[at].1.put_few(most, oid, version, object)
+        }
         None => Err(object),
     }
 }
