@@ -19,7 +19,7 @@ use Rattle.fab_reports.proofs.Showing.{each_fits}
 use Rattle.fab_named.proofs.Named.{have_words}
 use Rattle.fab_shown.proofs.Nodes.{rights_node}
 use Rattle.fab_evidence.specs.Named.{node_named}
-use Rattle.fab_told.proofs.Names.{number_told}
+use Rattle.fab_audit.proofs.Numbers.{number_told}
 use Rattle.fab_evidence.specs.Reading.{AreNamed}
 use Rattle.fab_audit.specs.Runs.{honest_nodes}
 

@@ -39,7 +39,7 @@ use Rattle.fab_evidence.specs.Marks.{is_open_of, is_unfinished, is_waiting}
 use Rattle.fab_evidence.specs.Named.{node_named}
 use Rattle.fab_ended.proofs.Sessions.{sessions_are_honest}
 use Rattle.fab_named.proofs.Numbered.{has_node}
-use Rattle.fab_told.proofs.Names.{number_told}
+use Rattle.fab_audit.proofs.Numbers.{number_told}
 
 -- ---- numbers in a row
 

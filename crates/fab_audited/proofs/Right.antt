@@ -21,8 +21,8 @@ use Rattle.fab_shown.proofs.Shown.{read_back, showable}
 use Rattle.fab_evidence.specs.declared.shown.ShownJournal.{ShownJournal}
 use Rattle.fab_evidence.specs.Marks.{told_from}
 use Rattle.fab_evidence.specs.Texts.{AreOf, journals_text}
-use Rattle.fab_told.proofs.Lines.{events_listed}
-use Rattle.fab_told.proofs.Names.{number_told}
+use Rattle.fab_audit.proofs.Lines.{events_listed}
+use Rattle.fab_audit.proofs.Numbers.{number_told}
 use Rattle.fab_audit.specs.Right.{IsKept, IsRight}
 use Rattle.fab_audit.specs.Runs.{all_moves, honest_nodes, moves_of}
 use Rattle.fab_audited.proofs.Open.{held_same, outcomes_same, waits, waits_soundly}

@@ -18,7 +18,7 @@ use Rattle.fab_reports.specs.Printed.{event_of, events_of, inner_of}
 use Rattle.fab_reports.specs.Showable.{IsEventIn, IsInnerIn, IsLogIn, IsNode}
 use Rattle.fab_evidence.specs.Marks.{is_marked, is_of, is_waiting, told_from}
 use Rattle.fab_evidence.specs.Named.{name_at, name_in, node_named}
-use Rattle.fab_told.proofs.Events.{event_told}
+use Rattle.fab_audit.proofs.Events.{event_told}
 use Rattle.fab_audit.specs.Runs.{all_moves}
 use Rattle.fab_audited.proofs.Ruled.{rule, ruled}
 

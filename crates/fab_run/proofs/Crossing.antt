@@ -3,11 +3,10 @@ use denote.Ref.{NamedLft}
 use denote.RattleType.{RattleType}
 use denote.Param.Send.{IsSend, sendable}
 use Rattle.std.proofs.Crossing.{crosses}
-use Rattle.fab_crossing.proofs.Crossing.{Resolved-sync}
 use Rattle.fab_device.specs.declared.traits.Journal as Journal
 use Rattle.fab_map.proofs.map.ObjectMap.TheSendSync as ObjectMap
 use Rattle.fab_snap.proofs.Crossing.{SnapWriter-send}
-use Rattle.fab_threads.proofs.Crossing.{Exchange-send}
+use Rattle.fab_threads.proofs.Crossing.{Exchange-send, Resolved-sync}
 use Rattle.fab_run.proofs.board.Board.TheSendSync as Board
 use Rattle.fab_run.specs.contracts.follower.Follower as Follower
 use Rattle.fab_run.specs.contracts.watched.Watched as Watched

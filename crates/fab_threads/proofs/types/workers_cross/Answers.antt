@@ -1,7 +1,7 @@
 use denote.Param.Send.{sendable}
 use Rattle.std.proofs.Crossing.{crosses}
-use Rattle.fab_crossing.proofs.Crossing.{Worker-send}
-use Rattle.fab_crossing.proofs.types.workers_cross.Goals as goal
+use Rattle.fab_threads.proofs.Crossing.{Worker-send}
+use Rattle.fab_threads.proofs.types.workers_cross.Goals as goal
 
 pub send-requires-send-T : goal.send-requires-send-T
 send-requires-send-T c κs = search (sendable, crosses, Worker-send) depth 20

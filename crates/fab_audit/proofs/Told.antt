@@ -22,9 +22,9 @@ use Rattle.fab_shown.specs.Shown.{all_held, all_outcomes, lines_of, log_of, repo
 use Rattle.fab_shown.proofs.Shown.{read_back, showable}
 use Rattle.fab_evidence.specs.Marks.{events_in}
 use Rattle.fab_evidence.specs.Named.{named_event}
-use Rattle.fab_told.proofs.Events.{log_told}
-use Rattle.fab_told.proofs.Lines.{events_listed}
-use Rattle.fab_told.proofs.Names.{number_told}
+use Rattle.fab_audit.proofs.Events.{log_told}
+use Rattle.fab_audit.proofs.Lines.{events_listed}
+use Rattle.fab_audit.proofs.Numbers.{number_told}
 
 -- a log has the events of its moves
 pub events_logged : {A : Type 0} (f : Event → A) (S : Setting) (w : World) (moves : List Move) → map (λ x. f x.event) (logs S w moves) ≡ map (λ m. f m.event) moves

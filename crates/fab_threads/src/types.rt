@@ -1,4 +1,5 @@
-//! Each type that threads hand on is asked whether it may be sent, and those that they share whether they may be shared.
+//! Each type that threads hand on is asked whether it may be sent, and those that they share whether they may be shared: so a lost
+//! proof shows here and not in a caller.
 
 use fab_core::Core;
 use fab_device::Journal;

@@ -1,7 +1,7 @@
 use denote.Param.Send.{sendable}
 use Rattle.std.proofs.Crossing.{crosses}
-use Rattle.fab_crossing.proofs.Crossing.{Core-send}
-use Rattle.fab_crossing.proofs.types.cores_cross.Goals as goal
+use Rattle.fab_threads.proofs.Crossing.{Core-send}
+use Rattle.fab_threads.proofs.types.cores_cross.Goals as goal
 
 pub send-requires-send-T : goal.send-requires-send-T
 send-requires-send-T c κs = search (sendable, crosses, Core-send) depth 20
