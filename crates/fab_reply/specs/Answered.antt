@@ -16,8 +16,8 @@ use Rattle.fab_reply.specs.Reply.{AreCut, ComesTo, Ends, IsComplete, IsJournalFa
 use Rattle.fab_reply.specs.Tasks.{Generates, IsRead, IsReplied, command_in, input_of, rest_of}
 
 -- What is promised of a command of a text. `left` is what there is to read, and `left'` what is left of it behind; the sink and who makes journals stand here
--- before and after, and `written`, `write_faults` and `seen` are how contracts see them. `replied` says that something is asked that has a reply, as the text
--- of `gen` is none.
+-- before and after, and `written`, `write_faults` and `seen` are how contracts see them. `replied` says that what is asked isn't the
+-- text of `gen`, which is no reply.
 pub record IsAnswered {K M : Type 0} (replied : Type 0) (command : Option Command) (status : Status) (left left' : Option (List ℕ))
     (written : K → Option (List ℕ)) (write_faults : K → ℕ) (sink sink' : K) (seen : M → Makers) (journals journals' : M) : Type 0 where
   -- What each status says of what was read and of what was written.

@@ -45,9 +45,9 @@ pub fn plain<S: Source, K: Sink, M: Journals>(
 ) -> Status
     requires { (telling : AnyTelling) → command_in (asked_by words.now) ≢ Some (Run telling) }
 
-    // The clauses are the fields of `IsDone`, and of `IsAnswered` in it (`crates/fab_reply/specs/Answered.antt`): what each status says of what was read and
-    // written (`means`, `exact`, `complete`, `whole`, `memory`, `usage`, `generates`), the cause of each fault (`read_fault`, `write_fault`, `journal_fault`,
-    // with the counts that stay), and the headline (`headline`, `headline_of_a_part`).
+    // The clauses are the fields of `IsDone`, and of `IsAnswered` in it (`crates/fab_reply/specs/Answered.antt`), among them what each status says of what was
+    // read and written (`means`, `exact`, `complete`, `whole`, `memory`, `usage`, `generates`), the cause of each fault (`read_fault`, `write_fault`,
+    // `journal_fault`, with the counts that stay), and the headline (`headline`, `headline_of_a_part`).
     ensures done { IsDone (asked_by words.now) result S.left S.faults source.old source.new K.written K.faults sink.old sink.new M.seen journals.old journals.new }
 {
     match asked_task(alloc, words) {
@@ -76,9 +76,9 @@ pub fn fab<R: Threads + Wait + Sync, S: Source, K: Sink, M: Journals, G: Gate + 
     journals: &mut M,
     gate: &G,
 ) -> Status
-    // The clauses are the fields of `IsDone`, and of `IsAnswered` in it (`crates/fab_reply/specs/Answered.antt`): what each status says of what was read and
-    // written (`means`, `exact`, `complete`, `whole`, `memory`, `usage`, `generates`), the cause of each fault (`read_fault`, `write_fault`, `journal_fault`,
-    // with the counts that stay), and the headline (`headline`, `headline_of_a_part`).
+    // The clauses are the fields of `IsDone`, and of `IsAnswered` in it (`crates/fab_reply/specs/Answered.antt`), among them what each status says of what was
+    // read and written (`means`, `exact`, `complete`, `whole`, `memory`, `usage`, `generates`), the cause of each fault (`read_fault`, `write_fault`,
+    // `journal_fault`, with the counts that stay), and the headline (`headline`, `headline_of_a_part`).
     ensures done { IsDone (asked_by words.now) result S.left S.faults source.old source.new K.written K.faults sink.old sink.new M.seen journals.old journals.new }
 {
     let course = ByCall {
