@@ -3,7 +3,7 @@ use Rattle.fab_reply.proofs.Answered.{drilled, generated, of_task}
 use Rattle.fab_top.proofs.tasks.done.Goals as goal
 
 pub returns-in-None : goal.returns-in-None
-returns-in-None g c = record { done = of_task (sym c.in-None.is) c.answer-in-None.ensures.done }
+returns-in-None g c = record { done = of_task (sym c.in-None.is) c.answer.ensures.done }
 
 pub returns-in-Some-Reply : goal.returns-in-Some-Reply
 returns-in-Some-Reply g c = record { done = of_task (sym (c.in-Some-Reply.is ∙ ap Some c.in-Some-Reply.field-0-is)) c.answer-in-Some-Reply.ensures.done }
