@@ -8,5 +8,4 @@ mod sets;
 
 pub use answers::Answers;
 pub use authority::{set_at, used_sets};
-pub use fab_principals::contains;
 pub use sets::set_of;
