@@ -21,13 +21,13 @@ use Rattle.fab_language.specs.Names.{is_store}
 use Rattle.fab_labels.specs.Covered.{HasAuthority}
 use Rattle.fab_labels.proofs.FlowLemmas.{deny_covered, deny_covered_with, covered_by_denial, covered_by_denial_with}
 use Rattle.fab_principals.specs.Sets.{in_set}
-use Rattle.fab_principals.specs.Tables.{Reaches}
-use Rattle.fab_principals.proofs.ChainLemmas.{Reaches-cons, ActsFor-reaches}
+pub use Rattle.fab_base.proofs.Bits.{bit_is_set, set_is_bit}
+pub use Rattle.fab_principals.proofs.Decided.{Decides-reaches, Decides-acts}
 use Rattle.fab_labelling.specs.Readers.{label_at, principal_of}
 use Rattle.fab_labelling.specs.Placement.{MayHold, HoldsClass, role_of}
 use Rattle.fab_labelling.specs.Obligations.{Claim, flows, conf, nowhere, declassifies, endorses, holds, answers_for, authority_of}
 use Rattle.fab_labelling.specs.Claims.{Holds, IsSetOf, HasAuthorityOf, ReachesMethod, calls_of}
-use Rattle.fab_authority.specs.Decided.{Pairs, reaches, acts_within, covers, covered, covered_with, acts_in_all, may_hold, holds_class, is_store_role, has_authority, uses_authority, decided}
+use Rattle.fab_authority.specs.Decided.{reaches, acts_within, covers, covered, covered_with, acts_in_all, may_hold, holds_class, is_store_role, has_authority, uses_authority, decided}
 use Rattle.fab_authority.specs.Authority.{IsMask, UsesAuthority}
 
 -- ---- lists
@@ -45,21 +45,6 @@ Decides-any {X} p P each xs = (λ t. to (Any-from_list_any p xs t), λ any. list
     from (k, x, within, is, so) = (k, x, within, is, (each x).1 so)
 
 -- ---- acting for, and policies
-
-nowhere_else : (p q : ℕ) → Reaches [] p q → p ≡ q
-nowhere_else p q ([], e) = e
-nowhere_else p q (x ∷ rest, h) = absurd (omega (arith, h.0.1))
-
-pub Decides-reaches : (ds : Pairs) (p q : ℕ) → Decides (reaches ds p q) (Reaches ds p q)
-unfolding reaches
-Decides-reaches [] p q = Decides-like (p == q) (λ e. ([], e)) (nowhere_else p q) (Decides-eqb p q)
-Decides-reaches (d ∷ ds) p q =
-    let more = Reaches-cons d ds p q in
-    Decides-like (reaches ds p q || (reaches ds p d.0 && reaches ds d.1 q)) more.1 more.0
-    (Decides-or (reaches ds p q) (reaches ds p d.0 && reaches ds d.1 q) (Decides-reaches ds p q) (Decides-and (reaches ds p d.0) (reaches ds d.1 q) (Decides-reaches ds p d.0) (Decides-reaches ds d.1 q)))
-
-pub Decides-acts : (d : Delegations) (p q : ℕ) → Decides (reaches d.pairs p q) (ActsFor d p q)
-Decides-acts d p q = let same = ActsFor-reaches d p q in Decides-like (reaches d.pairs p q) same.0 same.1 (Decides-reaches d.pairs p q)
 
 pub Decides-within : (d : Delegations) (i : Policy) (p : ℕ) → Decides (acts_within d.pairs i p) (ActsForOne d p (i.owner ∷ i.others))
 Decides-within d i p = Decides-any (reaches d.pairs p) (λ q. ActsFor d p q) (λ q. Decides-acts d p q) (i.owner ∷ i.others)
@@ -90,19 +75,6 @@ Decides-flows d a b =
     (Decides-and (covered d.pairs b.conf a.conf) (covered d.pairs a.integ b.integ) (Decides-conf d a b) (Decides-integ d a b))
 
 -- ---- sets
-
-pub bit_is_set : (n k : ℕ) → bit_at n k ≡ 1 → IsBitSet n k
-bit_is_set n k one none =
-    let zero_is : 1 * 2 ^ k ≡ 0 = ap (λ b. b * 2 ^ k) (sym one) ∙ sym (and_pow n k) ∙ none in
-    absurd (omega (arith, zero_is))
-
-pub set_is_bit : (n k : ℕ) → IsBitSet n k → bit_at n k ≡ 1
-set_is_bit n k set = elim (below (bit_at n k) (bit_at-lt n k)) [ inl none ↦ absurd (set (and_pow n k ∙ ap (λ b. b * 2 ^ k) none ∙ omega arith)) | inr one ↦ one ]
-  where
-    below : (b : ℕ) → b < 2 → (b ≡ 0) ⊎ (b ≡ 1)
-    below zero h = inl refl
-    below (suc zero) h = inr refl
-    below (suc (suc b)) h = absurd (omega (arith, h))
 
 bits_of : List ℕ → ℕ
 bits_of [] = 0

@@ -1,5 +1,5 @@
 -- When a claim holds, computed: by covering policies, over the declared delegations.
-use Rattle.std.specs.Prelude.{ℕ, Bool, false, ◌&&◌, ◌||◌, ◌==◌, not, List, [], ◌∷◌, Option, Some, None, length, slice_get}
+use Rattle.std.specs.Prelude.{ℕ, Bool, false, ◌&&◌, ◌||◌, ◌==◌, not, List, ◌∷◌, Option, Some, None, length, slice_get}
 use Rattle.std.specs.List.{list_any, list_all, range_with_len}
 use Rattle.fab_base.specs.declared.label.Policy.{Policy}
 use Rattle.fab_base.specs.declared.label.Label.{Label}
@@ -7,6 +7,7 @@ use Rattle.fab_tree.specs.declared.declaration.Role.{Role}
 use Rattle.fab_tree.specs.declared.resolved.Class.{Class}
 use Rattle.fab_tree.specs.declared.resolved.Method.{Method}
 use Rattle.fab_tree.specs.declared.resolved.Resolved.{Resolved}
+unfoldable pub use Rattle.fab_principals.specs.Tables.{reaches}
 use Rattle.fab_language.specs.Names.{is_store}
 use Rattle.fab_labelling.specs.Readers.{label_at, principal_of}
 use Rattle.fab_labelling.specs.Placement.{role_of}
@@ -15,11 +16,6 @@ use Rattle.fab_labelling.specs.Claims.{calls_of}
 
 abbrev pub Pairs : Type 0
 Pairs = List (ℕ × ℕ)
-
--- over one more pair also whoever comes to its first comes to where its second comes
-unfoldable pub reaches : Pairs → ℕ → ℕ → Bool
-reaches [] p q = p == q
-reaches (d ∷ ds) p q = reaches ds p q || (reaches ds p d.0 && reaches ds d.1 q)
 
 -- p acts for the owner or for a member of the policy
 abbrev pub acts_within : Pairs → Policy → ℕ → Bool

@@ -3,7 +3,7 @@ ghost use Rattle.std.specs.Prelude.{◌≡◌, ◌<◌, ◌⊎◌, ℕ, Bool, tr
 ghost use Rattle.fab_principals.specs.Sets.{in_set};
 ghost use Rattle.fab_authority.specs.Remembered.{AreRight};
 
-use crate::sets::{contains, only, union};
+use fab_principals::{contains, only, union};
 
 /// Which pairs of the first 64 numbers were answered by yes, and which by no: bit b of row a stands for
 /// the pair of a and b.

@@ -4,8 +4,9 @@ ghost use Rattle.fab_labelling.specs.Claims.{called_by_right, called_in, calls_f
 ghost use Rattle.fab_authority.specs.Authority.{AreOwn, AreUsed, IsFew};
 ghost use Rattle.fab_authority.specs.Called.{AreGrown, IsSettled, block_calls, with_calls};
 
-use crate::sets::{set_of, union};
+use crate::sets::set_of;
 use fab_base::NoMemory;
+use fab_principals::union;
 use fab_tree::resolved::{Method, Resolved, Right, Statement};
 use std::alloc::Global;
 

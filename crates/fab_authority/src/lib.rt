@@ -8,4 +8,4 @@ mod sets;
 
 pub use answers::Answers;
 pub use authority::{set_at, used_sets};
-pub use sets::{contains, set_of};
+pub use sets::set_of;

@@ -1,4 +1,6 @@
+pub mod Bits
 pub mod Lists
+pub mod Members
 pub mod Names
 pub mod NameOrder
 pub mod Quotient

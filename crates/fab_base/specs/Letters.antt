@@ -4,6 +4,6 @@ use Rattle.std.specs.Arc.{arc_str_bytes}
 use Rattle.fab_base.specs.declared.text.Letters.{Letters}
 use Rattle.fab_base.specs.declared.text.Letters.TheVariants.{Short, Long}
 
-abbrev pub bytes_of : Letters → List ℕ
-bytes_of (Short s) = s.bytes
-bytes_of (Long s) = arc_str_bytes s
+abbrev pub letters_bytes : Letters → List ℕ
+letters_bytes (Short s) = s.bytes
+letters_bytes (Long s) = arc_str_bytes s

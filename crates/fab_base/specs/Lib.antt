@@ -5,6 +5,7 @@ pub mod FlatMap
 pub mod JournalSpelling
 pub mod Labels
 pub mod Letters
+pub mod Members
 pub mod MessageSpelling
 pub mod Principals
 pub mod Sinks

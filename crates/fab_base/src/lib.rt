@@ -20,7 +20,7 @@ pub use boxed::Boxed;
 pub use entry::Entry;
 pub use label::{Label, Policy};
 pub use limit::What;
-pub use message::{Answer, Items, Message, Why};
+pub use message::{Answer, Items, Message, Why, copies, made_copies};
 pub use object::{Object, Oid, Stop, Tid, Value, Width};
 pub use order::above_is_the_derived_order;
 pub use outside::{

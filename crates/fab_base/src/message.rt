@@ -22,31 +22,33 @@ impl Items {
     {
         Ok(Items {
             reads: Seq::from_slice(alloc, self.reads.as_slice())?,
-            writes: writes_copy(alloc, self.writes.as_slice())?,
-            creates: creates_copy(alloc, self.creates.as_slice())?,
+            writes: copies(alloc, self.writes.as_slice())?,
+            creates: made_copies(alloc, self.creates.as_slice())?,
         })
     }
 }
 
-fn writes_copy(
+/// The same rows again.
+pub fn copies(
     alloc: Global,
-    writes: &[(Oid, u32, Object)],
+    rows: &[(Oid, u32, Object)],
 ) -> Result<Seq<(Oid, u32, Object)>, NoMemory>
-    ensures { IfOk result (λ copies. copies ≡ writes.now) }
+    ensures { IfOk result (λ copies. copies ≡ rows.now) }
 {
     let mut copies = Seq::new(alloc);
-    for write in writes {
-        copies.push((write.0, write.1, write.2.copy(alloc)?))?;
+    for row in rows {
+        copies.push((row.0, row.1, row.2.copy(alloc)?))?;
     }
     Ok(copies)
 }
 
-fn creates_copy(alloc: Global, creates: &[(Oid, Object)]) -> Result<Seq<(Oid, Object)>, NoMemory>
-    ensures { IfOk result (λ copies. copies ≡ creates.now) }
+/// The same made objects again.
+pub fn made_copies(alloc: Global, rows: &[(Oid, Object)]) -> Result<Seq<(Oid, Object)>, NoMemory>
+    ensures { IfOk result (λ copies. copies ≡ rows.now) }
 {
     let mut copies = Seq::new(alloc);
-    for create in creates {
-        copies.push((create.0, create.1.copy(alloc)?))?;
+    for row in rows {
+        copies.push((row.0, row.1.copy(alloc)?))?;
     }
     Ok(copies)
 }

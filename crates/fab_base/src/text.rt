@@ -32,11 +32,11 @@ impl Drop for Text {
 
 impl Model for Text {
     ghost use Rattle.std.specs.Prelude.{List, ℕ};
-    ghost use Rattle.fab_base.specs.Letters.{bytes_of};
+    ghost use Rattle.fab_base.specs.Letters.{letters_bytes};
 
     ghost Value = { List ℕ };
 
-    ghost view = { λ t. bytes_of t.letters };
+    ghost view = { λ t. letters_bytes t.letters };
 }
 
 impl Text {

@@ -9,8 +9,9 @@ ghost use Rattle.fab_check.specs.Noted.{all_noted};
 
 use crate::placement::acts_for;
 use crate::verdicts::Verdicts;
-use fab_authority::{contains, set_at};
+use fab_authority::set_at;
 use fab_labelling::{LabelRule, Side};
+use fab_principals::contains;
 use fab_tree::resolved::{Asked, Request, Session};
 
 /// Whether the worker of a request acts for the principal, if it uses that one's authority.

@@ -1,34 +1,12 @@
 -- What a store is asked to prepare keeps the counts of a message.
-use Rattle.std.proofs.Common.{ℕ, suc, ◌+◌, ◌≤◌, Bool, true, false, ◌==◌, ◌&&◌, if◌then◌else◌, List, [], ◌∷◌, length, arith}
+use Rattle.std.proofs.Common.{ℕ, ◌≤◌, Bool, ◌==◌, ◌&&◌, List, [], length, arith}
 use Rattle.std.specs.List.{filter, All, AllByRecursion}
 use Rattle.std.proofs.lemmas.List.Elements.{All-from_recursion}
 use Rattle.fab_base.specs.FieldSpelling.{KeepsItems}
-use Rattle.fab_base.specs.FlatMap.{is_before}
-use Rattle.fab_base.specs.declared.object.Oid.{Oid}
 use Rattle.fab_base.proofs.Lists.{all_filter, few_pass}
 use Rattle.fab_protocol.specs.declared.parts.Parts.{Parts}
 use Rattle.fab_protocol.specs.Parts.{KeepsParts, items_at, is_only_read}
-use Rattle.fab_protocol.specs.Tables.{placed, placed_all}
-
-module _ {R : Type 0} (name : R → Oid) where
-  length_placed : (r : R) (rows : List R) → length (placed name r rows) ≤ length rows + 1
-  length_placed r [] = omega arith
-  length_placed r (x ∷ xs) =
-      let rest = length_placed r xs in
-      elim (is_before (name r) (name x)) as (λ b. length (if b then r ∷ x ∷ xs else (if is_before (name x) (name r) then x ∷ placed name r xs else r ∷ xs)) ≤ suc (length xs) + 1) [
-        | true ↦ omega arith
-        | false ↦ elim (is_before (name x) (name r)) as (λ b. length (if b then x ∷ placed name r xs else r ∷ xs) ≤ suc (length xs) + 1) [
-          | true ↦ omega (arith, rest)
-          | false ↦ omega arith
-        ]
-      ]
-
-  length_placed_all : (rs rows : List R) → length (placed_all name rs rows) ≤ length rows + length rs
-  length_placed_all [] rows = omega arith
-  length_placed_all (r ∷ rs) rows =
-      let all = length_placed_all rs (placed name r rows) in
-      let one = length_placed r rows in
-      omega (arith, all, one)
+use Rattle.fab_protocol.proofs.TableLaws.{length_placed_all}
 
 all_pass : {A : Type 0} (P : A → Type 0) (test : A → Bool) (xs : List A) → AllByRecursion P xs → All P (filter test xs)
 all_pass P test xs h = All-from_recursion P (filter test xs) (all_filter P test xs h)

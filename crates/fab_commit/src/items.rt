@@ -7,7 +7,7 @@ ghost use Rattle.fab_protocol.specs.Tables.{ascends, placed};
 ghost use Rattle.fab_protocol.specs.Versions.{names_of};
 
 use fab_base::{Items, NoMemory, Object, Oid, Seq};
-use fab_protocol::Parts;
+use fab_protocol::{Parts, is_same_name};
 use std::alloc::Global;
 
 /// Where a read stands among others in the order of names, or where it would go.
@@ -34,16 +34,10 @@ fn add_read(reads: &mut Vec<(Oid, u32)>, read: (Oid, u32)) -> Result<(), NoMemor
     Ok(())
 }
 
-fn is_one_name(one: Oid, other: Oid) -> bool
-    ensures { result ≡ is_same one other }
-{
-    one == other
-}
-
 fn has_write(writes: &[(Oid, u32, Object)], oid: Oid) -> bool
     ensures { result ≡ list_any (λ write. is_same write.0 oid) writes.now }
 {
-    writes.iter().any(|write| is_one_name(write.0, oid))
+    writes.iter().any(|write| is_same_name(write.0, oid))
 }
 
 /// Whether an object of this name was written.

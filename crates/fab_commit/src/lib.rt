@@ -14,7 +14,7 @@ mod verdict;
 pub use coordinator::{Coordinator, begin_prepare};
 pub use items::items_at;
 pub use laws::{all_voted, participants_are_few};
-pub use rows::{copies, made_copies, puts_of, version_in};
+pub use rows::{puts_of, version_in};
 pub use sends::{Sends, resend, to_each};
 pub use stores::participants;
 pub use touched::touched_versions;

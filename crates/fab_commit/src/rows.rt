@@ -28,31 +28,6 @@ pub fn version_in(answers: &[(Oid, u32, Object)], oid: Oid) -> u32
     }
 }
 
-/// The same rows again.
-pub fn copies(
-    alloc: Global,
-    rows: &[(Oid, u32, Object)],
-) -> Result<Seq<(Oid, u32, Object)>, NoMemory>
-    ensures { IfOk result (λ copies. copies ≡ rows.now) }
-{
-    let mut copies = Seq::new(alloc);
-    for row in rows {
-        copies.push((row.0, row.1, row.2.copy(alloc)?))?;
-    }
-    Ok(copies)
-}
-
-/// The same made objects again.
-pub fn made_copies(alloc: Global, rows: &[(Oid, Object)]) -> Result<Seq<(Oid, Object)>, NoMemory>
-    ensures { IfOk result (λ copies. copies ≡ rows.now) }
-{
-    let mut copies = Seq::new(alloc);
-    for row in rows {
-        copies.push((row.0, row.1.copy(alloc)?))?;
-    }
-    Ok(copies)
-}
-
 /// What was written, as it is behind the commit.
 fn raised(write: (Oid, u32, Object)) -> (Oid, u32, Object)
     ensures { result ≡ raised write }

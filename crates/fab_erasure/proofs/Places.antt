@@ -12,7 +12,7 @@ use Rattle.fab_tree.specs.declared.resolved.Resolved.{Resolved}
 use Rattle.fab_labelling.specs.Obligations.{part, under}
 use Rattle.fab_labelling.specs.Sites as sites
 use Rattle.fab_labelling.specs.Sites.{Sited, all_under, sites_in, right_sites, statement_sites, sited, block_sites, return_sites, method_sites, sites_of, pcs_of}
-use Rattle.fab_erasure.specs.Agreement.{Downgrading, downgrades_in_right, all_of, downgrade_step, downgrades_in, downgrades_of, IsIn}
+use Rattle.fab_erasure.specs.Agreement.{Downgrading, downgrades_in_right, all_of, downgrade_step, downgrades_in, downgrades_of, In}
 
 -- the sites of downgrades are some of these, in this order
 pub data Among : List Downgrading → Sited → Type 0 where
@@ -97,19 +97,19 @@ methods classes (m ∷ ms) =
 
 -- ---- numbers in order
 
-not_below : (k : ℕ) (ps : List (List ℕ)) (x : ℕ × List ℕ) → IsIn x (enumerate_from k ps) → k ≤ x.0
+not_below : (k : ℕ) (ps : List (List ℕ)) (x : ℕ × List ℕ) → In x (enumerate_from k ps) → k ≤ x.0
 not_below k [] x i = absurd i
 not_below k (p ∷ ps) x (inl e) = let n : x.0 ≡ k = ap (λ (z : ℕ × List ℕ). z.0) e in omega arith
 not_below k (p ∷ ps) x (inr i) = let le = not_below (k + 1) ps x i in omega arith
 
-one_number : (k : ℕ) (ps : List (List ℕ)) (x y : ℕ × List ℕ) → IsIn x (enumerate_from k ps) → IsIn y (enumerate_from k ps) → x.0 ≡ y.0 → x ≡ y
+one_number : (k : ℕ) (ps : List (List ℕ)) (x y : ℕ × List ℕ) → In x (enumerate_from k ps) → In y (enumerate_from k ps) → x.0 ≡ y.0 → x ≡ y
 one_number k [] x y i j e = absurd i
 one_number k (p ∷ ps) x y (inl a) (inl b) e = a ∙ sym b
 one_number k (p ∷ ps) x y (inl a) (inr j) e = let n : x.0 ≡ k = ap (λ (z : ℕ × List ℕ). z.0) a in let le = not_below (k + 1) ps y j in absurd (omega arith)
 one_number k (p ∷ ps) x y (inr i) (inl b) e = let n : y.0 ≡ k = ap (λ (z : ℕ × List ℕ). z.0) b in let le = not_below (k + 1) ps x i in absurd (omega arith)
 one_number k (p ∷ ps) x y (inr i) (inr j) e = one_number (k + 1) ps x y i j e
 
-down_below : (k : ℕ) (ps : List (List ℕ)) (ds : List Downgrading) (ys : Sited) → ys ≡ enumerate_from k ps → Among ds ys → (d : Downgrading) → IsIn d ds → k ≤ d.0
+down_below : (k : ℕ) (ps : List (List ℕ)) (ds : List Downgrading) (ys : Sited) → ys ≡ enumerate_from k ps → Among ds ys → (d : Downgrading) → In d ds → k ≤ d.0
 down_below k ps _ _ q (empty ys) d i = absurd i
 down_below k [] _ _ q (here c ds y ys e h) d i = cc
 down_below k [] _ _ q (past ds y ys h) d i = cc
@@ -136,7 +136,7 @@ head_is y ys z zs e = cc
 tail_is : (y : ℕ × List ℕ) (ys : Sited) (z : ℕ × List ℕ) (zs : Sited) → y ∷ ys ≡ z ∷ zs → ys ≡ zs
 tail_is y ys z zs e = cc
 
-one_down : (k : ℕ) (ps : List (List ℕ)) (ds : List Downgrading) (ys : Sited) → ys ≡ enumerate_from k ps → Among ds ys → (d e : Downgrading) → IsIn d ds → IsIn e ds
+one_down : (k : ℕ) (ps : List (List ℕ)) (ds : List Downgrading) (ys : Sited) → ys ≡ enumerate_from k ps → Among ds ys → (d e : Downgrading) → In d ds → In e ds
     → d.0 ≡ e.0 → d ≡ e
 one_down k ps _ _ q (empty ys) d e i j same = absurd i
 one_down k [] _ _ q (here c ds y ys a h) d e i j same = cc
@@ -158,8 +158,8 @@ one_down k (p ∷ ps) _ _ q (past ds y ys h) d e i j same = one_down (k + 1) ps 
 -- ---- what a program with sites in order has
 
 module _ (r : Resolved) (ordered : sites_of r ≡ enumerate_from 0 (pcs_of r)) where
-  pub one_place : (x y : ℕ × List ℕ) → IsIn x (sites_of r) → IsIn y (sites_of r) → x.0 ≡ y.0 → x.1 ≡ y.1
-  one_place x y i j e = ap (λ (z : ℕ × List ℕ). z.1) (one_number 0 (pcs_of r) x y (subst (IsIn x) ordered i) (subst (IsIn y) ordered j) e)
+  pub one_place : (x y : ℕ × List ℕ) → In x (sites_of r) → In y (sites_of r) → x.0 ≡ y.0 → x.1 ≡ y.1
+  one_place x y i j e = ap (λ (z : ℕ × List ℕ). z.1) (one_number 0 (pcs_of r) x y (subst (In x) ordered i) (subst (In y) ordered j) e)
 
-  pub one_way : (d e : Downgrading) → IsIn d (downgrades_of r) → IsIn e (downgrades_of r) → d.0 ≡ e.0 → d.1 ≡ e.1
+  pub one_way : (d e : Downgrading) → In d (downgrades_of r) → In e (downgrades_of r) → d.0 ≡ e.0 → d.1 ≡ e.1
   one_way d e i j same = ap (λ (z : Downgrading). z.1) (one_down 0 (pcs_of r) (downgrades_of r) (sites_of r) ordered (methods r.classes r.methods) d e i j same)

@@ -1,8 +1,8 @@
 -- The erased meaning alone: it touches nothing out of view, writes only what is shown and makes only at sites in view, and it touched what it wrote.
-use Rattle.std.proofs.Common.{◌≡◌, ℕ, List, [], ◌∷◌, ◌++◌, Option, Some, None, Bool, true, false, ◌||◌, ◌==◌, ◌-◌, cond, if◌then◌else◌, refl, sym, ap, ◌∙◌, subst, true≢false}
+use Rattle.std.proofs.Common.{◌≡◌, ℕ, List, [], ◌∷◌, ◌++◌, Option, Some, None, Bool, true, false, ◌==◌, ◌-◌, cond, if◌then◌else◌, refl, sym, ap, ◌∙◌, subst, true≢false}
 use Rattle.std.specs.Prelude.{slice_get}
 use Rattle.std.specs.List.{list_all, filter, AllByRecursion}
-use Rattle.std.proofs.lemmas.Bool.{and_from}
+use Rattle.std.proofs.lemmas.Bool.{and_from, or_parts}
 use Rattle.fab_base.specs.declared.object.Oid.{Oid}
 use Rattle.fab_base.specs.declared.object.Object.{Object}
 use Rattle.fab_base.specs.declared.object.Stop.TheVariants.{Fuel}
@@ -24,10 +24,6 @@ use Rattle.fab_erasure.proofs.Near as n
 use Rattle.fab_erasure.proofs.Near.{Sight}
 use Rattle.fab_erasure.proofs.Everywhere as every
 use Rattle.fab_erasure.proofs.Everywhere.{OfErased}
-
-first_false : (a b : Bool) → (a || b) ≡ false → a ≡ false
-first_false true b h = absurd (true≢false h)
-first_false false b h = refl
 
 all_last : {A : Type 0} (P : A → Type 0) (xs : List A) (x : A) → AllByRecursion P xs → P x → AllByRecursion P (xs ++ x ∷ [])
 all_last P [] x h p = (p, tt)
@@ -166,7 +162,7 @@ module _ (sight : Sight) where
 
     by_change : (b : Bool) → is_changed o u.heap ≡ b → Onto u (state_behind (settled (if b then Some (with_row o y u.heap) else newly_written o y u.heap) u))
     by_change true e = still u (record u { heap = with_row o y u.heap }) refl refl refl p
-    by_change false e = by_room (is_spent u.heap) (first_false (is_among o u.heap.made) (is_among o u.heap.written) e)
+    by_change false e = by_room (is_spent u.heap) (or_parts (is_among o u.heap.made) (is_among o u.heap.written) e).0
 
     replaces : Onto u (state_behind (replace o y u))
     replaces = by_change (is_changed o u.heap) refl

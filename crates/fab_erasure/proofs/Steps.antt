@@ -29,9 +29,6 @@ use Rattle.fab_erasure.proofs.Views.{last_seen, last_unseen, filter_shorter, cou
 use Rattle.fab_erasure.proofs.Near as n
 use Rattle.fab_erasure.proofs.Near.{Sight, Any, Whatever, Alike, kinds_of, Match, both_go, both_miss, cut, Hidden, went, lost, halted}
 
-not_both : (b : Bool) → b ≡ true → b ≡ false → ⊥
-not_both b h k = absurd (true≢false (sym h ∙ k))
-
 module _ (sight : Sight) where
   abbrev Near : List Local → State → State → Type 0
   Near = n.Near sight

@@ -2,12 +2,13 @@
 --
 -- It is said of any labels that are closed backwards under what a program owes them, so it holds of what a set of nodes may
 -- read, and of what it can't have influenced.
-use Rattle.std.specs.Prelude.{◌≡◌, ◌⊎◌, ℕ, Bool, true, false, not, ◌&&◌, ◌||◌, ◌==◌, IsTrue, List, [], ◌∷◌, ◌++◌, map, Option, Some, None, slice_get}
+use Rattle.std.specs.Prelude.{◌≡◌, ℕ, Bool, true, false, not, ◌&&◌, ◌||◌, ◌==◌, IsTrue, List, [], ◌∷◌, ◌++◌, map, Option, Some, None, slice_get}
 use Rattle.std.specs.List.{filter, flat_map, list_any, list_all, AllByRecursion}
 use Rattle.fab_base.specs.declared.object.Oid.{Oid}
 use Rattle.fab_base.specs.declared.object.Tid.{Tid}
 use Rattle.fab_base.specs.declared.object.Value.{Value}
 use Rattle.fab_base.specs.FlatMap.{FlatMap, ascends}
+pub use Rattle.fab_base.specs.Members.{In}
 use Rattle.fab_tree.specs.declared.resolved.Right.{Right}
 use Rattle.fab_tree.specs.declared.resolved.Right.TheVariants as rights
 use Rattle.fab_tree.specs.declared.resolved.Statement.{Statement, fold-Statement}
@@ -54,11 +55,6 @@ downgrades_in = fold-Statement (List Downgrading) downgrade_step
 
 abbrev pub downgrades_of : Resolved → List Downgrading
 downgrades_of r = flat_map (λ m. flat_map downgrades_in m.body) r.methods
-
--- it stands in a list
-abbrev pub IsIn : {A : Type 0} → A → List A → Type 0
-IsIn x [] = ⊥
-IsIn x (y ∷ ys) = (x ≡ y) ⊎ IsIn x ys
 
 -- ---- what is in view
 
@@ -119,8 +115,8 @@ module _ (sees shows : ℕ → Bool) (r : Resolved) where
     pub kept : AllByRecursion (λ x. IsKept x.claim) (owed r)
     pub shown : (n : ℕ) (class : Class) → slice_get r.classes n ≡ Some class → shows n ≡ sees class.label.number
     pub absent : (n : ℕ) → slice_get r.classes n ≡ None → shows n ≡ false
-    pub one_place : (x y : ℕ × List ℕ) → IsIn x (sites_of r) → IsIn y (sites_of r) → x.0 ≡ y.0 → x.1 ≡ y.1
-    pub one_way : (d e : Downgrading) → IsIn d (downgrades_of r) → IsIn e (downgrades_of r) → d.0 ≡ e.0 → d.1 ≡ e.1
+    pub one_place : (x y : ℕ × List ℕ) → In x (sites_of r) → In y (sites_of r) → x.0 ≡ y.0 → x.1 ≡ y.1
+    pub one_way : (d e : Downgrading) → In d (downgrades_of r) → In e (downgrades_of r) → d.0 ≡ e.0 → d.1 ≡ e.1
     pub fitting : is_fitting r ≡ true
 
 -- ---- the agreement

@@ -2,7 +2,7 @@
 use Rattle.std.proofs.Common.{◌≡◌, ℕ, zero, suc, ◌-◌, List, [], ◌∷◌, ◌++◌, Option, Some, None, ℤ, Bool, true, false, ◌||◌, ◌==◌, cond, if◌then◌else◌, map, refl, sym, ap, ◌∙◌, subst, true≢false}
 use Rattle.std.specs.Prelude.{slice_get, unwrap_or}
 use Rattle.std.specs.List.{list_all, list_any, flat_map, AllByRecursion}
-use Rattle.std.proofs.lemmas.Bool.{and_from}
+use Rattle.std.proofs.lemmas.Bool.{and_from, eqb-true}
 use Rattle.fab_base.specs.Arith.{java_quotient}
 use Rattle.fab_base.specs.declared.object.Oid.{Oid}
 use Rattle.fab_base.specs.declared.object.Object.{Object}
@@ -46,7 +46,7 @@ use Rattle.fab_laws.specs.Kinds.{Kind, number, object, kind_of_sort, kind_of, lo
 use Rattle.fab_laws.specs.Kinds.{statement_claims_step, right_claims, block_claims, method_claims}
 use Rattle.fab_laws.specs.Shapes.{suits, AllSuit}
 use Rattle.fab_laws.proofs.Shapes as shapes
-use Rattle.fab_laws.proofs.Shapes.{Shaped, eq_from}
+use Rattle.fab_laws.proofs.Shapes.{Shaped}
 use Rattle.fab_laws.proofs.Walk as w
 use Rattle.fab_laws.proofs.Walk.{on, off}
 use Rattle.fab_erasure.specs.Agreement.{in_view}
@@ -58,7 +58,7 @@ use Rattle.fab_tree.specs.Numbers.{number_value}
 
 by_sort : (classes : List Class) (x : Sort) (o : Oid) → suits (kind_of_sort x) (Ref o) ≡ true → class_of_sort classes x ≡ slice_get classes o.class
 by_sort classes (sorts.Number widths.Int) o h = absurd (true≢false (sym h))
-by_sort classes (sorts.Class c) o h = ap (slice_get classes) (sym (eq_from o.class c.number h))
+by_sort classes (sorts.Class c) o h = ap (slice_get classes) (sym (eqb-true o.class c.number h))
 
 no_reference : (o : Oid) → Null ≡ Ref o → ⊥
 no_reference o e = cc

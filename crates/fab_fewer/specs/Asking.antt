@@ -11,7 +11,7 @@ use Rattle.fab_language.specs.declared.ending.Ending.TheVariants.{Missing}
 use Rattle.fab_language.specs.Meaning.{Meant, meaning}
 use Rattle.fab_labelling.specs.Obligations.{Claim, flows, conf, nowhere, declassifies, endorses, holds, answers_for, owed}
 use Rattle.fab_laws.specs.Shapes.{is_fitting, IsFitting, AreShaped}
-use Rattle.fab_erasure.specs.Agreement.{IsIn, in_view, touches_in_view}
+use Rattle.fab_erasure.specs.Agreement.{In, in_view, touches_in_view}
 use Rattle.fab_labelling.specs.Sites.{sites_of}
 
 abbrev pub access_of : Option Class → List ℕ
@@ -36,7 +36,7 @@ module _ (sees shows : ℕ → Bool) (r : Resolved) where
   -- what stands at one site stands under the same labels
   pub record LearnsAsking : Type 0 where
     pub kept : AllByRecursion (λ x. IsKeptByAccess x.claim) (owed r)
-    pub one_place : (x y : ℕ × List ℕ) → IsIn x (sites_of r) → IsIn y (sites_of r) → x.0 ≡ y.0 → x.1 ≡ y.1
+    pub one_place : (x y : ℕ × List ℕ) → In x (sites_of r) → In y (sites_of r) → x.0 ≡ y.0 → x.1 ≡ y.1
     pub fitting : is_fitting r ≡ true
 
   -- each object of a class whose access label is seen is touched and missed in view alone

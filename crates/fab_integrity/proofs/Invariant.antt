@@ -4,8 +4,9 @@
 -- fits the commit that its tid stands for; what is prepared does; a vote that comes back was given; and each object of a
 -- class in ex is at its store what the commits so far make of it, or what one that is decided and still prepared will.
 use Rattle.std.specs.Prelude.{◌≡◌, ◌⊎◌, ℕ, suc, ◌+◌, ◌*◌, ◌<◌, ◌≤◌, Bool, true, false, ◌==◌, IsTrue, IsFalse}
-use Rattle.std.specs.Prelude.{List, [], ◌∷◌, ◌++◌, map, length, Option, Some, None, option_map}
+use Rattle.std.specs.Prelude.{List, ◌∷◌, ◌++◌, map, length, Option, Some, None, option_map}
 use Rattle.std.specs.List.{filter}
+pub use Rattle.fab_base.specs.Members.{In}
 use Rattle.fab_base.specs.declared.object.Oid.{Oid}
 use Rattle.fab_base.specs.declared.object.Object.{Object}
 use Rattle.fab_base.specs.declared.object.Tid.{Tid}
@@ -34,11 +35,6 @@ use Rattle.fab_world.specs.Machine.{Setting, World, kept, shelf}
 use Rattle.fab_world.specs.Serial.{IsFit, IsFitName}
 use Rattle.fab_world.specs.Workers as workers
 use Rattle.fab_world.specs.Workers.{Attempt, Kept, Phase, is_in, is_made_before, request_of, tid_of}
-
--- x is among these
-abbrev pub In : {A : Type 0} → A → List A → Type 0
-In x [] = ⊥
-In x (y ∷ ys) = (x ≡ y) ⊎ In x ys
 
 -- ---- tids as numbers: those of a worker in the order in which they come
 

@@ -1,5 +1,5 @@
 -- What a worker sends is within what messages can spell.
-use Rattle.std.proofs.Common.{◌≡◌, ℕ, suc, ◌+◌, ◌<◌, ◌≤◌, true, false, ◌&&◌, ◌==◌, if◌then◌else◌, IsTrue}
+use Rattle.std.proofs.Common.{◌≡◌, ℕ, ◌<◌, ◌≤◌, true, false, ◌&&◌, ◌==◌, if◌then◌else◌, IsTrue}
 use Rattle.std.proofs.Common.{List, [], ◌∷◌, length, refl, arith}
 use Rattle.std.specs.List.{filter, AllByRecursion}
 use Rattle.std.proofs.lemmas.List.{length-map}
@@ -8,7 +8,7 @@ use Rattle.fab_base.specs.declared.object.Object.{Object}
 use Rattle.fab_base.specs.declared.object.Tid.{Tid}
 use Rattle.fab_base.specs.declared.message.Message.TheVariants as m
 use Rattle.fab_base.specs.FieldSpelling.{IsTid, AreItems, IsRead, IsWrite, IsCreate, sent_version}
-use Rattle.fab_base.specs.FlatMap.{FlatMap, is_before, is_among, is_same, map_of}
+use Rattle.fab_base.specs.FlatMap.{FlatMap, is_among, is_same, map_of}
 use Rattle.fab_base.specs.FlatMap as flat
 use Rattle.fab_base.specs.MessageSpelling.{IsMessage}
 use Rattle.fab_base.proofs.Lists.{all_along, all_filter, all_map, few_pass}
@@ -17,36 +17,14 @@ use Rattle.fab_language.specs.Heaps.{touched}
 use Rattle.fab_language.specs.Meaning.{Meant}
 use Rattle.fab_protocol.specs.declared.parts.Parts.{Parts}
 use Rattle.fab_protocol.specs.Parts.{items_at, is_only_read}
-use Rattle.fab_protocol.specs.Tables.{placed, placed_all}
 use Rattle.fab_protocol.specs.Versions.{Row, Rows, names_of, objects_of, version_of}
-use Rattle.fab_protocol.proofs.TableLaws.{all_placed_all}
+use Rattle.fab_protocol.proofs.TableLaws.{all_placed_all, length_placed_all}
 use Rattle.fab_world.specs.Attempts.{parts_of}
 use Rattle.fab_world.specs.Machine.{Setting}
 use Rattle.fab_world.specs.Serial.{IsEvaluation, IsFit, IsFitName, AreFit}
 use Rattle.fab_integrity.proofs.Maps.{all_put, ascends_put_all, none_answered, few_rows}
 
 -- ---- what a store is asked to prepare
-
-module _ {R : Type 0} (name : R → Oid) where
-  length_placed : (r : R) (rows : List R) → length (placed name r rows) ≤ length rows + 1
-  length_placed r [] = omega arith
-  length_placed r (x ∷ xs) =
-      let rest = length_placed r xs in
-      elim (is_before (name r) (name x)) as (λ b.
-      length (if b then r ∷ x ∷ xs else (if is_before (name x) (name r) then x ∷ placed name r xs else r ∷ xs)) ≤ suc (length xs) + 1) [
-        | true ↦ omega arith
-        | false ↦ elim (is_before (name x) (name r)) as (λ b. length (if b then x ∷ placed name r xs else r ∷ xs) ≤ suc (length xs) + 1) [
-          | true ↦ omega (arith, rest)
-          | false ↦ omega arith
-        ]
-      ]
-
-  length_placed_all : (rs rows : List R) → length (placed_all name rs rows) ≤ length rows + length rs
-  length_placed_all [] rows = omega arith
-  length_placed_all (r ∷ rs) rows =
-      let all = length_placed_all rs (placed name r rows) in
-      let one = length_placed r rows in
-      omega (arith, all, one)
 
 -- parts whose counts and fields can be spelled
 pub record ArePlain (parts : Parts) : Type 0 where

@@ -1,14 +1,14 @@
 //! Journal records, written.
 
-ghost use Rattle.std.specs.Prelude.{◌≡◌, ◌++◌, ◌∷◌, OnOk, IfOk};
+ghost use Rattle.std.specs.Prelude.{◌≡◌, ◌++◌, OnOk, IfOk};
 ghost use Rattle.std.specs.List.{flat_map};
-ghost use Rattle.fab_base.specs.FieldSpelling.{tid_bytes, IsTid, two_bytes};
+ghost use Rattle.fab_base.specs.FieldSpelling.{two_bytes};
 ghost use Rattle.fab_base.specs.declared.entry.Entry.TheVariants.{Decided, Closed};
 ghost use Rattle.fab_base.specs.JournalSpelling.{body_bytes, header_bytes as header_of, record_bytes as record_of, result_bytes, stores_bytes, journal_version};
 ghost use Rattle.fab_base.specs.JournalSpelling.{AreStores, IsEntry, IsEntryBody, IsResult, KeepsEntry};
 
 use fab_base::{Entry, NoMemory, Seq, Tid, Value};
-use fab_wire::{put_items, put_tid, put_u8, put_u16, put_u32, put_value};
+use fab_wire::{put_items, put_tagged_tid, put_u8, put_u16, put_u32, put_value};
 use std::alloc::Global;
 
 /// The letters FABJ and the version; a header has the node's number after them, two bytes.
@@ -60,12 +60,12 @@ fn put_body(out: &mut Seq<u8>, entry: &Entry) -> Result<(), NoMemory>
             put_u32(out, *boot)?;
         }
         Entry::Prepared { tid, items } => {
-            put_kind_and_tid(out, 4, *tid)?;
+            put_tagged_tid(out, 4, *tid)?;
             put_items(out, items)?;
         }
-        Entry::Refused { tid } => put_kind_and_tid(out, 5, *tid)?,
-        Entry::Applied { tid } => put_kind_and_tid(out, 6, *tid)?,
-        Entry::Released { tid } => put_kind_and_tid(out, 7, *tid)?,
+        Entry::Refused { tid } => put_tagged_tid(out, 5, *tid)?,
+        Entry::Applied { tid } => put_tagged_tid(out, 6, *tid)?,
+        Entry::Released { tid } => put_tagged_tid(out, 7, *tid)?,
         Entry::BootSeen { worker, boot } => {
             put_u8(out, 8)?;
             put_u16(out, *worker)?;
@@ -86,7 +86,7 @@ fn put_decided(
     ensures bytes { OnOk result (out.new ≡ out.old ++ body_bytes journal_version (Decided tid request value stores.now)) }
     ensures fits { OnOk result (IsEntryBody journal_version (Decided tid request value stores.now)) }
 {
-    put_kind_and_tid(out, 1, tid)?;
+    put_tagged_tid(out, 1, tid)?;
     put_u32(out, request)?;
     put_result(out, value)?;
     put_stores(out, stores)
@@ -99,15 +99,6 @@ fn put_closed(out: &mut Seq<u8>, request: u32, outcome: u8, node: u16) -> Result
     put_u32(out, request)?;
     put_u8(out, outcome)?;
     put_u16(out, node)
-}
-
-fn put_kind_and_tid(out: &mut Seq<u8>, kind: u8, tid: Tid) -> Result<(), NoMemory>
-    ensures bytes { OnOk result (out.new ≡ out.old ++ kind ∷ tid_bytes tid) }
-    ensures fits { IsTid tid }
-{
-    put_u8(out, kind)?;
-    put_tid(out, tid)?;
-    Ok(())
 }
 
 fn put_result(out: &mut Seq<u8>, value: Option<Value>) -> Result<(), NoMemory>

@@ -11,7 +11,8 @@ use Rattle.fab_base.specs.declared.label.Policy.{Policy}
 use Rattle.fab_base.specs.Principals.{Delegations, ActsFor}
 use Rattle.fab_base.specs.Labels.{ActsForOne, PolicyDenies, Deny, DenyWith, Covers, alone}
 use Rattle.fab_principals.proofs.ChainLemmas.{ActsFor-refl, ActsFor-trans}
-use Rattle.fab_principals.proofs.Decided.{reaches, Decides-acts}
+use Rattle.fab_principals.specs.Tables.{reaches}
+use Rattle.fab_principals.proofs.Decided.{Decides-acts}
 use Rattle.fab_labels.specs.Covered.{HasAuthority}
 use Rattle.fab_labels.proofs.Searches.{Any-head, Any-tail, Any-cases}
 

@@ -1,9 +1,7 @@
 -- Searches through lists: what an early answer and a late one say.
-use Rattle.std.proofs.Common.{◌≡◌, ℕ, zero, suc, ◌+◌, ◌<◌, ◌≤◌, ◌↔◌, ◌⊎◌, List, ◌∷◌, length, take, get_or, inr, refl, sym, ap, ◌∙◌, subst, arith, IsTrue, true, false, All, Any, IsSomeAnd, IsBitSet, slice_get, Option, ◌*◌, ◌^◌, inl}
-use Rattle.std.specs.Int.{bit_at}
+use Rattle.std.proofs.Common.{◌≡◌, ℕ, zero, suc, ◌+◌, ◌<◌, ◌≤◌, ◌↔◌, ◌⊎◌, List, ◌∷◌, length, take, get_or, inr, refl, sym, ◌∙◌, subst, arith, IsTrue, true, false, All, Any, IsSomeAnd, slice_get, Option, inl}
 use Rattle.std.specs.List.{AllWithin}
-use Rattle.std.proofs.lemmas.Nat.Bits.{and_pow, bit_at_above}
-use Rattle.std.proofs.lemmas.Bool.{false≢true, cases_lt}
+use Rattle.std.proofs.lemmas.Bool.{false≢true}
 use Rattle.std.proofs.lemmas.List.{get_or_default, get_or-take, length-take}
 use Rattle.std.proofs.lemmas.List.Elements.{AllWithin-more, at_read}
 use Rattle.std.proofs.lemmas.Option.{slice_get_read}
@@ -52,12 +50,3 @@ first_found {X} P xs k x within is p none = (
       let inside : j < k = omega (arith, length-take k xs) in
       none j y (omega arith) inside (subst P (sym (sym (get_or-take k xs j y inside) ∙ at)) q),
 )
-
--- the bits of a set are below 64
-pub bit_below : (set o : ℕ) → set < 2 ^ 64 → IsBitSet set o → o < 64
-bit_below set o fits bit = elim (cases_lt o 64) [
-  | inl below ↦ below
-  | inr high ↦
-      let none : bit_at set o ≡ 0 = bit_at_above set 64 o fits high in
-      absurd (bit (and_pow set o ∙ ap (λ b. b * 2 ^ o) none ∙ omega arith))
-]

@@ -20,7 +20,7 @@ fn acts_for_member(acts: &Acts, m: u16, members: &[u16]) -> bool
 }
 
 /// Whether m acts for the owner of the policy or for one of its members.
-fn acts_within(acts: &Acts, m: u16, policy: &Policy) -> bool
+pub fn acts_within(acts: &Acts, m: u16, policy: &Policy) -> bool
     ensures { IsTrue result ↔ ActsForOne acts.now m (policy.now.owner ∷ policy.now.others) }
 {
     acts.acts(m, policy.owner) || acts_for_member(acts, m, policy.others.as_slice())

@@ -19,6 +19,7 @@ use Rattle.fab_base.specs.declared.object.Stop.TheVariants.{Fuel, Depth, Reads, 
 use Rattle.fab_base.specs.FlatMap.{FlatMap, is_same}
 use Rattle.fab_base.specs.Arith.{java_quotient}
 use Rattle.fab_base.specs.Values.{referred}
+pub use Rattle.fab_base.specs.Values.{with_field}
 use Rattle.fab_tree.specs.declared.expression.Operator.{Operator}
 use Rattle.fab_tree.specs.declared.expression.Operator.TheVariants.{Or, And, Add, Subtract, Multiply, Divide}
 use Rattle.fab_tree.specs.declared.expression.UnaryOperator.{UnaryOperator}
@@ -111,9 +112,6 @@ access site o t = reached site o (reach site o t.heap t.touches) t
 
 abbrev pub field_of : ℕ → Object → Value
 field_of field x = unwrap_or (slice_get x.fields field) Null
-
-abbrev pub with_field : ℕ → Value → Object → Object
-with_field field v x = record x { fields = slice_set x.fields field v }
 
 -- what is done with the object that a value leads to; where it leads to none, this fails and touches nothing
 abbrev pub led : {A : Type 0} → Option Oid → (Oid → M A) → M A

@@ -1,8 +1,7 @@
 -- What a request leaves of a map, which names it writes, makes and touches, and how many.
 use Rattle.std.proofs.Common.{◌≡◌, ℕ, ◌+◌, ◌-◌, ◌<◌, ◌≤◌, List, [], ◌∷◌, ◌++◌, length, length-append, Option, Some, None, Bool, true, false, not, ◌&&◌, ◌||◌, ◌==◌, if◌then◌else◌, append_assoc, append-nil, refl, sym, ap, ◌∙◌, subst, arith}
 use Rattle.std.specs.Prelude.{slice_get, slice_set, count_by, nat_le}
-use Rattle.std.proofs.lemmas.Bool.{true≢false, leb-false}
-use Rattle.std.proofs.lemmas.Bool.Decides.{nat_tests}
+use Rattle.std.proofs.lemmas.Bool.{true≢false, leb-false, eq-eqb}
 use Rattle.std.proofs.lemmas.List.Sums.{count_by-le-length, sum_by-append, sum_by-cons}
 use Rattle.fab_base.specs.declared.object.Oid.{Oid}
 use Rattle.fab_base.specs.declared.object.Object.{Object}
@@ -42,9 +41,6 @@ of_attempt tid before (x ∷ xs) o h e =
 abbrev at_site : ℕ → Oid → Bool
 at_site site p = p.site == site
 
-eq_self : (n : ℕ) → (n == n) ≡ true
-eq_self n = grind (arith, nat_tests)
-
 count_split : {A : Type 0} (p : A → Bool) (xs : List A) (y : A) (ys : List A) → count_by p (xs ++ y ∷ ys) ≡ count_by p xs + ((if p y then 1 else 0) + count_by p ys)
 count_split p xs y ys = sum_by-append (λ x. if p x then 1 else 0) xs (y ∷ ys) ∙ ap (λ n. count_by p xs + n) (sum_by-cons (λ x. if p x then 1 else 0) y ys)
 
@@ -60,7 +56,7 @@ index_below tid before (x ∷ xs) n h e =
     here : x ≡ n → n.index < count_by (at_site n.site) (before ++ x ∷ xs)
     here q =
         let i : n.index ≡ count_by (at_site n.site) before = subst (λ o. o.index ≡ count_by (at_site o.site) before) q h.0.index in
-        let one : ◌≡◌ {A = ℕ} (if at_site n.site x then 1 else 0) 1 = ap (λ b. if b then 1 else 0) (ap (λ o. at_site n.site o) q ∙ eq_self n.site) in
+        let one : ◌≡◌ {A = ℕ} (if at_site n.site x then 1 else 0) 1 = ap (λ b. if b then 1 else 0) (ap (λ o. at_site n.site o) q ∙ eq-eqb n.site n.site refl) in
         let split = count_split (at_site n.site) before x xs in
         omega arith
 

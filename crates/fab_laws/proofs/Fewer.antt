@@ -2,6 +2,7 @@
 --
 -- So it is of whatever is done, of all that a request does and of what somebody sees of it (`Keeps`, of which `steps` shows each step).
 use Rattle.std.proofs.Common.{◌≡◌, ◌⊎◌, inl, inr, ℕ, ◌-◌, List, [], ◌∷◌, ◌++◌, Option, Some, None, Bool, true, false, ◌||◌, ◌==◌, cond, if◌then◌else◌, append_assoc}
+use Rattle.fab_base.proofs.Lists.{some_same}
 use Rattle.std.proofs.Common.{append-nil, refl, sym, ap, ◌∙◌, subst, true≢false}
 use Rattle.std.specs.Prelude.{slice_set}
 use Rattle.fab_base.specs.declared.object.Oid.{Oid}
@@ -28,7 +29,7 @@ use Rattle.fab_laws.proofs.Everywhere.{OfSteps}
 use Rattle.fab_laws.proofs.Grows.{Longer, joined, as_long, Grows, grows_past, grows_gives, grows_bind, grows_charge, grows_access, grows_settled, grows_replace}
 use Rattle.fab_laws.proofs.Grows.{grows_noted, after_longer, grows_atomic, back_longer, grows_inside}
 use Rattle.fab_laws.proofs.Names.{or_parts, or_false, among_more, changed_again, written_more, made_too, with_written, with_new}
-use Rattle.fab_laws.proofs.Touches.{none_some, some_one, unknown_pair, known_last}
+use Rattle.fab_laws.proofs.Touches.{none_some, unknown_pair, known_last}
 
 -- the same state over another map
 abbrev pub over : FlatMap → State → State
@@ -185,7 +186,7 @@ module _ (few many : FlatMap) (part : IsPart few many) where
           let made = or_parts (is_among o t.heap.made) (is_among o t.heap.written) i in
           rw (n.few_else o i ∙ z) (many_made (is_among o t.heap.made) x refl made.0 z (x, sym (n.many_else o i) ∙ e))
       at_few x (Some y) z e i =
-          let one : y ≡ x = some_one y x (sym (part o y z) ∙ sym (n.many_else o i) ∙ e) in
+          let one : y ≡ x = some_same y x (sym (part o y z) ∙ sym (n.many_else o i) ∙ e) in
           rw (n.few_else o i ∙ z ∙ ap Some one) (both_made (is_among o t.heap.made) x refl (λ j. (y, z)))
 
       -- missing in both

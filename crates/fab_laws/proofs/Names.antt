@@ -3,6 +3,7 @@ use Rattle.std.proofs.Common.{◌≡◌, ℕ, Bool, true, false, ◌&&◌, ◌||
 use Rattle.std.proofs.lemmas.Bool.{true≢false}
 use Rattle.std.proofs.lemmas.Bool.Decides.{nat_tests}
 use Rattle.std.proofs.lemmas.List.{map-append}
+pub use Rattle.std.proofs.Math.Bool.{or-true as or_true, or-false as or_false}
 use Rattle.fab_base.specs.declared.object.Oid.{Oid}
 use Rattle.fab_base.specs.declared.object.Object.{Object}
 use Rattle.fab_base.specs.FlatMap.{is_same}
@@ -10,14 +11,6 @@ use Rattle.fab_base.proofs.Names.{same_self, same_flips}
 use Rattle.fab_base.proofs.NameOrder.{one_name}
 use Rattle.fab_language.specs.Heaps.{Heap, is_among, is_changed, with_row, without, each_once, touched, noted}
 use Rattle.fab_laws.specs.Changes.{AreApart, AreOnce, has_pair}
-
-pub or_true : (b : Bool) → (b || true) ≡ true
-or_true true = refl
-or_true false = refl
-
-pub or_false : (b : Bool) → (b || false) ≡ b
-or_false true = refl
-or_false false = refl
 
 -- the names behind and one more
 pub among_more : (o p : Oid) (xs : List Oid) → is_among o (xs ++ p ∷ []) ≡ (is_among o xs || is_same p o)

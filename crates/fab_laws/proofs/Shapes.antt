@@ -2,8 +2,7 @@
 use Rattle.std.proofs.Common.{◌≡◌, ℕ, zero, suc, ◌-◌, List, [], ◌∷◌, ◌++◌, length, take, drop, map, Option, Some, true, ◌==◌, refl, sym, ap, ◌∙◌, subst, arith}
 use Rattle.std.specs.Prelude.{slice_get, slice_set, unwrap_or}
 use Rattle.std.specs.List.{AllByRecursion, list_all}
-use Rattle.std.proofs.lemmas.Bool.{true≢false, and_parts}
-use Rattle.std.proofs.lemmas.Bool.Decides.{nat_tests}
+use Rattle.std.proofs.lemmas.Bool.{true≢false, and_parts, eqb-true, eq-eqb}
 use Rattle.fab_base.specs.declared.object.Oid.{Oid}
 use Rattle.fab_base.specs.declared.object.Object.{Object}
 use Rattle.fab_base.specs.declared.object.Tid.{Tid}
@@ -65,12 +64,6 @@ suit_start zero ls (v ∷ vs) h = absurd h
 suit_start (suc n) [] (v ∷ vs) h = absurd h
 suit_start (suc n) (l ∷ ls) (v ∷ vs) h = (h.0, suit_start n ls vs h.1)
 
-pub eq_from : (x y : ℕ) → (x == y) ≡ true → x ≡ y
-eq_from x y h = grind (arith, nat_tests)
-
-pub eq_self : (n : ℕ) → (n == n) ≡ true
-eq_self n = grind (arith, nat_tests)
-
 -- what takes a value of a kind may hold it
 pub taken : (taker k : Kind) (v : Value) → takes taker k ≡ true → suits k v ≡ true → suits taker v ≡ true
 taken (number widths.Int) (number widths.Int) v h p = p
@@ -78,7 +71,7 @@ taken (number w) (object y) v h p = absurd (true≢false (sym h))
 taken (number w) nothing v h p = absurd (true≢false (sym h))
 taken (number w) unknown v h p = absurd (true≢false (sym h))
 taken (object x) (number w) v h p = absurd (true≢false (sym h))
-taken (object x) (object y) v h p = subst (λ c. suits (object c) v ≡ true) (sym (eq_from x y h)) p
+taken (object x) (object y) v h p = subst (λ c. suits (object c) v ≡ true) (sym (eqb-true x y h)) p
 taken (object x) nothing (Int n) h p = p
 taken (object x) nothing Null h p = refl
 taken (object x) nothing (Ref o) h p = absurd (true≢false (sym p))
@@ -107,7 +100,7 @@ put_shaped classes o y m a i = put_keeps (IsShaped classes) o y m a i
 -- a field of an object that is had as one of a kind
 pub field_suits : (classes : List Class) (k : Kind) (field : ℕ) (o : Oid) (x : Object) → suits k (Ref o) ≡ true → IsShaped classes o x → suits (field_kind classes k field) (field_of field x) ≡ true
 field_suits classes (number w) field o x p i = refl
-field_suits classes (object c) field o x p i = subst (λ d. suits (kind_at (class_kinds classes d) field) (field_of field x) ≡ true) (eq_from o.class c p) (suit_at (class_kinds classes o.class) x.fields field i.fields)
+field_suits classes (object c) field o x p i = subst (λ d. suits (kind_at (class_kinds classes d) field) (field_of field x) ≡ true) (eqb-true o.class c p) (suit_at (class_kinds classes o.class) x.fields field i.fields)
 field_suits classes nothing field o x p i = refl
 field_suits classes unknown field o x p i = refl
 
@@ -116,7 +109,7 @@ pub with_suits : (classes : List Class) (k l : Kind) (field : ℕ) (o : Oid) (v 
 with_suits classes (number w) l field o v x p m q i = absurd (true≢false (sym m))
 with_suits classes (object c) l field o v x p m q i = record {
   class = i.class;
-  fields = suit_set (class_kinds classes o.class) x.fields field v (subst (λ d. suits (kind_at (class_kinds classes d) field) v ≡ true) (sym (eq_from o.class c p)) (taken (kind_at (class_kinds classes c) field) l v m q)) i.fields;
+  fields = suit_set (class_kinds classes o.class) x.fields field v (subst (λ d. suits (kind_at (class_kinds classes d) field) v ≡ true) (sym (eqb-true o.class c p)) (taken (kind_at (class_kinds classes c) field) l v m q)) i.fields;
 }
 with_suits classes nothing l field o v x p m q i = absurd (true≢false (sym m))
 with_suits classes unknown l field o v x p m q i = absurd (true≢false (sym m))
@@ -153,13 +146,13 @@ module _ (program : Resolved) (tid : Tid) where
   all_suit t (k ∷ ks) (v ∷ vs) e h = (h.0, all_suit t ks vs (omega arith) h.1)
 
   pub given_suit : (t : State) (ks : List Kind) (vs : List Value) → w.AreGiven program tid Shaped Has Then Lacks Meets t ks vs → AllSuit ks vs
-  given_suit t ks vs g = all_suit t ks vs (eq_from (length ks) (length vs) g.count) g.each
+  given_suit t ks vs g = all_suit t ks vs (eqb-true (length ks) (length vs) g.count) g.each
 
   pub each_suit : (t : State) (ks : List Kind) (vs : List Value) → AllSuit ks vs → w.AreGiven program tid Shaped Has Then Lacks Meets t ks vs
   each_suit t ks vs h = record { count = same ks vs h; each = each ks vs h }
     where
       same : (ks : List Kind) (vs : List Value) → AllSuit ks vs → (length ks == length vs) ≡ true
-      same ks vs h = ap (λ n. length ks == n) (sym (suit_length ks vs h)) ∙ eq_self (length ks)
+      same ks vs h = ap (λ n. length ks == n) (sym (suit_length ks vs h)) ∙ eq-eqb (length ks) (length ks) refl
 
       each : (ks : List Kind) (vs : List Value) → AllSuit ks vs → w.EachHas program tid Shaped Has Then Lacks Meets t ks vs
       each ks [] h = tt
@@ -194,7 +187,7 @@ module _ (program : Resolved) (tid : Tid) where
         let o = next_name tid store class site t.heap in
         let y : Object = record { class = class; fields = vs } in
         nexts ls t (w.behind_new program tid Shaped Has Then Lacks Meets t store class site vs) h.locals (put_shaped program.classes o y t.heap.rows h.rows (record { class = refl; fields = given_suit t (class_kinds program.classes class) vs g }));
-    of_name = λ ls t store class site vs h m r. eq_self class;
+    of_name = λ ls t store class site vs h m r. eq-eqb class class refl;
     downed = λ ls t k site v h p. nexts ls t (record t { downs = t.downs ++ (site, v) ∷ [] }) h.locals h.rows;
     put_back = λ ls t u h g k. nexts ls t (record u { locals = t.locals; heap = t.heap }) h.locals h.rows;
     entered = λ ls t m args h g. nexts (local_kinds m) t (record t { locals = locals_at_start m args }) (suit_start m.parameters m.locals args (given_suit t (parameter_kinds (Some m)) args g)) h.rows;

@@ -1,5 +1,6 @@
 -- Known objects and touches.
-use Rattle.std.proofs.Common.{◌≡◌, ◌⊎◌, inl, inr, ℕ, List, [], ◌∷◌, ◌++◌, Option, Some, None, Bool, true, false, ◌&&◌, ◌||◌, ◌==◌, if◌then◌else◌, refl, sym, ap, ◌∙◌}
+use Rattle.std.proofs.Common.{◌≡◌, ◌⊎◌, inl, inr, ℕ, List, [], ◌∷◌, ◌++◌, Option, Some, None, Bool, true, false, ◌||◌, ◌==◌, if◌then◌else◌, refl, sym, ap, ◌∙◌}
+use Rattle.std.proofs.lemmas.Bool.{and_right}
 use Rattle.std.proofs.Common.{subst}
 use Rattle.fab_base.specs.declared.object.Oid.{Oid}
 use Rattle.fab_base.specs.declared.object.Object.{Object}
@@ -13,22 +14,15 @@ use Rattle.fab_laws.specs.Fewer.{AreKnown}
 pub none_some : {A : Type 0} (x : A) → None ≡ Some x → ⊥
 none_some x e = cc
 
-pub some_one : {A : Type 0} (x y : A) → Some x ≡ Some y → x ≡ y
-some_one x y e = cc
-
 -- it is there and isn't
 pub none_one : (m : FlatMap) (o : Oid) → get m o ≡ None → HasOne m o → ⊥
 none_one m o e c = none_some c.0 (sym e ∙ c.1)
-
-both_false : (a b : Bool) → b ≡ false → (a && b) ≡ false
-both_false true b e = e
-both_false false b e = refl
 
 -- an object that isn't known isn't touched
 pub unknown_pair : (m : FlatMap) (site : ℕ) (o : Oid) (ts : List (ℕ × Oid)) → AreKnown m ts → get m o ≡ None → has_pair site o ts ≡ false
 unknown_pair m site o [] w e = refl
 unknown_pair m site o (t ∷ ts) w e =
-    ap (λ b. b || has_pair site o ts) (both_false (t.0 == site) (is_same t.1 o) (apart (is_same t.1 o) refl)) ∙ unknown_pair m site o ts w.1 e
+    ap (λ b. b || has_pair site o ts) (and_right (t.0 == site) (is_same t.1 o) (apart (is_same t.1 o) refl)) ∙ unknown_pair m site o ts w.1 e
   where
     apart : (b : Bool) → is_same t.1 o ≡ b → is_same t.1 o ≡ false
     apart true i = absurd (none_one m o e (subst (HasOne m) (one_name t.1 o i) w.0))

@@ -1,7 +1,6 @@
 //! The transactions that a store holds, in the order in which it took them.
 ghost use Rattle.std.specs.Prelude.{◌≡◌, ◌+◌, ◌-◌, ◌<◌, ◌≤◌, ◌++◌, ◌∷◌, ◌==◌, not, [], IsTrue, IsFalse, IsOk, OnOk, OnErr, MatchOption, reverse, vec_capacity, vec_len};
 ghost use Rattle.std.specs.List.{filter};
-ghost use Rattle.fab_protocol.specs.Versions.{is_tid};
 ghost use Rattle.fab_protocol.specs.Stores.{prepared_as, without};
 ghost use Rattle.fab_locks.specs.Conflicts.{AreDistinct, IsHeldAt, holds_tid, first_barring};
 
@@ -9,6 +8,7 @@ use crate::held::Held;
 use crate::indexed::Indexed;
 use crate::items::bars;
 use fab_base::{Items, NoMemory, Oid, Tid};
+use fab_protocol::is_one_tid;
 use std::alloc::Global;
 use std::marker::Model;
 
@@ -254,10 +254,4 @@ fn place(held: &[(Tid, Items)], tid: Tid) -> Option<usize>
         }
     }
     None
-}
-
-fn is_one_tid(one: Tid, other: Tid) -> bool
-    ensures { result ≡ is_tid one other }
-{
-    one == other
 }

@@ -1,18 +1,15 @@
 -- What a map is once a field of an object was written, or an object was taken away.
-use Rattle.std.specs.Prelude.{ℕ, not, List, filter, Option, Some, None, slice_get, slice_set}
+use Rattle.std.specs.Prelude.{ℕ, not, List, filter, Option, Some, None, slice_get}
 use Rattle.fab_base.specs.declared.object.Oid.{Oid}
 use Rattle.fab_base.specs.declared.object.Object.{Object}
 use Rattle.fab_base.specs.declared.object.Value.{Value}
+pub use Rattle.fab_base.specs.Values.{with_field}
 use Rattle.fab_base.specs.FlatMap.{FlatMap, is_same, get, put}
 
 -- what a field of an object holds, where there is such an object and it has such a field
 abbrev pub field_in : ℕ → Option Object → Option Value
 field_in field None = None
 field_in field (Some x) = slice_get x.fields field
-
--- an object with another value in a field; it stays as it is where it has no such field
-abbrev pub with_field : ℕ → Value → Object → Object
-with_field field v x = record x { fields = slice_set x.fields field v }
 
 -- an object of a name is put, where there is one
 abbrev pub put_some : Oid → Option Object → FlatMap → FlatMap

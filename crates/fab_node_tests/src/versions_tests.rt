@@ -31,12 +31,12 @@ fn is_at(found: Option<(u32, &Object)>, version: u32, class: u16) -> bool {
 }
 
 #[test]
-fn a_write_raises_the_version(rt: HostRuntime) -> Result<(), Fail> {
+fn a_put_takes_the_place_of_its_name(rt: HostRuntime) -> Result<(), Fail> {
     let mut table = Table::new(rt.alloc());
     table.reserve(1)?;
-    table.put_new(ROOT, thing(rt.alloc(), 1))?;
+    table.put(ROOT, 1, thing(rt.alloc(), 1))?;
     assert!(rt; is_at(table.get(ROOT), 1, 1));
-    table.replace(ROOT, thing(rt.alloc(), 2));
+    table.put(ROOT, 2, thing(rt.alloc(), 2))?;
     assert!(rt; is_at(table.get(ROOT), 2, 2));
     assert_eq!(rt; table.into_rows(rt.alloc())?.len(), 1);
     Ok(())
@@ -55,10 +55,11 @@ fn write(alloc: Global, table: &mut Table, plain: &mut Plain, told: u32) -> Resu
     let number = told / 65536 % 1500;
     let class = (told / 1024 % 1000) as u16;
     let oid = named(number);
-    match table.get(oid) {
-        Some(_) => table.replace(oid, thing(alloc, class)),
-        None => table.put_new(oid, thing(alloc, class))?,
-    }
+    let version = match table.get(oid) {
+        Some((version, _)) => version,
+        None => 0,
+    };
+    table.put(oid, next_version(version), thing(alloc, class))?;
     let at = number as usize;
     plain[at] = (next_version(plain[at].0), class);
     Ok(())

@@ -1,26 +1,20 @@
 //! The parts of an attempt.
 ghost use Rattle.std.specs.Prelude.{◌≡◌, IfOk, map};
 ghost use Rattle.std.specs.List.{filter, list_any};
-ghost use Rattle.fab_base.specs.FlatMap.{is_among, is_same};
+ghost use Rattle.fab_base.specs.FlatMap.{is_among};
 ghost use Rattle.fab_language.specs.Heaps.{touched};
 ghost use Rattle.fab_protocol.specs.Versions.{version_of};
 
 use fab_base::{NoMemory, Object, Oid, Seq, Value};
 use fab_commit::{touched_versions, version_in};
-use fab_protocol::Parts;
+use fab_protocol::{Parts, is_same_name};
 use std::alloc::Global;
-
-fn is_one_name(one: Oid, other: Oid) -> bool
-    ensures { result ≡ is_same one other }
-{
-    one == other
-}
 
 /// Whether a name is among these.
 fn has(names: &[Oid], oid: Oid) -> bool
     ensures { result ≡ is_among oid names.now }
 {
-    names.iter().any(|name| is_one_name(*name, oid))
+    names.iter().any(|name| is_same_name(*name, oid))
 }
 
 /// The objects whose names are among these.

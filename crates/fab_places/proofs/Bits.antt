@@ -1,47 +1,35 @@
 -- The bits of masks.
-use Rattle.std.proofs.Common.{◌≡◌, ℕ, ◌+◌, ◌*◌, ◌^◌, ◌%◌, ◌<◌, ◌↔◌, true, false, Bool, inl, inr, sym, ap, ◌∙◌, subst, arith, IsBitSet, bit_and, bit_or}
+use Rattle.std.proofs.Common.{◌≡◌, ℕ, ◌+◌, ◌*◌, ◌^◌, ◌%◌, ◌<◌, ◌↔◌, true, false, Bool, inl, inr, sym, ◌∙◌, subst, arith, IsBitSet, bit_and, bit_or}
 use Rattle.std.specs.Int.{bit_at, trailing_zeros, w64}
 use Rattle.std.proofs.lemmas.Bool.{cases_eq}
 use Rattle.std.proofs.lemmas.Nat.{and_le_l}
-use Rattle.std.proofs.Math.Pow.{pow_pos}
-use Rattle.std.proofs.lemmas.Nat.Bits.{and_pow, bit_at_and, bit_at-lt, bit_at-zero, bit_at_set_same, bit_at_set_other, bit_at-trailing_zeros}
-use Rattle.fab_rights.proofs.Bits.{bit_below}
-
-one_bit : (mask n : ℕ) → IsBitSet mask n → bit_at mask n ≡ 1
-one_bit mask n bit = elim (cases_eq (bit_at mask n) 0) [
-  | inl none ↦ absurd (bit (and_pow mask n ∙ ap (λ b. b * 2 ^ n) none ∙ omega arith))
-  | inr some ↦ omega (arith, bit_at-lt mask n, some)
-]
-
-bit_of_one : (mask n : ℕ) → bit_at mask n ≡ 1 → IsBitSet mask n
-bit_of_one mask n one none =
-    let zero_is : 1 * 2 ^ n ≡ 0 = sym (ap (λ b. b * 2 ^ n) one) ∙ sym (and_pow mask n) ∙ none in
-    absurd (omega (arith, pow_pos n, zero_is))
+use Rattle.std.proofs.lemmas.Nat.Bits.{bit_at_and, bit_at-lt, bit_at-zero, bit_at_set_same, bit_at_set_other, bit_at-trailing_zeros}
+use Rattle.fab_base.proofs.Bits.{set_is_bit, bit_is_set, bit_below}
 
 pub none_set : (n : ℕ) → IsBitSet 0 n → ⊥
-none_set n bit = absurd (omega (arith, one_bit 0 n bit, bit_at-zero n))
+none_set n bit = absurd (omega (arith, set_is_bit 0 n bit, bit_at-zero n))
 
 -- what two masks have in common
 pub in_both : (a b n : ℕ) → IsBitSet (bit_and a b) n ↔ (IsBitSet a n × IsBitSet b n)
 in_both a b n = (
   λ bit.
-      let both : bit_at (bit_and a b) n ≡ 1 = one_bit (bit_and a b) n bit in
-      (bit_of_one a n (omega (arith, both, bit_at_and a b n, bit_at-lt a n)), bit_of_one b n (omega (arith, both, bit_at_and a b n, bit_at-lt b n))),
-  λ bits. bit_of_one (bit_and a b) n (omega (arith, bit_at_and a b n, one_bit a n bits.0, one_bit b n bits.1)),
+      let both : bit_at (bit_and a b) n ≡ 1 = set_is_bit (bit_and a b) n bit in
+      (bit_is_set a n (omega (arith, both, bit_at_and a b n, bit_at-lt a n)), bit_is_set b n (omega (arith, both, bit_at_and a b n, bit_at-lt b n))),
+  λ bits. bit_is_set (bit_and a b) n (omega (arith, bit_at_and a b n, set_is_bit a n bits.0, set_is_bit b n bits.1)),
 )
 
 -- a mask has a bit if it isn't 0
 pub some_bit : (mask : ℕ) → mask < 2 ^ 64 → (mask ≡ 0 → ⊥) → (n : ℕ) × IsBitSet mask n
-some_bit mask fits some = (trailing_zeros w64 mask, bit_of_one mask (trailing_zeros w64 mask) (bit_at-trailing_zeros w64 mask (omega arith) fits).1)
+some_bit mask fits some = (trailing_zeros w64 mask, bit_is_set mask (trailing_zeros w64 mask) (bit_at-trailing_zeros w64 mask (omega arith) fits).1)
 
 -- a bit that is set is set, and leaves the others
 pub bit_set : (mask k : ℕ) → k < 64 → IsBitSet (bit_or mask (1 * 2 ^ k % 2 ^ 64)) k
-bit_set mask k below = bit_of_one _ k (bit_at_set_same w64 mask k below)
+bit_set mask k below = bit_is_set _ k (bit_at_set_same w64 mask k below)
 
 pub bit_kept : (mask k i : ℕ) → k < 64 → (i ≡ k → ⊥) → IsBitSet (bit_or mask (1 * 2 ^ k % 2 ^ 64)) i ↔ IsBitSet mask i
 bit_kept mask k i below other = (
-  λ bit. bit_of_one mask i (sym (bit_at_set_other w64 mask k below i other) ∙ one_bit _ i bit),
-  λ bit. bit_of_one _ i (bit_at_set_other w64 mask k below i other ∙ one_bit mask i bit),
+  λ bit. bit_is_set mask i (sym (bit_at_set_other w64 mask k below i other) ∙ set_is_bit _ i bit),
+  λ bit. bit_is_set _ i (bit_at_set_other w64 mask k below i other ∙ set_is_bit mask i bit),
 )
 
 -- the numbers below n that passed a test have their bits in the mask, and no others

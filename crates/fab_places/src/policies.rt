@@ -7,34 +7,16 @@ ghost use Rattle.fab_labelling.specs.Placement.{MayHold};
 
 use crate::masks::mask_of;
 use fab_base::{Label, Policy};
+use fab_labels::acts_within;
 use fab_principals::Acts;
 
-/// Whether p acts for one of these.
-fn acts_for_one(acts: &Acts, p: u16, others: &[u16]) -> bool
-    ensures { IsTrue result ↔ ActsForOne acts.now p others.now }
-{
-    for other in others {
-        if acts.acts(p, *other) {
-            return true;
-        }
-    }
-    false
-}
-
-/// Whether p acts for the policy's owner or for one of those that it names.
-fn is_within(acts: &Acts, p: u16, policy: &Policy) -> bool
-    ensures { IsTrue result ↔ ActsForOne acts.now p (policy.now.owner ∷ policy.now.others) }
-{
-    acts.acts(p, policy.owner) || acts_for_one(acts, p, policy.others.as_slice())
-}
-
-/// Whether it does so for each of these policies.
+/// Whether p acts for the owner, or for one of those that it names, of each of these policies.
 fn is_within_all(acts: &Acts, p: u16, policies: &[Policy]) -> bool
     ensures { IsTrue result
         ↔ All (λ policy. ActsForOne acts.now p (policy.owner ∷ policy.others)) policies.now }
 {
     for policy in policies {
-        if !is_within(acts, p, policy) {
+        if !acts_within(acts, p, policy) {
             return false;
         }
     }

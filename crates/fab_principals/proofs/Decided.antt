@@ -1,15 +1,10 @@
 -- Whether one acts for another is decided, over the declared pairs alone.
-use Rattle.std.proofs.Common.{◌≡◌, ℕ, Bool, ◌||◌, ◌&&◌, ◌==◌, List, [], ◌∷◌, arith}
+use Rattle.std.proofs.Common.{◌≡◌, ℕ, ◌||◌, ◌&&◌, ◌==◌, List, [], ◌∷◌, arith}
 use Rattle.std.specs.Bool.{Decides}
 use Rattle.std.proofs.lemmas.Bool.Decides.{Decides-eqb, Decides-and, Decides-or, Decides-like}
 use Rattle.fab_base.specs.Principals.{Delegations, ActsFor}
-use Rattle.fab_principals.specs.Tables.{Reaches}
+use Rattle.fab_principals.specs.Tables.{Reaches, reaches}
 use Rattle.fab_principals.proofs.ChainLemmas.{Reaches-cons, ActsFor-reaches}
-
--- over one more pair also whoever reaches its first reaches what its second reaches
-unfoldable pub reaches : List (ℕ × ℕ) → ℕ → ℕ → Bool
-reaches [] p q = p == q
-reaches (d ∷ ds) p q = reaches ds p q || (reaches ds p d.0 && reaches ds d.1 q)
 
 nowhere : (p q : ℕ) → Reaches [] p q → p ≡ q
 nowhere p q ([], e) = e

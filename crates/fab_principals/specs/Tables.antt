@@ -1,5 +1,5 @@
 -- Relations of principals as tables, a row of 64 bits for each principal.
-use Rattle.std.specs.Prelude.{◌≡◌, ℕ, zero, suc, ◌<◌, ◌≤◌, ◌↔◌, IsTrue, List, [], ◌∷◌, length, slice_index, bit_and}
+use Rattle.std.specs.Prelude.{◌≡◌, ℕ, zero, suc, ◌<◌, ◌≤◌, ◌↔◌, ◌==◌, ◌||◌, ◌&&◌, Bool, IsTrue, List, [], ◌∷◌, length, slice_index, bit_and}
 use Rattle.std.specs.Int.{trailing_zeros, w64}
 use Rattle.fab_base.specs.Principals.{Leads}
 use Rattle.fab_principals.specs.Sets.{in_set}
@@ -12,6 +12,11 @@ pub record IsTable (rows : List ℕ) (count : ℕ) (R : ℕ → ℕ → Type 0) 
 -- one comes from p to q by these pairs
 abbrev pub Reaches : List (ℕ × ℕ) → ℕ → ℕ → Type 0
 Reaches pairs p q = (rest : List ℕ) × Leads pairs p rest q
+
+-- whether one does, computed: over one more pair also whoever comes to its first comes to where its second comes
+unfoldable pub reaches : List (ℕ × ℕ) → ℕ → ℕ → Bool
+reaches [] p q = p == q
+reaches (d ∷ ds) p q = reaches ds p q || (reaches ds p d.0 && reaches ds d.1 q)
 
 -- the same as `Leads`, over the rows of a table
 abbrev pub RowsLead : List ℕ → ℕ → List ℕ → ℕ → Type 0

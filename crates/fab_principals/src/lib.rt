@@ -9,3 +9,4 @@ mod tables;
 
 pub use acts::Acts;
 pub use laws::acts_for_laws;
+pub use sets::{contains, only, union};

@@ -1,6 +1,6 @@
 -- Laws of tables: what a table is behind placed rows, row by row; parts of tables.
-use Rattle.std.proofs.Common.{◌≡◌, Bool, true, false, cond, if◌then◌else◌, IsTrue, IsFalse}
-use Rattle.std.proofs.Common.{List, [], ◌∷◌, ◌++◌, map, Some, None, unwrap_or, refl, sym, subst, ap, ◌∙◌}
+use Rattle.std.proofs.Common.{◌≡◌, suc, ◌+◌, ◌≤◌, Bool, true, false, cond, if◌then◌else◌, IsTrue, IsFalse}
+use Rattle.std.proofs.Common.{List, [], ◌∷◌, ◌++◌, length, map, arith, Some, None, unwrap_or, refl, sym, subst, ap, ◌∙◌}
 use Rattle.std.specs.List.{filter, AllByRecursion}
 use Rattle.std.proofs.lemmas.Bool.{and_parts, and_from}
 use Rattle.fab_base.specs.declared.object.Oid.{Oid}
@@ -264,3 +264,25 @@ module _ {R : Type 0} (name : R → Oid) where
   pub row_of_part : (xs ys : List R) (y : R) → IsTrue (ascends name (xs ++ y ∷ ys)) → row_of name (xs ++ y ∷ ys) (name y) ≡ Some y
   row_of_part xs ys y h =
       row_of_behind xs (y ∷ ys) (name y) (ascends_parts xs ys y h).0 ∙ row_here y ys (name y) (same_self (name y))
+
+-- ---- how many rows there are
+
+module _ {R : Type 0} (name : R → Oid) where
+  pub length_placed : (r : R) (rows : List R) → length (placed name r rows) ≤ length rows + 1
+  length_placed r [] = omega arith
+  length_placed r (x ∷ xs) =
+      let rest = length_placed r xs in
+      elim (is_before (name r) (name x)) as (λ b. length (if b then r ∷ x ∷ xs else (if is_before (name x) (name r) then x ∷ placed name r xs else r ∷ xs)) ≤ suc (length xs) + 1) [
+        | true ↦ omega arith
+        | false ↦ elim (is_before (name x) (name r)) as (λ b. length (if b then x ∷ placed name r xs else r ∷ xs) ≤ suc (length xs) + 1) [
+          | true ↦ omega (arith, rest)
+          | false ↦ omega arith
+        ]
+      ]
+
+  pub length_placed_all : (rs rows : List R) → length (placed_all name rs rows) ≤ length rows + length rs
+  length_placed_all [] rows = omega arith
+  length_placed_all (r ∷ rs) rows =
+      let all = length_placed_all rs (placed name r rows) in
+      let one = length_placed r rows in
+      omega (arith, all, one)

@@ -1,18 +1,8 @@
 -- The bits of a number of 64 bits.
-use Rattle.std.proofs.Common.{◌≡◌, ◌↔◌, ℕ, ◌*◌, ◌^◌, ◌<◌, Bool, true, false, not, IsTrue, refl, sym, true≢false, inl, inr, ap, ◌∙◌, arith, IsBitSet}
-use Rattle.std.specs.Int.{bit_at}
-use Rattle.std.proofs.lemmas.Bool.{cases_lt, false≢true, eq-eqb, ne_eqb}
-use Rattle.std.proofs.lemmas.Nat.Bits.{and_pow, bit_at_above}
+use Rattle.std.proofs.Common.{◌≡◌, ◌↔◌, ℕ, Bool, true, false, not, IsTrue, refl, sym, true≢false, ap, ◌∙◌, IsBitSet}
+use Rattle.std.proofs.lemmas.Bool.{false≢true, eq-eqb, ne_eqb}
+pub use Rattle.fab_base.proofs.Bits.{bit_below}
 use Rattle.fab_rights.specs.Computed.{has_bit}
-
--- they are below 64
-pub bit_below : (mask n : ℕ) → mask < 2 ^ 64 → IsBitSet mask n → n < 64
-bit_below mask n fits bit = elim (cases_lt n 64) [
-  | inl below ↦ below
-  | inr high ↦
-      let none : bit_at mask n ≡ 0 = bit_at_above mask 64 n fits high in
-      absurd (bit (and_pow mask n ∙ ap (λ b. b * 2 ^ n) none ∙ omega arith))
-]
 
 -- two truth values that hold exactly where one fact does are one
 pub same_truth : (a b : Bool) {P : Type 0} → (IsTrue a ↔ P) → (IsTrue b ↔ P) → a ≡ b

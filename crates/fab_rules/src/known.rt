@@ -4,6 +4,7 @@ ghost use Rattle.fab_language.specs.Names.{named, local_name, is_same_name};
 ghost use Rattle.fab_rules.specs.Known.{parameter_of, shown};
 
 use fab_base::NoMemory;
+use fab_tables::Named;
 use fab_tree::{Name, Sort};
 use std::alloc::Global;
 use std::marker::Model;
@@ -14,6 +15,14 @@ pub struct Local<'a> {
     pub sort: &'a Sort,
     pub name: &'a Name,
     pub label: &'a Name,
+}
+
+impl Named for Local<'_> {
+    ghost name = { λ l. l.name.now };
+
+    fn name(&self) -> &Name {
+        self.name
+    }
 }
 
 /// The locals that are known, in the order of their declarations. Contracts see them as parameters.

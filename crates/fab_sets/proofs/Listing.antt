@@ -4,17 +4,10 @@ use Rattle.std.specs.List.{list_any}
 use Rattle.std.proofs.lemmas.List.Folds.{list_any-append}
 use Rattle.std.proofs.lemmas.Bool.Decides.{nat_tests}
 use Rattle.std.specs.contracts.prelude.U16PartialEq as numbers
+pub use Rattle.std.proofs.Math.Bool.{or-true as or_true, or-false as or_false}
 use Rattle.fab_base.proofs.Lists.{front_at}
 use Rattle.indexmap.specs.IndexSet.{insert_key}
 use Rattle.fab_sets.specs.Numbers.{is_listed}
-
-pub or_true : (b : Bool) → (b || true) ≡ true
-or_true true = refl
-or_true false = refl
-
-pub or_false : (b : Bool) → (b || false) ≡ b
-or_false true = refl
-or_false false = refl
 
 pub eq_is : (n m : ℕ) → numbers.TheImpl.ghosts.eq n m ≡ (m == n)
 eq_is n m = grind (arith, nat_tests)

@@ -1,7 +1,7 @@
 //! What commits write.
 ghost use Rattle.std.specs.Prelude.{◌≡◌, IfOk};
 
-use fab_base::{NoMemory, Object, Oid, Seq};
+use fab_base::{NoMemory, Object, Oid, Seq, copies};
 use std::alloc::Global;
 
 /// The write set of a commit: each name that it wrote or made, with its version and its object.
@@ -19,14 +19,4 @@ impl WriteSet {
             leaves: copies(alloc, self.leaves.as_slice())?,
         })
     }
-}
-
-fn copies(alloc: Global, leaves: &[(Oid, u32, Object)]) -> Result<Seq<(Oid, u32, Object)>, NoMemory>
-    ensures { IfOk result (λ copies. copies ≡ leaves.now) }
-{
-    let mut copies = Seq::new(alloc);
-    for leaf in leaves {
-        copies.push((leaf.0, leaf.1, leaf.2.copy(alloc)?))?;
-    }
-    Ok(copies)
 }

@@ -15,7 +15,7 @@ use fab_tables::Tables;
 use fab_tree::{Class, Method, Node, Program, Session};
 use locals::locals_of;
 use named::noted_once;
-pub use named::{Named, repeats};
+pub use named::repeats;
 use std::alloc::Global;
 use std::collections::BTreeSet;
 

@@ -1,6 +1,5 @@
 //! Principals that aren't of the kind that their place needs.
 ghost use Rattle.std.specs.Prelude.{◌≡◌, option_copied};
-ghost use Rattle.fab_tree.specs.Limits.{is_node};
 ghost use Rattle.fab_language.specs.Names.{is_hostile, is_store, is_worker};
 ghost use Rattle.fab_language.specs.Roles.{if_of_kind, in_crash, in_event, in_post, in_right, in_root, in_session, in_step, need};
 ghost use Rattle.fab_rules.specs.First.{first_from};
@@ -8,7 +7,7 @@ ghost use Rattle.fab_spaces.specs.Needs.{needed};
 
 use fab_language::{Fault, NameRule};
 use fab_rules::noted_unless;
-use fab_tables::Tables;
+use fab_tables::{Tables, is_node};
 use fab_tree::{CrashLine, Event, Name, Node, PostLine, Right, Role, Root, Session, Step};
 
 /// What a place needs a principal to be.
@@ -31,15 +30,6 @@ fn fits(need: Need, role: Role) -> bool
         Need::Hostile => is_hostile(role),
         Need::Honest => is_node(role) && !is_hostile(role),
         Need::HonestWorker => is_worker(role) && !is_hostile(role),
-    }
-}
-
-fn is_node(role: Role) -> bool
-    ensures { result ≡ is_node role }
-{
-    match role {
-        Role::Principal => false,
-        Role::Worker { .. } | Role::Store { .. } => true,
     }
 }
 

@@ -11,4 +11,4 @@ pub use lookups::{are_same, first_among, first_named, number_among, number_of};
 pub use name_table::NameTable;
 pub use named::Named;
 pub use ordered_table::OrderedTable;
-pub use tables::Tables;
+pub use tables::{Tables, is_node};

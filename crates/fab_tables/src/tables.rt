@@ -197,7 +197,7 @@ fn nodes_before(number: usize, nodes: &[Node]) -> usize
 }
 
 /// Whether it is a worker or a store.
-fn is_node(role: Role) -> bool
+pub fn is_node(role: Role) -> bool
     ensures { result ≡ is_node role }
 {
     match role {

@@ -14,7 +14,7 @@ use Rattle.fab_language.specs.Flows.{delegations_of}
 use Rattle.fab_labelling.specs.Obligations.{authority_of}
 use Rattle.fab_labelling.specs.Readers.{Excludes, IsNode, label_at, principal_of}
 use Rattle.fab_labelling.specs.Sites.{pcs_of, sites_of}
-use Rattle.fab_erasure.specs.Agreement.{Downgrading, IsIn, downgrades_in, downgrades_of, downs_seen, in_view}
+use Rattle.fab_erasure.specs.Agreement.{Downgrading, In, downgrades_in, downgrades_of, downs_seen, in_view}
 use Rattle.fab_erasure.proofs.Agrees.{all_pass, one_passes}
 use Rattle.fab_erasure.proofs.Views.{filter_within}
 use Rattle.fab_integrity.proofs.Lists.{each_of, flat_in, in_filter, in_left, in_right, map_in}
@@ -40,11 +40,11 @@ narrower p site passes ds es e =
 
 -- ---- downgrades with their kinds are downgrades
 
-methods : (ms : List Method) (m : Method) (d : Downgraded) → IsIn m ms → IsIn d (declassified_by m)
-    → IsIn (plain d) (flat_map (λ (m : Method). flat_map downgrades_in m.body) ms)
+methods : (ms : List Method) (m : Method) (d : Downgraded) → In m ms → In d (declassified_by m)
+    → In (plain d) (flat_map (λ (m : Method). flat_map downgrades_in m.body) ms)
 methods ms m d i j =
     let found = flat_in downgraded_by d m ms i (in_filter (λ (x : Downgraded). declassifies x.downgrade) d (downgraded_by m) j).0 in
-    subst (IsIn (plain d)) (methods_are_plain ms) (map_in plain d (flat_map downgraded_by ms) found)
+    subst (In (plain d)) (methods_are_plain ms) (map_in plain d (flat_map downgraded_by ms) found)
 
 -- ---- what is kept is of declared labels, and trusted
 
@@ -57,7 +57,7 @@ none_of : {A : Type 0} (P : A → Type 0) → Any P [] → ⊥
 none_of P h = let less = h.2 in omega (arith, less)
 
 -- a numbered element has the place of its number
-at_number : (k : ℕ) (ps : List (List ℕ)) (x : ℕ × List ℕ) → IsIn x (enumerate_from k ps) → (j : ℕ) × (x.0 ≡ k + j) × (slice_get ps j ≡ Some x.1)
+at_number : (k : ℕ) (ps : List (List ℕ)) (x : ℕ × List ℕ) → In x (enumerate_from k ps) → (j : ℕ) × (x.0 ≡ k + j) × (slice_get ps j ≡ Some x.1)
 at_number k [] x i = absurd i
 at_number k (p ∷ ps) x (inl e) = let n : x.0 ≡ k = ap (λ (z : ℕ × List ℕ). z.0) e in (0, omega (arith, n), ap (λ (z : ℕ × List ℕ). Some z.1) (sym e))
 at_number k (p ∷ ps) x (inr i) = let h = at_number (k + 1) ps x i in let n = h.1 in (suc h.0, omega (arith, n), h.2)
@@ -97,7 +97,7 @@ module _ (r : Resolved) (nodes : ℕ) (trusts keeps : ℕ → Bool) (given : IsT
     abbrev d : Downgraded
     d = guarded.d
 
-    source_trusted : (l : ℕ) → IsIn l (sources_of r d) → trusts l ≡ true
+    source_trusted : (l : ℕ) → In l (sources_of r d) → trusts l ≡ true
     source_trusted l i =
         let g : Guard = record { at = d.at; source = l; principal = guarded.principal } in
         kept_trusted g (each_of (Keeps r) (guards r) g robust
@@ -110,20 +110,20 @@ module _ (r : Resolved) (nodes : ℕ) (trusts keeps : ℕ → Bool) (given : IsT
     from_trusted : trusts d.from ≡ true
     from_trusted = source_trusted d.from (in_right d.from (unwrap_or (slice_get (pcs_of r) d.site) []) (d.from ∷ []) (inl refl))
 
-    at_site : (x : ℕ × List ℕ) → IsIn x (sites_of r) → x.0 ≡ site → list_all trusts x.1 ≡ true
+    at_site : (x : ℕ × List ℕ) → In x (sites_of r) → x.0 ≡ site → list_all trusts x.1 ≡ true
     at_site x i e =
-        let h = at_number 0 (pcs_of r) x (subst (IsIn x) ordered i) in
+        let h = at_number 0 (pcs_of r) x (subst (In x) ordered i) in
         let n = h.1 in
         let site_is = guarded.site_is in
         let same : d.site ≡ h.0 = omega (arith, site_is, e, n) in
         let here : slice_get (pcs_of r) d.site ≡ Some x.1 = ap (slice_get (pcs_of r)) same ∙ h.2 in
         all_pass trusts x.1 (λ l j. source_trusted l (in_left l (unwrap_or (slice_get (pcs_of r) d.site) []) (d.from ∷ [])
-        (subst (λ o. IsIn l (unwrap_or o [])) (sym here) j)))
+        (subst (λ o. In l (unwrap_or o [])) (sym here) j)))
 
     viewed : in_view trusts keeps r site ≡ true
     viewed = all_pass (λ (x : ℕ × List ℕ). not (x.0 == site) || list_all trusts x.1) (sites_of r) (λ x i. by x i (x.0 == site) refl)
       where
-        by : (x : ℕ × List ℕ) → IsIn x (sites_of r) → (b : Bool) → (x.0 == site) ≡ b → (not b || list_all trusts x.1) ≡ true
+        by : (x : ℕ × List ℕ) → In x (sites_of r) → (b : Bool) → (x.0 == site) ≡ b → (not b || list_all trusts x.1) ≡ true
         by x i true e = at_site x i (eqb-true x.0 site e)
         by x i false e = refl
 

@@ -17,7 +17,7 @@ use Rattle.fab_labelling.specs.Sites.{Sited, pcs_of, sited}
 use Rattle.fab_labelling.proofs.Forms.{expression_at, sites_are, sited_is}
 use Rattle.fab_labels.proofs.Searches.{Any-head}
 use Rattle.fab_language.specs.Flows.{delegations_of}
-use Rattle.fab_erasure.specs.Agreement.{IsIn}
+use Rattle.fab_erasure.specs.Agreement.{In}
 use Rattle.fab_downgrades.specs.declared.rows.Downgraded.{Downgraded}
 use Rattle.fab_trusted.specs.declared.rows.Guard.{Guard}
 use Rattle.fab_downgrades.specs.Downgraded.{declassified_by, downgraded_step}
@@ -155,7 +155,7 @@ guarded_from_h = record {
   m = asking T Q;
   declared = inl refl;
   d = declassified Q;
-  listed = subst (IsIn (declassified Q)) (sym (declassified_is T Q)) (inl refl);
+  listed = subst (In (declassified Q)) (sym (declassified_is T Q)) (inl refl);
   site_is = refl;
   principal = 0;
   authority = inl refl;
@@ -165,9 +165,9 @@ guarded_from_h = record {
 not_from_w : ¬ IsGuarded (program T Q) 1 0
 not_from_w h = by h.m h.principal h.declared h.authority h.outside
   where
-    by : (m : Method) (p : ℕ) → IsIn m (asking T Q ∷ []) → IsIn p (authority_of m)
+    by : (m : Method) (p : ℕ) → In m (asking T Q ∷ []) → In p (authority_of m)
         → ((n : ℕ) → IsBitSet 1 n → IsNode (program T Q) n → ¬ ActsFor (delegations_of (program T Q)) (principal_of (program T Q) n) p) → ⊥
-    by m p (inl e) i outside = elim (subst (λ (z : Method). IsIn p (authority_of z)) e i) [
+    by m p (inl e) i outside = elim (subst (λ (z : Method). In p (authority_of z)) e i) [
       | inl same ↦ outside 0 (λ b. omega (arith, b)) (lit< tt) (subst (λ (q : ℕ). ActsFor (delegations_of (program T Q)) 1 q) (sym same) (w_for_a (asking T Q)))
       | inr none ↦ absurd none
     ]

@@ -9,7 +9,7 @@ use Rattle.fab_language.specs.Flows.{delegations_of}
 use Rattle.fab_labelling.specs.Obligations.{authority_of}
 use Rattle.fab_labelling.specs.Readers.{IsNode, label_at, principal_of}
 use Rattle.fab_labelling.specs.Sites.{pcs_of}
-use Rattle.fab_erasure.specs.Agreement.{IsIn}
+use Rattle.fab_erasure.specs.Agreement.{In}
 use Rattle.fab_downgrades.specs.declared.rows.Downgraded.{Downgraded}
 use Rattle.fab_trusted.specs.declared.rows.Guard.{Guard}
 use Rattle.fab_downgrades.specs.Downgraded.{declassified_by}
@@ -45,10 +45,10 @@ pub record IsFirstUnkept (r : Resolved) (gs : List Guard) (g : Guard) : Type 0 w
 -- a site that declassifies with the authority of a principal for whom no node of the set acts
 pub record IsGuarded (r : Resolved) (nodes site : ℕ) : Type 0 where
   pub m : Method
-  pub declared : IsIn m r.methods
+  pub declared : In m r.methods
   pub d : Downgraded
-  pub listed : IsIn d (declassified_by m)
+  pub listed : In d (declassified_by m)
   pub site_is : d.site ≡ site
   pub principal : ℕ
-  pub authority : IsIn principal (authority_of m)
+  pub authority : In principal (authority_of m)
   pub outside : (n : ℕ) → IsBitSet nodes n → IsNode r n → ¬ ActsFor (delegations_of r) (principal_of r n) principal

@@ -13,7 +13,7 @@ use Rattle.fab_language.specs.Heads.{Locals}
 use Rattle.fab_language.specs.Kinds.{are_comparable}
 use Rattle.fab_language.specs.Types.{Checked, asks_same, checked, comparison, if_so, in_expression, in_form, operand, typed}
 use Rattle.fab_rules.specs.First.{first_from}
-use Rattle.fab_types.proofs.Parts.{in_two, in_three}
+use Rattle.fab_rules.proofs.Firsts.{in_two, in_three}
 
 module _ (s : Start) (known : Locals) where
   abbrev in_part : Form → ℕ → Checked

@@ -1,13 +1,12 @@
 //! What type a value has, as far as the names in it say.
 ghost use Rattle.std.specs.Prelude.{◌≡◌, option_copied};
 ghost use Rattle.fab_language.specs.Kinds.{takes, are_comparable, class_of, class_of_sort, class_of_local, kind_of_class, kind_of_sort, kind_of_field, field_of, local_of};
-ghost use Rattle.fab_language.specs.Names.{named, field_name};
 ghost use Rattle.fab_language.specs.Types.{local_kind, is_reachable};
 ghost use Rattle.fab_types.specs.Seen.{seen};
 
 use fab_base::Width;
 use fab_rules::Known;
-use fab_tables::Tables;
+use fab_tables::{Tables, first_among};
 use fab_tree::{Class, Field, Name, Sort};
 
 /// A number of a width, an object of a declared class, which is told by its name, null, or what a name that
@@ -117,15 +116,6 @@ fn class_of_local<'a>(tables: &Tables<'a>, known: &Known<'_>, name: &Name) -> Op
     }
 }
 
-/// The first of these fields that has this name.
-fn first_named<'a>(fields: &'a [Field], name: &Name) -> Option<&'a Field>
-    ensures { option_copied result ≡ named field_name fields.now name.now }
-{
-    fields
-        .iter()
-        .find(|field| field.name.text.as_str() == name.text.as_str())
-}
-
 /// The field of this name in the class of the local of that name.
 pub(crate) fn field_of<'a>(
     tables: &Tables<'a>,
@@ -137,6 +127,6 @@ pub(crate) fn field_of<'a>(
 {
     match class_of_local(tables, known, object) {
         None => None,
-        Some(class) => first_named(class.fields.as_slice(), field),
+        Some(class) => first_among(class.fields.as_slice(), field),
     }
 }

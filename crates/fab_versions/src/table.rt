@@ -1,7 +1,7 @@
 //! Objects with their versions, in the order of names.
 ghost use Rattle.std.specs.Prelude.{◌≡◌, ◌+◌, ◌<◌, ◌≤◌, [], None, Some, MatchOption, IsTrue, IsSome, IsOk, IfOk, OnOk, OnErr};
 ghost use Rattle.fab_protocol.specs.Tables.{row_of, placed, ascends};
-ghost use Rattle.fab_protocol.specs.Versions.{name_of, version_of, risen, begun};
+ghost use Rattle.fab_protocol.specs.Versions.{name_of, risen};
 ghost use Rattle.fab_versions.specs.Holdings.{rows_of};
 
 use crate::blocks::Blocks;
@@ -62,17 +62,6 @@ impl Table {
         }
     }
 
-    /// Puts an object of a new name, at version 1. With spare room it does so without memory, too.
-    pub fn put_new(&mut self, oid: Oid, object: Object) -> Result<(), NoMemory>
-        requires absent { row_of name_of self.old.rows oid ≡ None }
-        ensures ok { OnOk result (self.new.rows ≡ placed name_of (begun (oid, object)) self.old.rows) }
-        ensures err { OnErr result (self.new.rows ≡ self.old.rows) }
-        ensures sure { 0 < self.old.spare → IsOk result }
-        ensures spare { self.old.spare ≤ self.new.spare + 1 }
-    {
-        self.put(oid, 1, object)
-    }
-
     /// Puts an object at a version, in the place of the one of its name or beside the others. Only a
     /// new name takes memory, and with spare room it is put without memory, too.
     pub fn put(&mut self, oid: Oid, version: u32, object: Object) -> Result<(), NoMemory>
@@ -120,20 +109,6 @@ impl Table {
                 self.beside.put(oid, version, object)?;
                 Ok(())
             }
-        }
-    }
-
-    /// Writes an object over the one of its name, at the next version. It takes no memory.
-    pub fn replace(&mut self, oid: Oid, object: Object)
-        requires present { IsSome (row_of name_of self.old.rows oid) }
-        ensures rows { self.new.rows ≡ placed name_of (oid, risen (version_of self.old.rows oid), object) self.old.rows }
-        ensures spare { self.old.spare ≤ self.new.spare }
-    {
-        match self.get(oid) {
-            Some((version, _)) => {
-                let _ = self.put(oid, next_version(version), object);
-            }
-            None => unreachable!(),
         }
     }
 

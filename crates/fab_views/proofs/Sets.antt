@@ -14,7 +14,8 @@ use Rattle.fab_tree.specs.declared.resolved.Class.{Class}
 use Rattle.fab_tree.specs.declared.resolved.Resolved.{Resolved}
 use Rattle.fab_language.specs.Flows.{delegations_of}
 use Rattle.fab_labelling.specs.Readers.{IsNode, IsReader, IsVisible, label_at, principal_of}
-use Rattle.fab_principals.proofs.Decided.{reaches, Decides-acts}
+use Rattle.fab_principals.specs.Tables.{reaches}
+use Rattle.fab_principals.proofs.Decided.{Decides-acts}
 use Rattle.fab_views.specs.Views.{IsSeenBy}
 
 -- ---- the numbers in a set are no greater than it

@@ -29,7 +29,8 @@ fn put_tagged_oid(out: &mut Seq<u8>, tag: u8, oid: Oid) -> Result<(), NoMemory>
     Ok(())
 }
 
-fn put_tagged_tid(out: &mut Seq<u8>, tag: u8, tid: Tid) -> Result<(), NoMemory>
+/// A tag and a tid behind it, as in a body.
+pub fn put_tagged_tid(out: &mut Seq<u8>, tag: u8, tid: Tid) -> Result<(), NoMemory>
     ensures bytes { OnOk result (out.new ≡ out.old ++ tag ∷ tid_bytes tid) }
     ensures fits { IsTid tid }
 {

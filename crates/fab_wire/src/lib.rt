@@ -14,7 +14,7 @@ mod stop;
 mod writing;
 
 pub use decoder::decode;
-pub use encoder::encode;
+pub use encoder::{encode, put_tagged_tid};
 pub use error::DecodeError;
 pub use fab_base::Message;
 pub use fields::{oid_of, tid_of, value_of};

@@ -14,8 +14,8 @@ ghost use Rattle.fab_worker.specs.declared.change.Change.TheVariants.{Closes};
 use crate::change::Change;
 use crate::plan::{WorkerPlan, recorded, unrecorded};
 use crate::worker::Worker;
-use fab_base::{Entry, NoMemory, Seq, Stop};
-use fab_commit::{Sends, copies};
+use fab_base::{Entry, NoMemory, Seq, Stop, copies};
+use fab_commit::Sends;
 use fab_net::{Denial, Note, ReqOutcome};
 
 /// The number of the node that a record names which names none.

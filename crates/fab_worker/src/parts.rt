@@ -10,8 +10,8 @@ ghost use Rattle.fab_attempts.specs.Known.{ArePartsOver};
 ghost use Rattle.fab_worker.specs.Models.{IsJobOf, tid_at};
 
 use crate::worker::Worker;
-use fab_base::{NoMemory, Object, Oid, Value};
-use fab_commit::{copies, made_copies, touched_versions};
+use fab_base::{NoMemory, Object, Oid, Value, copies, made_copies};
+use fab_commit::touched_versions;
 use fab_eval::Done;
 use fab_protocol::Parts;
 use std::alloc::Global;

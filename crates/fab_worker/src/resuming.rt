@@ -16,8 +16,10 @@ use crate::change::{Change, Told};
 use crate::plan::{WorkerPlan, unrecorded};
 use crate::told::Telling;
 use crate::worker::Worker;
-use fab_base::{Message, NoMemory, Object, Oid, Seq, Stop, Tid, Value};
-use fab_commit::{begin_prepare, copies, made_copies, to_each};
+use fab_base::{
+    Message, NoMemory, Object, Oid, Seq, Stop, Tid, Value, copies, made_copies,
+};
+use fab_commit::{begin_prepare, to_each};
 use fab_eval::{Done, Outcome};
 use fab_net::{Note, ReqOutcome, Step};
 use fab_protocol::Parts;

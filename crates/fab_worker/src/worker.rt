@@ -13,9 +13,8 @@ ghost use Rattle.fab_worker.specs.Plans.{HasItsParts};
 ghost use Rattle.fab_attempts.specs.Sessions.{requests_of};
 
 use crate::stage::{Stage, WorkerState};
-use fab_base::{NoMemory, Object, Oid, Tid};
+use fab_base::{NoMemory, Object, Oid, Tid, copies};
 use fab_cache::Caches;
-use fab_commit::copies;
 use fab_eval::Job;
 use fab_net::ReqOutcome;
 use fab_protocol::Decision;

@@ -1,4 +1,4 @@
-//! What is declared with a name, of whatever kind, and what is declared twice.
+//! What is declared twice, of whatever kind.
 ghost use Rattle.std.specs.Prelude.{◌≡◌, ◌||◌, ◌∷◌, [], List, ℕ, IfOk, OnOk, if◌then◌else◌};
 ghost use Rattle.std.specs.Str.{bytes_eq};
 ghost use Rattle.fab_language.specs.Doubled.{repeats};
@@ -7,90 +7,11 @@ ghost use Rattle.fab_spaces.specs.Repeats.{is_noted};
 
 use fab_base::NoMemory;
 use fab_language::{Fault, NameRule};
-use fab_rules::{Local, noted_unless};
-use fab_tree::{Class, Field, LabelText, Method, Name, Node, Root};
+use fab_rules::noted_unless;
+use fab_tables::Named;
+use fab_tree::Name;
 use std::alloc::Global;
 use std::collections::BTreeSet;
-
-/// What is declared with a name.
-pub trait Named {
-    ghost use Rattle.std.specs.Prelude.{◌≡◌};
-    ghost use Rattle.fab_tree.specs.declared.name.Name.{Name as Written};
-
-    ghost called: { Self → Written };
-
-    /// Its name.
-    fn name(&self) -> &Name
-        ensures { result.now ≡ called self.now };
-}
-
-impl Named for Node {
-    ghost use Rattle.fab_language.specs.Names.{node_name};
-
-    ghost called = { node_name };
-
-    fn name(&self) -> &Name {
-        &self.name
-    }
-}
-
-impl Named for LabelText {
-    ghost use Rattle.fab_language.specs.Names.{label_name};
-
-    ghost called = { label_name };
-
-    fn name(&self) -> &Name {
-        &self.name
-    }
-}
-
-impl Named for Class {
-    ghost use Rattle.fab_language.specs.Names.{class_name};
-
-    ghost called = { class_name };
-
-    fn name(&self) -> &Name {
-        &self.name
-    }
-}
-
-impl Named for Field {
-    ghost use Rattle.fab_language.specs.Names.{field_name};
-
-    ghost called = { field_name };
-
-    fn name(&self) -> &Name {
-        &self.name
-    }
-}
-
-impl Named for Method {
-    ghost use Rattle.fab_language.specs.Names.{method_name};
-
-    ghost called = { method_name };
-
-    fn name(&self) -> &Name {
-        &self.name
-    }
-}
-
-impl Named for Root {
-    ghost use Rattle.fab_language.specs.Names.{root_name};
-
-    ghost called = { root_name };
-
-    fn name(&self) -> &Name {
-        &self.name
-    }
-}
-
-impl Named for Local<'_> {
-    ghost called = { λ l. l.name.now };
-
-    fn name(&self) -> &Name {
-        self.name
-    }
-}
 
 /// Each of these whose name one before it has. The names stand in a set in their order, so no choice
 /// of names makes it long.
@@ -99,7 +20,7 @@ pub fn repeats<T: Named>(
     first: Option<Fault>,
     items: &[T],
 ) -> Result<Option<Fault>, NoMemory>
-    ensures { IfOk result (λ o. o ≡ first_from first (repeats T.called items.now)) }
+    ensures { IfOk result (λ o. o ≡ first_from first (repeats T.name items.now)) }
 {
     let mut seen = BTreeSet::new(alloc);
     let mut first = first;

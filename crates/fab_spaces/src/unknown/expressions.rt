@@ -3,14 +3,14 @@ ghost use Rattle.std.specs.Prelude.{◌≡◌, flat_map, fold, option_copied, op
 ghost use Rattle.fab_language.specs.Kinds.{class_of_local, class_of_sort};
 ghost use Rattle.fab_language.specs.Unknown.{if_found, in_expression, in_reach};
 ghost use Rattle.fab_rules.specs.First.{first_from};
-ghost use Rattle.fab_language.specs.Names.{field_name, local_name, named};
+ghost use Rattle.fab_language.specs.Names.{local_name, named};
 ghost use Rattle.fab_rules.specs.Known.{parameter_of};
 
 use super::if_found;
 use fab_language::{Fault, NameRule};
 use fab_rules::{Known, Local, noted};
-use fab_tables::Tables;
-use fab_tree::{Class, Expression, Field, Form, Name, Operand, Sort};
+use fab_tables::{Tables, first_among};
+use fab_tree::{Class, Expression, Form, Name, Operand, Sort};
 
 /// The name of a local.
 pub(crate) fn in_local(known: &Known<'_>, first: Option<Fault>, name: &Name) -> Option<Fault>
@@ -35,18 +35,9 @@ pub(crate) fn in_reach(
 {
     let first = in_local(known, first, object);
     match class_of_local(tables, known.find(object)) {
-        Some(class) => if_found(first, field_named(class.fields.as_slice(), field), field),
+        Some(class) => if_found(first, first_among(class.fields.as_slice(), field), field),
         None => first,
     }
-}
-
-/// The first field of this name.
-fn field_named<'a>(fields: &'a [Field], name: &Name) -> Option<&'a Field>
-    ensures { option_copied result ≡ named field_name fields.now name.now }
-{
-    fields
-        .iter()
-        .find(|field| field.name.text.as_str() == name.text.as_str())
 }
 
 /// The class of a local's objects, where it is known.

@@ -1,5 +1,6 @@
 use Rattle.std.proofs.Common.{arith}
-use Rattle.fab_labels.proofs.Searches.{no, bit_below}
+use Rattle.fab_base.proofs.Bits.{bit_below}
+use Rattle.fab_labels.proofs.Searches.{no}
 use Rattle.fab_labels.proofs.policies.has_authority.Goals as goal
 
 pub returns : goal.returns

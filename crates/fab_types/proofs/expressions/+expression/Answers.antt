@@ -5,7 +5,7 @@ use Rattle.fab_language.specs.Kinds.{number}
 use Rattle.fab_language.specs.Types.{given_to, in_expression, typed}
 use Rattle.fab_rules.specs.First.{first_from}
 use Rattle.fab_types.proofs.Forms.{behind, first_in_chain, first_in_equation, first_in_order}
-use Rattle.fab_types.proofs.Parts.{in_two, one_more}
+use Rattle.fab_rules.proofs.Firsts.{in_two, one_more}
 use Rattle.fab_types.proofs.expressions.+expression.Goals as goal
 
 pub in_expression-returns-in-Chain : goal.in_expression-returns-in-Chain
@@ -41,8 +41,9 @@ in_operands-loop-other-preserved t c =
     let s = c.args.tables.now in
     let known = c.args.known.now in
     let e = c.other-item.result.operand in
-    one_more (behind s known) (first_from c.args.first (flat_map (behind s known) c.args.others.now)) c.loop-other.first c.value_given_to-first.result c.args.others.now c.loop-other.other-index c.other-item.result
+    one_more (behind s known) c.args.others.now c.loop-other.other-index c.other-item.result
     c.loop-other-test.true
     c.other-item.is
-    c.loop-other.invariant
+    c.loop-other.first c.value_given_to-first.result (first_from c.args.first (flat_map (behind s known) c.args.others.now))
     (in_two c.loop-other.first c.in_expression-first.result c.value_given_to-first.result (in_expression s known e) (given_to (number widths.Int) (typed s known e)) c.in_expression-first.ensures c.value_given_to-first.ensures)
+    c.loop-other.invariant

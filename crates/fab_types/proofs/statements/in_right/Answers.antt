@@ -3,7 +3,7 @@ use Rattle.fab_language.specs.Kinds.{class_of, fields_of, kind_of_class, kind_of
 use Rattle.fab_language.specs.Types.{field_kinds, given_to, if_value, in_arguments, in_call, in_expression, in_right, returned, typed}
 use Rattle.fab_rules.specs.First.{first_from}
 use Rattle.fab_types.specs.Seen.{seen}
-use Rattle.fab_types.proofs.Parts.{in_two}
+use Rattle.fab_rules.proofs.Firsts.{in_two}
 use Rattle.fab_types.proofs.statements.in_right.Goals as goal
 
 pub returns-in-Call : goal.returns-in-Call

@@ -5,4 +5,4 @@ use Rattle.fab_spaces.proofs.Noting.{Goes}
 use Rattle.fab_spaces.proofs.doubled.named.repeats.Given as goal
 
 abbrev pub invariant-loop-item : goal.invariant-loop-item
-invariant-loop-item g l = Goes g.T.Named.called l.seen (take l.item-index l.items) (drop l.item-index l.items) l.first (first_from l.initial.first (repeats g.T.Named.called l.items))
+invariant-loop-item g l = Goes g.T.Named.name l.seen (take l.item-index l.items) (drop l.item-index l.items) l.first (first_from l.initial.first (repeats g.T.Named.name l.items))

@@ -1,5 +1,5 @@
 use Rattle.std.proofs.Common.{◌≡◌, take}
-use Rattle.fab_commit.proofs.rows.copies.Given as goal
+use Rattle.fab_base.proofs.message.made_copies.Given as goal
 
 abbrev pub invariant-loop-row : goal.invariant-loop-row
 invariant-loop-row l = l.copies ≡ take l.row-index l.rows
