@@ -19,6 +19,7 @@ use Rattle.fab_tree.specs.declared.resolved.Form.TheOpen as nfo
 use Rattle.fab_tree.specs.declared.resolved.Operand.{Operand as NumberedOperand, fold-Operand as fold-NumberedOperand, fold-roll-Operand as fold-roll-NumberedOperand}
 use Rattle.fab_tree.specs.declared.resolved.Method.{Method as NumberedMethod}
 use Rattle.fab_tree.specs.Expressions.{expression_at, operand_at}
+use Rattle.fab_tree.specs.Marks.{result_width}
 use Rattle.fab_language.specs.declared.rule.Fault.{Fault}
 use Rattle.fab_language.specs.Heads.{Locals}
 use Rattle.fab_language.specs.Kinds.{number, takes, kind_of_field, field_of}
@@ -116,7 +117,7 @@ module _ (s : Start) (classes : AllByRecursion (IsDeclared s) s.program.classes)
       ∙ fold-roll-NumberedOperand n.Kind n.Kind n.Kind kind_step (λ e. e.form) (λ o. o.operand) (record { operator = operator; at = at; operand = v })
       ∙ operand_is e k h (sym unknown ∙ a) (sym (ap (operand s known) checked) ∙ b)
 
-  applied_number : (o : UnaryOperator) → n.applied_kind o (n.number widths.Int) ≡ n.number widths.Int
+  applied_number : (o : UnaryOperator) → n.applied_kind (result_width o) (n.number widths.Int) ≡ n.number widths.Int
   applied_number unary.Negative = refl
   applied_number unary.Not = refl
 
@@ -170,7 +171,7 @@ module _ (s : Start) (classes : AllByRecursion (IsDeclared s) s.program.classes)
         (held s (kind_of_field s (field_of s known x y)) (n.field_kind (classes_in s) (n.kind_at (local_kinds s locals) (local_number locals x)) field) (field_holds s classes locals known knows x y at a b))
     form_layer (f.Unary o e) k at a b =
         let v = (expression_of s locals (expression e) k).0 in
-        kind_is (nf.Unary o v) (nfo.Unary o v) (sym (nf.rolls-Unary o v)) ∙ ap (n.applied_kind o) (operand_is (expression e) k (of_expression e) a b) ∙ applied_number o
+        kind_is (nf.Unary o v) (nfo.Unary o v) (sym (nf.rolls-Unary o v)) ∙ ap (n.applied_kind (result_width o)) (operand_is (expression e) k (of_expression e) a b) ∙ applied_number o
     form_layer (f.Chain e others) k at a b = chain_layer e others k at a b
     form_layer (f.Compared e c g) k at a b =
         let v = expression_of s locals (expression e) k in
