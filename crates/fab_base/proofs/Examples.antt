@@ -1,5 +1,6 @@
 -- Worked examples of the definitions.
 use Rattle.std.proofs.Common.{◌≡◌, [], ◌∷◌, Some, None, refl, codes, pos, negsuc}
+use Rattle.std.specs.Int.{w32}
 use Rattle.fab_base.specs.Arith.{java_quotient}
 use Rattle.fab_base.specs.Tokens.{word_kind, front_at, sign_at, stands, unfit, Lexes, over, blank, token}
 use Rattle.fab_base.specs.declared.token.Mark.TheVariants as m
@@ -95,11 +96,11 @@ run_is_lexed = token refl (token refl (blank refl (token refl over)))
 
 -- ---- arithmetic
 
-least_by_minus_one : java_quotient (negsuc 2147483647) (negsuc 0) ≡ Some (negsuc 2147483647)
+least_by_minus_one : java_quotient w32 (negsuc 2147483647) (negsuc 0) ≡ Some (negsuc 2147483647)
 least_by_minus_one = refl
 
-toward_zero : java_quotient (negsuc 6) (pos 2) ≡ Some (negsuc 2)
+toward_zero : java_quotient w32 (negsuc 6) (pos 2) ≡ Some (negsuc 2)
 toward_zero = refl
 
-by_zero : java_quotient (pos 1) (pos 0) ≡ None
+by_zero : java_quotient w32 (pos 1) (pos 0) ≡ None
 by_zero = refl

@@ -79,6 +79,10 @@ mark_text m.To = codes "to"
 mark_text m.While = codes "while"
 mark_text m.Worker = codes "worker"
 
+-- the mark is a word that begins with this letter or a later one
+abbrev pub is_word_from : ℕ → Mark → Bool
+is_word_from first x = nat_le first (slice_index (mark_text x) 0) && nat_le (slice_index (mark_text x) 0) 122
+
 -- the signs, the longer ones first
 abbrev pub signs : List Mark
 signs =

@@ -26,7 +26,7 @@ pub fn java_mul(a: i32, b: i32) -> i32
 
 /// The quotient toward zero, which wraps; `None` at a zero divisor.
 pub fn java_div(a: i32, b: i32) -> Option<i32>
-    ensures { result ≡ java_quotient a b }
+    ensures { result ≡ java_quotient w32 a b }
 {
     if b == 0 {
         None

@@ -1,6 +1,7 @@
 -- Expressions: at a place that is seen the erased one follows the full one; at a hidden place nothing that is in view changes.
 use Rattle.std.proofs.Common.{◌≡◌, ℕ, zero, suc, List, [], ◌∷◌, ◌++◌, Option, Some, None, Bool, true, false, ◌&&◌, ℤ, pos, negsuc, if◌then◌else◌, map, refl, sym, ap, ◌∙◌, subst, true≢false}
 use Rattle.std.specs.Prelude.{slice_get, unwrap_or}
+use Rattle.std.specs.Int.{int_wrapping_div}
 use Rattle.std.specs.List.{list_all, flat_map, AllByRecursion}
 use Rattle.std.proofs.lemmas.Bool.{and_parts, and_from, eqb-true}
 use Rattle.fab_base.specs.Arith.{java_quotient}
@@ -8,6 +9,7 @@ use Rattle.fab_base.specs.declared.object.Oid.{Oid}
 use Rattle.fab_base.specs.declared.object.Object.{Object}
 use Rattle.fab_base.specs.declared.object.Value.{Value}
 use Rattle.fab_base.specs.declared.object.Value.TheVariants.{Int, Null, Ref}
+use Rattle.fab_base.specs.declared.object.Width.{Width}
 use Rattle.fab_base.specs.declared.object.Width.TheVariants as widths
 use Rattle.fab_tree.specs.declared.expression.Operator.{Operator}
 use Rattle.fab_tree.specs.declared.expression.Operator.TheVariants.{Or, And, Add, Subtract, Multiply, Divide}
@@ -25,7 +27,7 @@ use Rattle.fab_labelling.specs.Obligations as ob
 use Rattle.fab_labelling.specs.Obligations.{Owed, Tail, all_flow, all_fail, division, label_of_local, label_of_class, class_of_sort, class_of_local}
 use Rattle.fab_labelling.specs.declared.rule.LabelRule.{LabelRule}
 use Rattle.fab_labelling.specs.Sites.{form_sites, sites_in, all_sites}
-use Rattle.fab_language.specs.Meaning.{State, Run, goes, ends, M, and_then, gives, ◌>>=◌, local, read, access, field_of, int_of, truth, compares, operate, quotient, chained, form_step, value, applied}
+use Rattle.fab_language.specs.Meaning.{State, Run, goes, ends, M, and_then, gives, ◌>>=◌, local, read, access, field_of, int_of, joint, bits_of, number_in, calculated, outcome, truth, compares, operate, chained, form_step, value, applied}
 use Rattle.fab_laws.specs.Runs.{state_behind}
 use Rattle.fab_laws.specs.Kinds.{Kind, kind_of_sort}
 use Rattle.fab_laws.specs.Shapes.{suits, AllSuit, IsShaped}
@@ -323,20 +325,22 @@ module _ (sight : Sight) (view : IsLabelled sight.sees sight.shows sight.program
 
   -- ---- operators
 
-  quotients : (b : Bool) (i j k : ℤ) (s t : State) → Near s t → (b ≡ true → i ≡ j) → Beside (Same b) (quotient (java_quotient i k) s) (quotient (java_quotient j k) t)
-  quotients b i j (pos zero) s t m e = both_fail s t m.heap m.trace
-  quotients b i j (pos (suc k)) s t m e = both_go _ _ s t m (λ h. ap (λ z. Int (divided z)) (e h))
-    where
-      divided : ℤ → ℤ
-      divided z = unwrap_or (java_quotient z (pos (suc k))) (pos 0)
-  quotients b i j (negsuc k) s t m e = both_go _ _ s t m (λ h. ap (λ z. Int (divided z)) (e h))
-    where
-      divided : ℤ → ℤ
-      divided z = unwrap_or (java_quotient z (negsuc k)) (pos 0)
+  -- what is made of a value and another, whose number is this and isn't 0
+  abbrev wrapped_by : Value → ℤ → Value → Value
+  wrapped_by y k v = number_in (joint v y) (int_wrapping_div (bits_of (joint v y)) (int_of v) k)
 
-  quotient_hidden : (q : Option ℤ) (may : Type 0) (s : State) → IsShapedState s → may → Hides Whatever may s (quotient q s)
-  quotient_hidden None may s h f = let q = here s h in fell s q.heap q.trace f
-  quotient_hidden (Some k) may s h f = went (Int k) s (here s h) tt
+  -- what comes of two values where the number of the second is this
+  abbrev divided : Value → Value → ℤ → M Value
+  divided v y k = outcome (joint v y) (java_quotient (bits_of (joint v y)) (int_of v) k)
+
+  quotients : (b : Bool) (v w y : Value) (k : ℤ) (s t : State) → Near s t → (b ≡ true → v ≡ w) → Beside (Same b) (divided v y k s) (divided w y k t)
+  quotients b v w y (pos zero) s t m e = both_fail s t m.heap m.trace
+  quotients b v w y (pos (suc k)) s t m e = both_go _ _ s t m (λ h. ap (wrapped_by y (pos (suc k))) (e h))
+  quotients b v w y (negsuc k) s t m e = both_go _ _ s t m (λ h. ap (wrapped_by y (negsuc k)) (e h))
+
+  outcome_hidden : (w : Width) (q : Option ℤ) (may : Type 0) (s : State) → IsShapedState s → may → Hides Whatever may s (outcome w q s)
+  outcome_hidden w None may s h f = let q = here s h in fell s q.heap q.trace f
+  outcome_hidden w (Some k) may s h f = went (number_in w k) s (here s h) tt
 
   module _ (u : Tail) (pc : List ℕ) (F : Option ℕ) where
     abbrev divides : List Owed
@@ -352,8 +356,8 @@ module _ (sight : Sight) (view : IsLabelled sight.sees sight.shows sight.program
     operates Divide e k g b c l v w y z s t m h i =
         let d = both_seen sight.sees pc u.part.labels (fail_seen sight.sees sight.shows sight.program u.at (pc ++ u.part.labels) F k g) in
         let same : y ≡ z = i (l ∙ d.1) in
-        subst (λ x. Beside (Same (b && c)) (quotient (java_quotient (int_of v) (int_of y)) s) (quotient (java_quotient (int_of w) (int_of x)) t)) same
-        (quotients (b && c) (int_of v) (int_of w) (int_of y) s t m (λ j. ap int_of (h (and_parts b c j).0)))
+        subst (λ x. Beside (Same (b && c)) (divided v y (int_of y) s) (divided w x (int_of x) t)) same
+        (quotients (b && c) v w y (int_of y) s t m (λ j. h (and_parts b c j).0))
 
     operate_hidden : (o : Operator) → Owes (division o u.at (pc ++ u.part.labels) F) → list_all sight.sees pc ≡ false → (v w : Value) (s : State) → IsShapedState s
         → Hides Whatever (MayFail sight.sees F) s (operate o v w s)
@@ -362,7 +366,7 @@ module _ (sight : Sight) (view : IsLabelled sight.sees sight.shows sight.program
     operate_hidden Add k e v w s h = went _ s (here s h) tt
     operate_hidden Subtract k e v w s h = went _ s (here s h) tt
     operate_hidden Multiply k e v w s h = went _ s (here s h) tt
-    operate_hidden Divide k e v w s h = quotient_hidden (java_quotient (int_of v) (int_of w)) (MayFail sight.sees F) s h
+    operate_hidden Divide k e v w s h = outcome_hidden (joint v w) (calculated (bits_of (joint v w)) Divide (int_of v) (int_of w)) (MayFail sight.sees F) s h
         (fail_hidden sight.sees sight.shows sight.program u.at (pc ++ u.part.labels) F k (none_seen sight.sees pc u.part.labels e))
 
   -- ---- chains and trees

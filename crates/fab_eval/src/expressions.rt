@@ -2,11 +2,9 @@
 ghost use Rattle.std.specs.Prelude.{◌≡◌, Ok, IfSome, map};
 ghost use Rattle.fab_language.specs.Meaning.{chained, operate, value, values};
 ghost use Rattle.fab_stack.specs.Gives.{Gives};
-ghost use Rattle.fab_stack.specs.Points.{Point};
 
 use fab_base::{Seq, Value};
 use fab_stack::{End, Halt, State};
-use fab_tree::Operator;
 use fab_tree::resolved::{Expression, Form, Operand};
 use fab_values::{applied, compares, operate, truth};
 
@@ -84,19 +82,9 @@ fn chained(state: &mut State<'_>, others: &[Operand], first: Value) -> Result<Va
             Some(w) => w,
             None => value(state, &other.operand)?,
         };
-        v = operated(other.operator, v, w)?;
+        v = operate(other.operator, v, w).ok_or(Halt::Ended(End::Failed))?;
     }
     Ok(v)
-}
-
-/// What an operator makes of two values, or a failure.
-fn operated(operator: Operator, left: Value, right: Value) -> Result<Value, Halt>
-    ensures { (p : Point) → Gives result p (operate operator left right p.state) }
-{
-    match operate(operator, left, right) {
-        Some(value) => Ok(value),
-        None => Err(Halt::Ended(End::Failed)),
-    }
 }
 
 /// The values of arguments, from the left.

@@ -3,17 +3,16 @@ use Rattle.std.proofs.Common.{◌≡◌, ℕ, zero, suc, ◌-◌, List, [], ◌�
 use Rattle.std.specs.Prelude.{slice_get, unwrap_or}
 use Rattle.std.specs.List.{list_all, list_any, flat_map, AllByRecursion}
 use Rattle.std.proofs.lemmas.Bool.{and_from, eqb-true}
-use Rattle.fab_base.specs.Arith.{java_quotient}
 use Rattle.fab_base.specs.declared.object.Oid.{Oid}
 use Rattle.fab_base.specs.declared.object.Object.{Object}
 use Rattle.fab_base.specs.declared.object.Tid.{Tid}
 use Rattle.fab_base.specs.declared.object.Value.{Value}
 use Rattle.fab_base.specs.declared.object.Value.TheVariants.{Int, Null, Ref}
 use Rattle.fab_base.specs.declared.object.Stop.TheVariants.{Fuel}
+use Rattle.fab_base.specs.declared.object.Width.{Width}
 use Rattle.fab_base.specs.declared.object.Width.TheVariants as widths
 use Rattle.fab_base.specs.FlatMap.{get}
 use Rattle.fab_tree.specs.declared.expression.Operator.{Operator}
-use Rattle.fab_tree.specs.declared.expression.Operator.TheVariants.{Or, And, Add, Subtract, Multiply, Divide}
 use Rattle.fab_tree.specs.declared.resolved.Use.{Use}
 use Rattle.fab_tree.specs.declared.resolved.Sort.{Sort}
 use Rattle.fab_tree.specs.declared.resolved.Sort.TheVariants as sorts
@@ -38,7 +37,7 @@ use Rattle.fab_labelling.specs.Sites.{Sited, all_under, form_sites, sites_in, al
 use Rattle.fab_language.specs.Heaps.{Heap, found, full, reach_in, reach_before, is_among, touched, noted, is_full, replaced, created}
 use Rattle.fab_language.specs.Meaning.{State, End, failed, stopped, missing, Run, goes, ends, M, and_then, gives, ◌>>=◌, ◌>>◌, charge, local, assign, reached, access, field_of}
 use Rattle.fab_language.specs.Meaning.{with_field, read, write, replace, settled, next_name, create, noted_down}
-use Rattle.fab_language.specs.Meaning.{int_of, holds, operate, quotient, chained, form_step, value, values, in_order, turns, or_else, atomically, right, statement_step, statement}
+use Rattle.fab_language.specs.Meaning.{int_of, joint, bits_of, number_in, calculated, outcome, holds, operate, chained, form_step, value, values, in_order, turns, or_else, atomically, right, statement_step, statement}
 use Rattle.fab_language.specs.Meaning.{block, returned, body_of, locals_at_start, back_with, entered, called}
 use Rattle.fab_laws.specs.Changes.{has_pair}
 use Rattle.fab_laws.specs.Kinds as kinds
@@ -193,17 +192,12 @@ module _ (sees shows : ℕ → Bool) (r : Resolved) (tid : Tid) where
     local_reads : (x : ℕ) → Reads (local x)
     local_reads x = record { still = λ t l. l; fair = λ t l g. g }
 
-    quotients : (n : Option ℤ) → Reads (quotient n)
-    quotients None = fails
-    quotients (Some n) = given (Int n)
+    outcomes : (w : Width) (n : Option ℤ) → Reads (outcome w n)
+    outcomes w None = fails
+    outcomes w (Some n) = given (number_in w n)
 
     operates : (o : Operator) (a b : Value) → Reads (operate o a b)
-    operates Or a b = given _
-    operates And a b = given _
-    operates Add a b = given _
-    operates Subtract a b = given _
-    operates Multiply a b = given _
-    operates Divide a b = quotients (java_quotient (int_of a) (int_of b))
+    operates o a b = outcomes (joint a b) (calculated (bits_of (joint a b)) o (int_of a) (int_of b))
 
     -- an object is reached through a local at a site
     abbrev Reaches : ℕ → ℕ → Type 0

@@ -9,5 +9,6 @@ mod MethodNumberExamples
 mod NumberExamples
 pub mod Named
 pub mod NumberedForms
+mod OneWidth
 pub mod Touches
 pub mod Weights

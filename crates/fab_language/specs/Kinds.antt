@@ -52,6 +52,24 @@ are_comparable nothing (object y) = true
 are_comparable nothing nothing = false
 are_comparable nothing unknown = true
 
+-- ---- what operators ask for and give
+
+-- whether an operand may be it: a number of any width, or what isn't known
+abbrev pub is_numeric : Kind → Bool
+is_numeric (number w) = true
+is_numeric unknown = true
+is_numeric _ = false
+
+-- what an operator gives whose first operand is this, and what its later operands are given to; it is an `int` where that is no number
+abbrev pub numeric_kind : Kind → Kind
+numeric_kind (number w) = number w
+numeric_kind _ = number widths.Int
+
+-- what an operator gives that stands in front of an operand of this kind: a number of the width that it gives, if it gives one of its own
+abbrev pub applied_kind : Option Width → Kind → Kind
+applied_kind None k = numeric_kind k
+applied_kind (Some w) k = number w
+
 -- ---- what names stand for
 
 module _ (s : Start) where

@@ -5,7 +5,7 @@
 -- limit, comes exactly where the rules put it, and what was touched before stands in the state. Calls recurse on
 -- the depth that is left, loops on the fuel that is left.
 use Rattle.std.specs.Prelude.{ℕ, zero, suc, ◌-◌, ◌==◌, Bool, true, false, not, if◌then◌else◌, ℤ, pos, negsuc, int_le, int_lt, ◌+ℤ◌, ◌-ℤ◌, ◌*ℤ◌, List, [], ◌∷◌, ◌++◌, map, length, drop, Option, Some, None, slice_get, slice_set, unwrap_or}
-use Rattle.std.specs.Int.{w32, int_wrap, int_bit_and, int_bit_or}
+use Rattle.std.specs.Int.{Width as Bits, w32, int_wrap, int_bit_and, int_bit_or}
 use Rattle.std.specs.Ordering.{int_eq}
 use Rattle.fab_base.specs.declared.object.Oid.{Oid}
 use Rattle.fab_base.specs.declared.object.Object.{Object}
@@ -161,10 +161,33 @@ noted_down site v t = goes v (record t { downs = t.downs ++ (site, v) ∷ [] })
 
 -- ---- values
 
+-- the number that a value is, whatever its width; what is none counts as 0
 abbrev pub int_of : Value → ℤ
 int_of (Int n) = n
 int_of Null = pos 0
 int_of (Ref o) = pos 0
+
+-- how wide the number is that a value is; what is none is as wide as the least
+abbrev pub width_in : Value → Width
+width_in (Int n) = widths.Int
+width_in Null = widths.Int
+width_in (Ref o) = widths.Int
+
+-- the greater of two widths
+abbrev pub wider : Width → Width → Width
+wider widths.Int w = w
+
+-- the width of what an operator makes of two values
+abbrev pub joint : Value → Value → Width
+joint a b = wider (width_in a) (width_in b)
+
+-- how many bits a number of a width has
+abbrev pub bits_of : Width → Bits
+bits_of widths.Int = w32
+
+-- a number of a width as a value
+abbrev pub number_in : Width → ℤ → Value
+number_in widths.Int n = Int n
 
 -- a condition is true where its number isn't 0
 abbrev pub holds : Value → Bool
@@ -192,32 +215,32 @@ compares LessEqual a b = int_le (int_of a) (int_of b)
 compares Greater a b = int_lt (int_of b) (int_of a)
 compares GreaterEqual a b = int_le (int_of b) (int_of a)
 
--- a number that wraps at 32 bits
-abbrev pub wrapped : ℤ → Value
-wrapped n = Int (int_wrap w32 n)
-
--- the number with its sign changed
+-- the number with its sign changed, as wide as it is
 abbrev pub negated : Value → Value
-negated a = wrapped (pos 0 -ℤ int_of a)
-
--- a quotient, if there is one
-abbrev pub quotient : Option ℤ → M Value
-quotient None = ends failed
-quotient (Some n) = gives (Int n)
+negated a = number_in (width_in a) (int_wrap (bits_of (width_in a)) (pos 0 -ℤ int_of a))
 
 -- what an operator in front of its operand makes of it
 abbrev pub applied : UnaryOperator → Value → Value
 applied unary.Negative a = negated a
 applied unary.Not a = truth (not (holds a))
 
--- what an operator makes of two values; `Or` and `And` work on the 32 bits, and a zero divisor fails
+-- what an operator makes of two numbers of so many bits, `Or` and `And` on these bits; a zero divisor gives none, whatever is divided
+abbrev pub calculated : Bits → Operator → ℤ → ℤ → Option ℤ
+calculated w Or x y = Some (int_bit_or w x y)
+calculated w And x y = Some (int_bit_and w x y)
+calculated w Add x y = Some (int_wrap w (x +ℤ y))
+calculated w Subtract x y = Some (int_wrap w (x -ℤ y))
+calculated w Multiply x y = Some (int_wrap w (x *ℤ y))
+calculated w Divide x y = java_quotient w x y
+
+-- a number of a width comes out, if there is one
+abbrev pub outcome : Width → Option ℤ → M Value
+outcome w None = ends failed
+outcome w (Some n) = gives (number_in w n)
+
+-- what an operator makes of two values: a number of the greater of their widths
 abbrev pub operate : Operator → Value → Value → M Value
-operate Or a b = gives (Int (int_bit_or w32 (int_of a) (int_of b)))
-operate And a b = gives (Int (int_bit_and w32 (int_of a) (int_of b)))
-operate Add a b = gives (wrapped (int_of a +ℤ int_of b))
-operate Subtract a b = gives (wrapped (int_of a -ℤ int_of b))
-operate Multiply a b = gives (wrapped (int_of a *ℤ int_of b))
-operate Divide a b = quotient (java_quotient (int_of a) (int_of b))
+operate o a b = outcome (joint a b) (calculated (bits_of (joint a b)) o (int_of a) (int_of b))
 
 -- ---- expressions, each from what its parts mean
 
@@ -344,13 +367,9 @@ module _ (tid : Tid) (call : ℕ → List Value → M (Option Value)) where
 
 -- ---- calls, at most so many deep
 
--- 0 as a number of a width
-abbrev pub zero_of : Width → Value
-zero_of widths.Int = Int (pos 0)
-
 -- what a local holds before it is assigned
 abbrev pub default : Sort → Value
-default (sorts.Number w) = zero_of w
+default (sorts.Number w) = number_in w (pos 0)
 default (sorts.Class class) = Null
 
 -- a method's locals at its start: what it is given, and then each other local's default

@@ -3,6 +3,7 @@
 -- The place is that of the value's first token. No fault comes where one of the types isn't known.
 use Rattle.std.specs.Prelude.{ℕ, Bool, true, false, List, [], ◌∷◌, ◌++◌, map, Option, Some, None}
 use Rattle.std.specs.List.{flat_map}
+use Rattle.fab_base.specs.declared.object.Width.{Width}
 use Rattle.fab_base.specs.declared.object.Width.TheVariants as widths
 use Rattle.fab_tree.specs.declared.name.Name.{Name}
 use Rattle.fab_tree.specs.declared.declaration.Class.{Class}
@@ -20,11 +21,12 @@ use Rattle.fab_tree.specs.declared.start.Root.{Root}
 use Rattle.fab_tree.specs.declared.start.RequestText.{RequestText}
 use Rattle.fab_tree.specs.declared.start.Session.{Session}
 use Rattle.fab_tree.specs.declared.start.Start.{Start}
+use Rattle.fab_tree.specs.Marks.{operand_width, result_width}
 use Rattle.fab_tree.specs.Numbers.{width_of}
 use Rattle.fab_language.specs.declared.rule.Fault.{Fault}
 use Rattle.fab_language.specs.declared.rule.NameRule.TheVariants.{Typing}
 use Rattle.fab_language.specs.Heads.{Locals, Head, declare, assign, write, call, test, atomic, result, heads_of}
-use Rattle.fab_language.specs.Kinds.{Kind, number, object, nothing, unknown, takes, are_comparable, class_of, method_of, kind_of_class, kind_of_sort, kind_of_local, kind_of_field, kind_of_returns, kind_of_literal, fields_of, local_of, field_of}
+use Rattle.fab_language.specs.Kinds.{Kind, number, object, nothing, unknown, takes, are_comparable, is_numeric, numeric_kind, applied_kind, class_of, method_of, kind_of_class, kind_of_sort, kind_of_local, kind_of_field, kind_of_returns, kind_of_literal, fields_of, local_of, field_of}
 
 abbrev pub if_so : Bool → ℕ → List Fault
 if_so true at = []
@@ -68,6 +70,19 @@ pub record Checked : Type 0 where
   pub value : Typed
   pub faults : List Fault
 
+-- an operand that is to be a number
+abbrev pub numeric : Checked → List Fault
+numeric x = x.faults ++ if_so (is_numeric x.value.kind) x.value.at
+
+-- an operand behind the first, which is of this kind
+abbrev pub later : Kind → Checked → List Fault
+later first x = x.faults ++ given_to (numeric_kind first) x.value
+
+-- the operand behind an operator, which asks for this width
+abbrev pub under : Option Width → Checked → List Fault
+under None x = numeric x
+under (Some w) x = x.faults ++ given_to (number w) x.value
+
 module _ (s : Start) where
   abbrev pub parameter_kinds : Option Method → List Kind
   parameter_kinds None = []
@@ -87,13 +102,9 @@ module _ (s : Start) where
     abbrev pub value_of : ℕ → Kind → List Fault → Checked
     value_of at kind faults = record { value = record { kind = kind; at = at }; faults = faults }
 
-    -- an operand that is to be a number
-    abbrev pub operand : Checked → List Fault
-    operand x = x.faults ++ given_to (number widths.Int) x.value
-
     abbrev pub comparison : ℕ → Bool → Checked → Checked → List Fault
     comparison at true a b = a.faults ++ b.faults ++ if_so (are_comparable a.value.kind b.value.kind) at
-    comparison at false a b = operand a ++ operand b
+    comparison at false a b = numeric a ++ later a.value.kind b
 
     -- what an expression at this place is
     abbrev pub in_form : f.Form-F (ℕ → Checked) Checked Checked → ℕ → Checked
@@ -101,8 +112,8 @@ module _ (s : Start) where
     in_form f.Null at = value_of at nothing []
     in_form (f.Local x) at = value_of at (local_kind x) []
     in_form (f.Read x y) at = value_of at (kind_of_field s (field_of s known x y)) (in_reach x at)
-    in_form (f.Unary o e) at = value_of at (number widths.Int) (operand e)
-    in_form (f.Chain e others) at = value_of at (number widths.Int) (operand e ++ flat_map operand others)
+    in_form (f.Unary o e) at = value_of at (applied_kind (result_width o) e.value.kind) (under (operand_width o) e)
+    in_form (f.Chain e others) at = value_of at (numeric_kind e.value.kind) (numeric e ++ flat_map (later e.value.kind) others)
     in_form (f.Compared a how b) at = value_of at (number widths.Int) (comparison at (asks_same how) a b)
 
     abbrev pub checked : Expression → Checked

@@ -5,15 +5,14 @@
 -- is shown. Of types, and of what a state has, nothing is known here: a law that wants these is an instance of `Walk`.
 use Rattle.std.proofs.Common.{◌≡◌, ℕ, zero, suc, List, [], ◌∷◌, Option, Some, None, ℤ, Bool, true, false, if◌then◌else◌, map, refl, subst}
 use Rattle.std.specs.Prelude.{slice_get, unwrap_or}
-use Rattle.fab_base.specs.Arith.{java_quotient}
 use Rattle.fab_base.specs.declared.object.Oid.{Oid}
 use Rattle.fab_base.specs.declared.object.Tid.{Tid}
 use Rattle.fab_base.specs.declared.object.Value.{Value}
 use Rattle.fab_base.specs.declared.object.Value.TheVariants.{Int, Null, Ref}
+use Rattle.fab_base.specs.declared.object.Width.{Width}
 use Rattle.fab_base.specs.declared.object.Stop.{Stop}
 use Rattle.fab_base.specs.declared.object.Stop.TheVariants.{Fuel, Depth}
 use Rattle.fab_tree.specs.declared.expression.Operator.{Operator}
-use Rattle.fab_tree.specs.declared.expression.Operator.TheVariants.{Or, And, Add, Subtract, Multiply, Divide}
 use Rattle.fab_tree.specs.declared.resolved.Expression.{Expression, ind-Expression, roll-Expression, fold-roll-Expression, map-Expression}
 use Rattle.fab_tree.specs.declared.resolved.Form.{Form, roll-Form, fold-roll-Form, map-Form}
 use Rattle.fab_tree.specs.declared.resolved.Form.TheOpen as f
@@ -25,8 +24,8 @@ use Rattle.fab_tree.specs.declared.resolved.Statement.TheOpen as s
 use Rattle.fab_tree.specs.declared.resolved.Return.{Return}
 use Rattle.fab_tree.specs.declared.resolved.Method.{Method}
 use Rattle.fab_tree.specs.declared.resolved.Resolved.{Resolved}
-use Rattle.fab_language.specs.Meaning.{failed, stopped, ends, M, gives, ◌>>=◌, ◌>>◌, charge, local, assign, read, write, create, noted_down, int_of, holds, quotient, led}
-use Rattle.fab_language.specs.Meaning.{operate, chained}
+use Rattle.fab_language.specs.Meaning.{failed, stopped, ends, M, gives, ◌>>=◌, ◌>>◌, charge, local, assign, read, write, create, noted_down, holds, led}
+use Rattle.fab_language.specs.Meaning.{int_of, joint, bits_of, number_in, calculated, outcome, operate, chained}
 use Rattle.fab_language.specs.Meaning.{form_step, form_value, operand_value, value, values, in_order, turns, loop, atomically, right, statement_step, statement, block}
 use Rattle.fab_language.specs.Meaning.{returned, body_of, locals_at_start, back_with, entered, called}
 use Rattle.fab_base.specs.Values.{referred}
@@ -66,17 +65,12 @@ module _ (K : (A : Type 0) → M A → Type 0) (Spot : ℕ → Type 0) (shows : 
     pub seq : {A B : Type 0} (m : M A) (n : M B) → K A m → K B n → K B (m >> n)
     seq m n h k = of.bound m (λ _. n) h (λ _. k)
 
-    quotients : (n : Option ℤ) → K Value (quotient n)
-    quotients None = of.fell
-    quotients (Some n) = of.given (Int n)
+    outcomes : (w : Width) (n : Option ℤ) → K Value (outcome w n)
+    outcomes w None = of.fell
+    outcomes w (Some n) = of.given (number_in w n)
 
     pub operates : (o : Operator) (a b : Value) → K Value (operate o a b)
-    operates Or a b = of.given _
-    operates And a b = of.given _
-    operates Add a b = of.given _
-    operates Subtract a b = of.given _
-    operates Multiply a b = of.given _
-    operates Divide a b = quotients (java_quotient (int_of a) (int_of b))
+    operates o a b = outcomes (joint a b) (calculated (bits_of (joint a b)) o (int_of a) (int_of b))
 
     abbrev pub EachOperand : List (Operator × M Value) → Type 0
     EachOperand [] = Unit {0}

@@ -27,6 +27,7 @@ use Rattle.fab_tree.specs.declared.resolved.Right.{Right}
 use Rattle.fab_tree.specs.declared.resolved.Right.TheVariants as rights
 use Rattle.fab_tree.specs.declared.resolved.Statement.{Statement, roll-Statement, fold-roll-Statement, map-Statement}
 use Rattle.fab_tree.specs.declared.resolved.Statement.TheOpen as s
+use Rattle.fab_tree.specs.Marks.{result_width}
 use Rattle.fab_laws.specs.Kinds.{Kind, number, object, nothing, joined, applied_kind, kind_at, field_kind, Claim, form_kind, kind_of, statement_claims, statement_claims_step}
 use Rattle.fab_laws.specs.Shapes.{suits, is_met}
 use Rattle.fab_laws.specs.Changes.{AreMade, IsNext}
@@ -117,7 +118,7 @@ sum_of_three_kind x y z =
     layer_kind (f.Chain x (summand y ∷ summand z ∷ []))
     ∙ ap (λ k. joined (joined (kind x) k) (operand_kind (summand z))) (summand_kind y) ∙ ap (joined (joined (kind x) (kind y))) (summand_kind z)
 
-applied_is : (o : UnaryOperator) (x : Expression) → kind (applied o x) ≡ applied_kind o (kind x)
+applied_is : (o : UnaryOperator) (x : Expression) → kind (applied o x) ≡ applied_kind (result_width o) (kind x)
 applied_is o x = layer_kind (f.Unary o x)
 
 same_kind : (x y : Expression) → kind (same x y) ≡ number widths.Int

@@ -2,7 +2,7 @@
 --
 -- A law gives what holds of a state, what is had of a value of a kind, how a later state follows an earlier one,
 -- which objects are missing, and which claims of the program are met; then it shows that each step keeps these.
-use Rattle.std.proofs.Common.{◌≡◌, ℕ, zero, suc, ◌-◌, List, [], ◌∷◌, ◌++◌, length, Option, Some, None, ℤ, Bool, true, false, ◌==◌, cond, if◌then◌else◌, map, refl, sym, ap, subst, arith}
+use Rattle.std.proofs.Common.{◌≡◌, ℕ, zero, suc, ◌-◌, List, [], ◌∷◌, ◌++◌, length, Option, Some, None, ℤ, Bool, true, false, ◌==◌, cond, if◌then◌else◌, map, refl, sym, ap, subst, ◌∙◌, true≢false, arith}
 use Rattle.std.specs.Prelude.{slice_get, slice_set, unwrap_or}
 use Rattle.std.specs.List.{AllByRecursion, flat_map}
 use Rattle.fab_base.proofs.Lists.{all_split}
@@ -19,7 +19,6 @@ use Rattle.fab_tree.specs.declared.expression.Number.{Number}
 use Rattle.fab_tree.specs.declared.expression.Number.TheVariants as numbers
 use Rattle.fab_tree.specs.declared.expression.UnaryOperator.{UnaryOperator}
 use Rattle.fab_tree.specs.declared.expression.Operator.{Operator}
-use Rattle.fab_tree.specs.declared.expression.Operator.TheVariants.{Or, And, Add, Subtract, Multiply, Divide}
 use Rattle.fab_tree.specs.declared.resolved.Expression.{Expression, ind-Expression, roll-Expression, fold-roll-Expression, map-Expression}
 use Rattle.fab_tree.specs.declared.resolved.Form.{Form, fold-Form, roll-Form, fold-roll-Form, map-Form}
 use Rattle.fab_tree.specs.declared.resolved.Form.TheOpen as f
@@ -34,12 +33,13 @@ use Rattle.fab_tree.specs.declared.resolved.Resolved.{Resolved}
 use Rattle.fab_tree.specs.declared.expression.UnaryOperator.TheVariants as unary
 use Rattle.fab_language.specs.Heaps.{Heap, full, found, reach_in, reach_before, is_among, is_full, touched, noted, with_row, is_changed, is_spent}
 use Rattle.fab_language.specs.Meaning.{State, End, failed, stopped, missing, Run, goes, ends, M, and_then, gives, ◌>>=◌, ◌>>◌, charge, local, assign, reached, access, field_of, with_field, read, settled, replace, write, applied}
-use Rattle.fab_language.specs.Meaning.{next_name, create, noted_down, holds, quotient, operate, chained, form_step, value, values, in_order, turns, or_else, atomically, right, statement_step, statement, block, returned, body_of, locals_at_start, back_with, entered, called}
+use Rattle.fab_language.specs.Meaning.{next_name, create, noted_down, holds, int_of, width_in, wider, joint, bits_of, number_in, calculated, outcome, operate, chained, form_step, value, values, in_order, turns, or_else, atomically, right, statement_step, statement, block, returned, body_of, locals_at_start, back_with, entered, called}
 use Rattle.fab_laws.specs.Kinds.{Kind, number, object, nothing, unknown, kind_at, class_kinds, field_kind, local_kinds, parameter_kinds, returns_kind, result_kind}
 use Rattle.fab_laws.specs.Kinds.{Claim, given, counted, made, each_given, all_given, joined, chain_kind, applied_kind, form_kind, kind_of, right_kind, right_claims, call_claims, all_of, statement_claims_step, statement_claims, block_claims, returned_kind, method_claims}
 use Rattle.fab_laws.proofs.Names.{with_written, with_new}
 use Rattle.fab_laws.proofs.Values.{all_any}
 use Rattle.fab_base.specs.Values.{is_number_of}
+use Rattle.fab_tree.specs.Marks.{result_width}
 use Rattle.fab_tree.specs.Numbers.{width_of, number_value}
 
 -- each claim of a method of a program
@@ -65,14 +65,36 @@ pub record IsJoined (a b v : Value) : Type 0 where
   pub is_one : is_number_of width v ≡ true
   pub as_both : (w : Width) → is_number_of w a ≡ true → is_number_of w b ≡ true → is_number_of w v ≡ true
 
-int_joined : (a b : Value) (n : ℤ) → IsJoined a b (Int n)
-int_joined a b n = record { width = widths.Int; is_one = refl; as_both = λ w p q. as_wide w }
-  where
-    as_wide : (w : Width) → is_number_of w (Int n) ≡ true
-    as_wide widths.Int = refl
+is_in : (w : Width) (n : ℤ) → is_number_of w (number_in w n) ≡ true
+is_in widths.Int n = refl
+
+width_told : (w : Width) (v : Value) → is_number_of w v ≡ true → width_in v ≡ w
+width_told widths.Int (Int n) e = refl
+width_told widths.Int Null e = absurd (true≢false (sym e))
+width_told widths.Int (Ref o) e = absurd (true≢false (sym e))
+
+wider_itself : (w : Width) → wider w w ≡ w
+wider_itself widths.Int = refl
+
+joint_told : (w : Width) (a b : Value) → is_number_of w a ≡ true → is_number_of w b ≡ true → joint a b ≡ w
+joint_told w a b p q = ap (λ v. wider v (width_in b)) (width_told w a p) ∙ ap (wider w) (width_told w b q) ∙ wider_itself w
+
+number_joined : (a b : Value) (n : ℤ) → IsJoined a b (number_in (joint a b) n)
+number_joined a b n = record {
+  width = joint a b;
+  is_one = is_in (joint a b) n;
+  as_both = λ w p q. subst (λ v. is_number_of w (number_in v n) ≡ true) (sym (joint_told w a b p q)) (is_in w n);
+}
+
+number_negated : (a : Value) (n : ℤ) → IsJoined a a (number_in (width_in a) n)
+number_negated a n = record {
+  width = width_in a;
+  is_one = is_in (width_in a) n;
+  as_both = λ w p q. subst (λ v. is_number_of w (number_in v n) ≡ true) (sym (width_told w a p)) (is_in w n);
+}
 
 -- a negative is of the kind of what is joined to one of its own kind
-joined_itself : (k : Kind) → joined k k ≡ applied_kind unary.Negative k
+joined_itself : (k : Kind) → joined k k ≡ applied_kind None k
 joined_itself (number widths.Int) = refl
 joined_itself (object class) = refl
 joined_itself nothing = refl
@@ -284,25 +306,14 @@ module _ (program : Resolved) (tid : Tid) (Holds : List Kind → State → Type 
       gives_local x = record { by = λ t h. done ls t (λ u. Has u (kind_at ls x)) _ h (kept.at_local ls t x h) }
 
       operates : (o : Operator) (k l : Kind) (a b : Value) (t : State) → Holds ls t → Has t k a → Has t l b → Result ls t (λ u. Has u (joined k l)) (operate o a b t)
-      operates o k l a b t h p q = by o
+      operates o k l a b t h p q = comes (calculated (bits_of (joint a b)) o (int_of a) (int_of b))
         where
-          made : (n : ℤ) → Result ls t (λ u. Has u (joined k l)) (goes (Int n) t)
-          made n = done ls t (λ u. Has u (joined k l)) (Int n) h (kept.operated t k l a b (Int n) (int_joined a b n) p q)
+          comes : (n : Option ℤ) → Result ls t (λ u. Has u (joined k l)) (outcome (joint a b) n t)
+          comes None = over ls t _ failed h tt
+          comes (Some n) = done ls t (λ u. Has u (joined k l)) (number_in (joint a b) n) h (kept.operated t k l a b (number_in (joint a b) n) (number_joined a b n) p q)
 
-          divided : (n : Option ℤ) → Result ls t (λ u. Has u (joined k l)) (quotient n t)
-          divided None = over ls t _ failed h tt
-          divided (Some n) = made n
-
-          by : (o : Operator) → Result ls t (λ u. Has u (joined k l)) (operate o a b t)
-          by Or = made _
-          by And = made _
-          by Add = made _
-          by Subtract = made _
-          by Multiply = made _
-          by Divide = divided _
-
-      applies : (o : UnaryOperator) (k : Kind) (v : Value) (t : State) → Has t k v → Has t (applied_kind o k) (applied o v)
-      applies unary.Negative k v t p = subst (λ l. Has t l (applied unary.Negative v)) (joined_itself k) (kept.operated t k k v v (applied unary.Negative v) (int_joined v v _) p p)
+      applies : (o : UnaryOperator) (k : Kind) (v : Value) (t : State) → Has t k v → Has t (applied_kind (result_width o) k) (applied o v)
+      applies unary.Negative k v t p = subst (λ l. Has t l (applied unary.Negative v)) (joined_itself k) (kept.operated t k k v v (applied unary.Negative v) (number_negated v _) p p)
       applies unary.Not k v t p = kept.of_number t widths.Int (applied unary.Not v) refl
 
       -- a truth from a value, whatever it is
@@ -366,8 +377,8 @@ module _ (program : Resolved) (tid : Tid) (Holds : List Kind → State → Type 
       }
       by_form (f.Unary o x) = record {
         by = λ t h.
-            run_then ls t (λ u. Has u (kind x.0)) (λ u. Has u (applied_kind o (kind x.0))) (value x.0 t) (λ v. gives (applied o v)) (x.1.by t h) (λ v u n i.
-            done ls u (λ w. Has w (applied_kind o (kind x.0))) (applied o v) n.holds (applies o (kind x.0) v u i));
+            run_then ls t (λ u. Has u (kind x.0)) (λ u. Has u (applied_kind (result_width o) (kind x.0))) (value x.0 t) (λ v. gives (applied o v)) (x.1.by t h) (λ v u n i.
+            done ls u (λ w. Has w (applied_kind (result_width o) (kind x.0))) (applied o v) n.holds (applies o (kind x.0) v u i));
       }
       by_form (f.Chain x others) = record {
         by = λ t h.

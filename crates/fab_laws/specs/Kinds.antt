@@ -6,8 +6,6 @@ use Rattle.fab_base.specs.declared.object.Width.{Width}
 use Rattle.fab_base.specs.declared.object.Width.TheVariants as widths
 use Rattle.std.specs.Prelude.{ℕ, Bool, true, false, ◌==◌, List, [], ◌∷◌, ◌++◌, map, length, take, Option, Some, None, slice_get, unwrap_or, if◌then◌else◌}
 use Rattle.std.specs.List.{flat_map}
-use Rattle.fab_tree.specs.declared.expression.UnaryOperator.{UnaryOperator}
-use Rattle.fab_tree.specs.declared.expression.UnaryOperator.TheVariants as unary
 use Rattle.fab_tree.specs.declared.resolved.Sort.{Sort}
 use Rattle.fab_tree.specs.declared.resolved.Sort.TheVariants as sorts
 use Rattle.fab_tree.specs.declared.resolved.Class.{Class}
@@ -21,6 +19,7 @@ use Rattle.fab_tree.specs.declared.resolved.Return.{Return}
 use Rattle.fab_tree.specs.declared.resolved.Returns.{Returns}
 use Rattle.fab_tree.specs.declared.resolved.Method.{Method}
 use Rattle.fab_tree.specs.declared.resolved.Resolved.{Resolved}
+use Rattle.fab_tree.specs.Marks.{result_width}
 use Rattle.fab_tree.specs.Numbers.{width_of}
 use Rattle.fab_language.specs.Kinds.{is_same_width}
 
@@ -58,11 +57,11 @@ abbrev pub chain_kind : Kind → List Kind → Kind
 chain_kind first [] = first
 chain_kind first (k ∷ ks) = chain_kind (joined first k) ks
 
--- the negative of a number is as wide, and `!` gives a truth whatever its operand is
-abbrev pub applied_kind : UnaryOperator → Kind → Kind
-applied_kind unary.Negative (number w) = number w
-applied_kind unary.Negative _ = unknown
-applied_kind unary.Not _ = number widths.Int
+-- an operator in front of its operand gives a number of its own width, if it has one, and else one as wide as the operand is
+abbrev pub applied_kind : Option Width → Kind → Kind
+applied_kind (Some w) _ = number w
+applied_kind None (number w) = number w
+applied_kind None _ = unknown
 
 -- ---- what numbers stand for
 
@@ -121,7 +120,7 @@ module _ (classes : List Class) (methods : List Method) (locals : List Kind) whe
   form_kind f.Null = nothing
   form_kind (f.Local x) = kind_at locals x.number
   form_kind (f.Read x field site) = field_kind classes (kind_at locals x.number) field
-  form_kind (f.Unary o k) = applied_kind o k
+  form_kind (f.Unary o k) = applied_kind (result_width o) k
   form_kind (f.Chain k others) = chain_kind k others
   form_kind (f.Compared k comparison l) = number widths.Int
 

@@ -1,5 +1,5 @@
 -- Marks by their first byte.
-use Rattle.std.specs.Prelude.{ℕ, Bool, ◌&&◌, nat_eq, nat_le, List, [], ◌∷◌, filter, slice_index}
+use Rattle.std.specs.Prelude.{ℕ, Bool, nat_eq, List, [], ◌∷◌, filter}
 use Rattle.std.specs.List.{starts_with}
 use Rattle.fab_base.specs.declared.token.Mark.{Mark}
 use Rattle.fab_base.specs.Tokens.{mark_text}
@@ -11,7 +11,3 @@ is_begun_by first x = starts_with nat_eq (mark_text x) (first ∷ [])
 -- those of the marks that begin with this byte, in their order
 abbrev pub begun_by : ℕ → List Mark → List Mark
 begun_by first marks = filter (is_begun_by first) marks
-
--- the mark is a word that begins with this letter or a later one
-abbrev pub is_word_from : ℕ → Mark → Bool
-is_word_from first x = nat_le first (slice_index (mark_text x) 0) && nat_le (slice_index (mark_text x) 0) 122

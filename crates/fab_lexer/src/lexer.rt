@@ -8,7 +8,7 @@ ghost use Rattle.fab_lexer.specs.Fronts.{shown};
 
 use crate::error::LexError;
 use crate::front::Front;
-use crate::marks::{sign_before, text_of};
+use crate::marks::sign_before;
 use crate::quoted::quoted_before;
 use crate::words::{is_blank, is_of_word, kind_of};
 use fab_base::{Kind, NoMemory, Piece, Seq, Token};
@@ -77,7 +77,7 @@ fn sign_piece_before(bytes: &[u8]) -> Option<Piece>
 {
     sign_before(bytes).map(|mark| Piece::Spelled {
         kind: Kind::Fixed(mark),
-        len: text_of(mark).len(),
+        len: mark.text().len(),
     })
 }
 

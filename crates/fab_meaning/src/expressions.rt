@@ -2,14 +2,12 @@
 ghost use Rattle.std.specs.Prelude.{◌≡◌, map};
 ghost use Rattle.fab_language.specs.Meaning.{chained, operate};
 ghost use Rattle.fab_stack.specs.Gives.{Gives};
-ghost use Rattle.fab_stack.specs.Points.{Point};
 ghost use Rattle.fab_meaning.specs.Settings.{others_of, value, values};
 
 use crate::setting::Setting;
 use crate::shown::{is_seen, read_shown, shown_if};
 use fab_base::{Seq, Value};
 use fab_stack::{End, Halt, State};
-use fab_tree::Operator;
 use fab_tree::resolved::{Expression, Form, Method, Operand};
 use fab_values::{applied, compares, operate, truth};
 
@@ -76,19 +74,9 @@ fn chained(
     let mut v = first;
     for other in others {
         let w = value(setting, method, state, &other.operand)?;
-        v = operated(other.operator, v, w)?;
+        v = operate(other.operator, v, w).ok_or(Halt::Ended(End::Failed))?;
     }
     Ok(v)
-}
-
-/// What an operator makes of two values, or a failure.
-fn operated(operator: Operator, left: Value, right: Value) -> Result<Value, Halt>
-    ensures { (p : Point) → Gives result p (operate operator left right p.state) }
-{
-    match operate(operator, left, right) {
-        Some(value) => Ok(value),
-        None => Err(Halt::Ended(End::Failed)),
-    }
 }
 
 /// The values of arguments, from the left.

@@ -60,21 +60,11 @@ fn number_level(number: Number) -> u8
     }
 }
 
-/// How an operator in front of its operand is written.
-fn sign_text(operator: UnaryOperator) -> &'static str
-    ensures { IsSpelled (print.mark (unary_mark operator)) result.now }
-{
-    match operator {
-        UnaryOperator::Negative => "-",
-        UnaryOperator::Not => "!",
-    }
-}
-
 /// The sign of an operator in front of its operand.
 fn put_sign(out: &mut Seq<u8>, operator: UnaryOperator) -> Result<(), NoMemory>
     ensures { OnOk result (Adds (print.mark (unary_mark operator)) out.old out.new) }
 {
-    out.extend(sign_text(operator).as_bytes())?;
+    out.extend(operator.mark().text().as_bytes())?;
     Ok(())
 }
 

@@ -1,8 +1,8 @@
 -- Numbers stay within 32 bits: where those that stand in a program are, those that a request gives and those of known objects,
 -- so are those of the objects behind it and what it returned.
 use Rattle.std.proofs.Common.{◌≡◌, ℕ, zero, suc, ◌-◌, ◌/◌, ◌^◌, ◌<◌, ℤ, pos, negsuc, neg_ℤ, ◌+ℤ◌, ◌-ℤ◌, ◌*ℤ◌, Bool, true, false, ◌==◌, cond, if◌then◌else◌, List, [], ◌∷◌, ◌++◌, map, Option, Some, None, refl, sym, subst, arith}
-use Rattle.std.specs.Prelude.{slice_get, slice_set, unwrap_or, bit_and, int_div, FitsSigned, not}
-use Rattle.std.specs.Int.{w32, int_bit_and, int_bit_or, int_wrapping_div, cast_signed, cast_unsigned}
+use Rattle.std.specs.Prelude.{slice_get, slice_set, unwrap_or, bit_and, int_div, FitsSigned, IfSome, not}
+use Rattle.std.specs.Int.{w32, int_wrap, int_wrapping_div, cast_signed, cast_unsigned}
 use Rattle.std.specs.List.{flat_map}
 use Rattle.std.proofs.lemmas.Int.{SFits-int_wrap}
 use Rattle.std.proofs.lemmas.Nat.{or_of_32, and_le_l}
@@ -15,6 +15,7 @@ use Rattle.fab_base.specs.declared.object.Tid.{Tid}
 use Rattle.fab_base.specs.declared.object.Value.{Value}
 use Rattle.fab_base.specs.declared.object.Value.TheVariants.{Int, Null, Ref}
 use Rattle.fab_base.specs.declared.object.Stop.TheVariants.{Fuel, Depth, Reads, Writes}
+use Rattle.fab_base.specs.declared.object.Width.{Width}
 use Rattle.fab_base.specs.declared.object.Width.TheVariants as widths
 use Rattle.fab_base.specs.FlatMap.{FlatMap, get, put}
 use Rattle.fab_base.proofs.Lists.{all_split, at_index}
@@ -37,7 +38,7 @@ use Rattle.fab_tree.specs.declared.resolved.Resolved.{Resolved}
 use Rattle.fab_language.specs.declared.ending.Ending.TheVariants.{Ended}
 use Rattle.fab_language.specs.Heaps.{Heap, full, found, reach_in, reach_before, is_among, is_full, touched, noted, with_row, is_changed, is_spent, newly_written, created}
 use Rattle.fab_language.specs.Meaning.{State, End, failed, stopped, missing, Run, goes, ends, M, and_then, gives, ◌>>=◌, ◌>>◌, charge, local, assign, reached, access, field_of, with_field, read, settled, replace, write, led, applied}
-use Rattle.fab_language.specs.Meaning.{next_name, make, create, noted_down, int_of, holds, truth, wrapped, quotient, operate, chained, form_step, value, form_value, operand_value, values, in_order, turns, or_else, atomically}
+use Rattle.fab_language.specs.Meaning.{next_name, make, create, noted_down, int_of, width_in, wider, joint, bits_of, number_in, holds, truth, calculated, outcome, operate, chained, form_step, value, form_value, operand_value, values, in_order, turns, or_else, atomically}
 use Rattle.fab_language.specs.Meaning.{right, statement_step, statement, block, returned, body_of, default, locals_at_start, back_with, entered, called, requested, meant_by, meaning, state_at_start}
 use Rattle.fab_laws.proofs.Maps.{put_keeps}
 use Rattle.fab_laws.proofs.Values.{at_place, all_set, all_at_start}
@@ -61,17 +62,32 @@ zero_fits = record { sfits = omega arith }
 one_fits : FitsSigned w32 (pos 1)
 one_fits = record { sfits = omega arith }
 
-number_fits : (v : Value) → IsSmall v → FitsSigned w32 (int_of v)
+zero_in : (w : Width) → FitsSigned (bits_of w) (pos 0)
+zero_in widths.Int = zero_fits
+
+small_in : (w : Width) (n : ℤ) → FitsSigned (bits_of w) n → IsSmall (number_in w n)
+small_in widths.Int n f = f
+
+number_fits : (v : Value) → IsSmall v → FitsSigned (bits_of (width_in v)) (int_of v)
 number_fits (Int n) h = h
 number_fits Null h = zero_fits
 number_fits (Ref o) h = zero_fits
+
+-- what fits one of two widths fits the greater of them
+fits_first : (v w : Width) (n : ℤ) → FitsSigned (bits_of v) n → FitsSigned (bits_of (wider v w)) n
+fits_first widths.Int widths.Int n f = f
+
+fits_second : (v w : Width) (n : ℤ) → FitsSigned (bits_of w) n → FitsSigned (bits_of (wider v w)) n
+fits_second widths.Int w n f = f
 
 truth_fits : (b : Bool) → IsSmall (truth b)
 truth_fits true = one_fits
 truth_fits false = zero_fits
 
 applied_fits : (o : UnaryOperator) (v : Value) → IsSmall (applied o v)
-applied_fits unary.Negative v = SFits-int_wrap w32 (pos 0 -ℤ int_of v)
+applied_fits unary.Negative v =
+    let n : ℤ = pos 0 -ℤ int_of v in
+    small_in (width_in v) (int_wrap (bits_of (width_in v)) n) (SFits-int_wrap (bits_of (width_in v)) n)
 applied_fits unary.Not v = truth_fits (not (holds v))
 
 -- 32 bits, read as a number with a sign
@@ -225,25 +241,42 @@ downs site v p = record { by = λ t h. on v (record t { downs = t.downs ++ (site
 
 -- ---- expressions
 
-quotients : (a b : ℤ) → FitsSigned w32 a → Gives IsSmall (quotient (java_quotient a b))
-quotients a (pos zero) p = over IsSmall failed
-quotients a (pos (suc n)) p = done IsSmall (Int (int_wrapping_div w32 a (pos (suc n)))) (divided_fits a (pos (suc n)) p)
-quotients a (negsuc n) p = done IsSmall (Int (int_wrapping_div w32 a (negsuc n))) (divided_fits a (negsuc n) p)
+quotient_fits : (x y : ℤ) → FitsSigned w32 x → IfSome (java_quotient w32 x y) (FitsSigned w32)
+quotient_fits x (pos zero) f = tt
+quotient_fits x (pos (suc n)) f = divided_fits x (pos (suc n)) f
+quotient_fits x (negsuc n) f = divided_fits x (negsuc n) f
+
+-- what an operator makes of two numbers of 32 bits has 32 bits
+fits_in_32 : (o : Operator) (x y : ℤ) → FitsSigned w32 x → FitsSigned w32 y → IfSome (calculated w32 o x y) (FitsSigned w32)
+fits_in_32 Or x y f g = signed_fits _ (or_of_32 _ _ (bits_below x f) (bits_below y g))
+fits_in_32 And x y f g =
+    let a = cast_unsigned w32 x in
+    let b = cast_unsigned w32 y in
+    let low = and_le_l a b in
+    let few = bits_below x f in
+    signed_fits (bit_and a b) (omega (arith, low, few))
+fits_in_32 Add x y f g = SFits-int_wrap w32 (x +ℤ y)
+fits_in_32 Subtract x y f g = SFits-int_wrap w32 (x -ℤ y)
+fits_in_32 Multiply x y f g = SFits-int_wrap w32 (x *ℤ y)
+fits_in_32 Divide x y f g = quotient_fits x y f
+
+calculated_fits : (w : Width) (o : Operator) (x y : ℤ) → FitsSigned (bits_of w) x → FitsSigned (bits_of w) y
+    → IfSome (calculated (bits_of w) o x y) (FitsSigned (bits_of w))
+calculated_fits widths.Int = fits_in_32
+
+outcomes : (w : Width) (n : Option ℤ) → IfSome n (FitsSigned (bits_of w)) → Gives IsSmall (outcome w n)
+outcomes w None f = over IsSmall failed
+outcomes w (Some n) f = done IsSmall (number_in w n) (small_in w n f)
 
 operates : (o : Operator) (a b : Value) → IsSmall a → IsSmall b → Gives IsSmall (operate o a b)
-operates Or a b p q =
-    done IsSmall (Int (int_bit_or w32 (int_of a) (int_of b)))
-    (signed_fits _ (or_of_32 _ _ (bits_below (int_of a) (number_fits a p)) (bits_below (int_of b) (number_fits b q))))
-operates And a b p q =
-    let x = cast_unsigned w32 (int_of a) in
-    let y = cast_unsigned w32 (int_of b) in
-    let low = and_le_l x y in
-    let few = bits_below (int_of a) (number_fits a p) in
-    done IsSmall (Int (int_bit_and w32 (int_of a) (int_of b))) (signed_fits (bit_and x y) (omega (arith, low, few)))
-operates Add a b p q = done IsSmall (wrapped (int_of a +ℤ int_of b)) (SFits-int_wrap w32 (int_of a +ℤ int_of b))
-operates Subtract a b p q = done IsSmall (wrapped (int_of a -ℤ int_of b)) (SFits-int_wrap w32 (int_of a -ℤ int_of b))
-operates Multiply a b p q = done IsSmall (wrapped (int_of a *ℤ int_of b)) (SFits-int_wrap w32 (int_of a *ℤ int_of b))
-operates Divide a b p q = quotients (int_of a) (int_of b) (number_fits a p)
+operates o a b p q =
+    let v = width_in a in
+    let w = width_in b in
+    let x = int_of a in
+    let y = int_of b in
+    let f = fits_first v w x (number_fits a p) in
+    let g = fits_second v w y (number_fits b q) in
+    outcomes (joint a b) (calculated (bits_of (joint a b)) o x y) (calculated_fits (joint a b) o x y f g)
 
 -- what stands for a value gives one within 32 bits if the numbers that stand in it are
 pub record Stands (ns : List Value) (m : M Value) : Type 0 where
@@ -445,7 +478,7 @@ run_back vs _ p (on a u h q) = on a (record u { locals = vs }) (record { locals 
 run_back vs _ p (off e u h) = off e (record u { locals = vs }) (record { locals = p; rows = h.rows })
 
 default_small : (x : Sort) → IsSmall (default x)
-default_small (sorts.Number widths.Int) = zero_fits
+default_small (sorts.Number w) = small_in w (pos 0) (zero_in w)
 default_small (sorts.Class c) = tt
 
 module _ (program : Resolved) (tid : Tid) (fit : AllFit (flat_map in_method program.methods)) where

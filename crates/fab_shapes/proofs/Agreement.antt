@@ -1,4 +1,5 @@
 -- The kinds over the text and those over numbers.
+use Rattle.fab_base.specs.declared.object.Width.{Width}
 use Rattle.fab_base.specs.declared.object.Width.TheVariants as widths
 use Rattle.std.proofs.Common.{◌≡◌, ℕ, zero, suc, true, List, [], ◌∷◌, map, length, Option, Some, None, refl, sym, ap, ◌∙◌, arith}
 use Rattle.std.specs.Prelude.{slice_get, unwrap_or}
@@ -12,7 +13,7 @@ use Rattle.fab_tree.specs.declared.declaration.Field.{Field}
 use Rattle.fab_tree.specs.declared.declaration.Class.{Class}
 use Rattle.fab_tree.specs.declared.start.Start.{Start}
 use Rattle.fab_language.specs.Names.{named, number_of, class_name}
-use Rattle.fab_language.specs.Kinds.{Kind, number, object, nothing, unknown, takes, kind_of_class, kind_of_sort}
+use Rattle.fab_language.specs.Kinds.{Kind, number, object, nothing, unknown, is_numeric, is_same_width, takes, kind_of_class, kind_of_sort}
 use Rattle.fab_language.specs.Unknown.{if_found, in_sort}
 use Rattle.fab_language.specs.Uses.{class_number, sort_of}
 use Rattle.fab_language.specs.Numbers.{field_of, class_of}
@@ -32,6 +33,19 @@ kind_at_made g f xs i x e = ap (λ o. unwrap_or o n.unknown) (made_at g (map f x
 
 takes_same : (i j a b : n.Kind) → i ≡ a → j ≡ b → n.takes a b ≡ true → n.takes i j ≡ true
 takes_same i j a b p q e = ap (λ x. n.takes x j) p ∙ ap (λ x. n.takes a x) q ∙ e
+
+-- a kind over the text and one over numbers are of numbers of one width
+pub record IsNumber (k : Kind) (j : n.Kind) : Type 0 where
+  pub width : Width
+  pub told : k ≡ number width
+  pub held : j ≡ n.number width
+
+same_width : (v w : Width) → is_same_width v w ≡ true → v ≡ w
+same_width widths.Int widths.Int e = refl
+
+-- two numbers of one width give one of that width
+pub joined_alike : (w : Width) → n.joined (n.number w) (n.number w) ≡ n.number w
+joined_alike widths.Int = refl
 
 module _ (s : Start) where
   -- the number of the class of this text
@@ -72,12 +86,19 @@ module _ (s : Start) where
   fits nothing k i j h g e = absurd h
   fits unknown k i j h g e = absurd h
 
-  -- what a number holds is one
-  pub is_number : (k : Kind) (j : n.Kind) → Agrees k j → takes (number widths.Int) k ≡ true → j ≡ n.number widths.Int
-  is_number (number widths.Int) j g e = g
+  -- an operand that may be a number is one
+  pub is_number : (k : Kind) (j : n.Kind) → Agrees k j → is_numeric k ≡ true → IsNumber k j
+  is_number (number w) j g e = record { width = w; told = refl; held = g }
   is_number (object y) j g e = absurd (false≢true e)
   is_number nothing j g e = absurd (false≢true e)
   is_number unknown j g e = absurd g
+
+  -- what a number of a width holds is one of that width
+  pub is_as_wide : (w : Width) (k : Kind) (j : n.Kind) → Agrees k j → takes (number w) k ≡ true → j ≡ n.number w
+  is_as_wide w (number v) j g e = g ∙ ap n.number (sym (same_width w v e))
+  is_as_wide w (object y) j g e = absurd (false≢true e)
+  is_as_wide w nothing j g e = absurd (false≢true e)
+  is_as_wide w unknown j g e = absurd g
 
   -- ---- what is declared
 

@@ -1,14 +1,13 @@
 -- The kinds of expressions.
-use Rattle.std.proofs.Common.{◌≡◌, ℕ, List, [], ◌∷◌, map, refl, sym, ap, ◌∙◌, subst}
+use Rattle.std.proofs.Common.{◌≡◌, ℕ, List, [], ◌∷◌, map, None, refl, sym, ap, ◌∙◌, subst}
 use Rattle.std.specs.List.{AllByRecursion, flat_map}
 use Rattle.fab_base.proofs.Lists.{left_nil, right_nil}
-use Rattle.fab_base.specs.declared.object.Width.TheVariants as widths
+use Rattle.fab_base.specs.declared.object.Width.{Width}
 use Rattle.fab_tree.specs.declared.expression.Expression.{Expression, roll-Expression, ind-Expression, fold-roll-Expression}
 use Rattle.fab_tree.specs.declared.expression.Form.{Form, roll-Form, map-Form, fold-Form, fold-roll-Form}
 use Rattle.fab_tree.specs.declared.expression.Form.TheOpen as f
 use Rattle.fab_tree.specs.declared.expression.Operand.{Operand, Operand-F, roll-Operand, fold-Operand, fold-roll-Operand}
 use Rattle.fab_tree.specs.declared.expression.Operator.{Operator}
-use Rattle.fab_tree.specs.declared.expression.UnaryOperator.{UnaryOperator}
 use Rattle.fab_tree.specs.declared.expression.UnaryOperator.TheVariants as unary
 use Rattle.fab_tree.specs.declared.program.Parameter.{Parameter}
 use Rattle.fab_tree.specs.declared.start.Start.{Start}
@@ -21,8 +20,8 @@ use Rattle.fab_tree.specs.declared.resolved.Method.{Method as NumberedMethod}
 use Rattle.fab_tree.specs.Expressions.{expression_at, operand_at}
 use Rattle.fab_language.specs.declared.rule.Fault.{Fault}
 use Rattle.fab_language.specs.Heads.{Locals}
-use Rattle.fab_language.specs.Kinds.{number, takes, kind_of_field, field_of}
-use Rattle.fab_language.specs.Types.{Checked, given_to, operand, local_kind}
+use Rattle.fab_language.specs.Kinds.{number, takes, is_numeric, numeric_kind, kind_of_field, field_of}
+use Rattle.fab_language.specs.Types.{Checked, given_to, if_so, later, numeric, local_kind}
 use Rattle.fab_language.specs.Types as t
 use Rattle.fab_language.specs.Unknown as u
 use Rattle.fab_language.specs.Uses.{local_use, local_number, field_number}
@@ -30,7 +29,7 @@ use Rattle.fab_language.specs.MethodNumbers as m
 use Rattle.fab_language.specs.MethodNumbers.{Numbered, in_turn, form_step, form_of, expression_of, operand_of}
 use Rattle.fab_language.proofs.NumberedForms.{expression_numbers, form_numbers, operand_numbers}
 use Rattle.fab_laws.specs.Kinds as n
-use Rattle.fab_shapes.proofs.Agreement.{Agrees, held, is_number}
+use Rattle.fab_shapes.proofs.Agreement.{Agrees, IsNumber, held, is_number, is_as_wide, joined_alike}
 use Rattle.fab_shapes.proofs.Locals.{classes_in, allowed, IsDeclared, IsKnown, local_kinds, local_holds, field_holds}
 
 module _ (s : Start) (classes : AllByRecursion (IsDeclared s) s.program.classes) (methods : List NumberedMethod) (locals : List Parameter) (known : Locals) (knows : AllByRecursion (IsKnown s locals) known) where
@@ -77,17 +76,25 @@ module _ (s : Start) (classes : AllByRecursion (IsDeclared s) s.program.classes)
   abbrev pub ExpressionAgrees : Expression → Type 0
   ExpressionAgrees e = Fits (u.in_expression s known e) (t.checked s known e) (expression_of s locals e)
 
-  -- an operand that is to be a number is one
+  -- an operand behind a number is one of its width
   abbrev OperandAgrees : Operand → Type 0
-  OperandAgrees x = (k : ℕ) → unknown_in_operand x ≡ [] → operand s known (checked_operand x) ≡ [] → kind_of_operand (operand_of s locals x k).0 ≡ n.number widths.Int
+  OperandAgrees x = (w : Width) (k : ℕ) → unknown_in_operand x ≡ [] → later (number w) (checked_operand x) ≡ [] → kind_of_operand (operand_of s locals x k).0 ≡ n.number w
 
   -- so is an expression that is one
-  operand_is : (e : Expression) (k : ℕ) → ExpressionAgrees e → u.in_expression s known e ≡ [] → operand s known (t.checked s known e) ≡ [] → kind_of (expression_of s locals e k).0 ≡ n.number widths.Int
+  later_is : (w : Width) (e : Expression) (k : ℕ) → ExpressionAgrees e → u.in_expression s known e ≡ [] → later (number w) (t.checked s known e) ≡ [] → kind_of (expression_of s locals e k).0 ≡ n.number w
+  later_is w e k h a b =
+      let c = t.checked s known e in
+      is_as_wide s w c.value.kind (kind_of (expression_of s locals e k).0)
+      (h k a (left_nil c.faults (given_to (number w) c.value) b))
+      (allowed (takes (number w) c.value.kind) c.value.at (right_nil c.faults (given_to (number w) c.value) b))
+
+  -- the first operand is a number of some width
+  operand_is : (e : Expression) (k : ℕ) → ExpressionAgrees e → u.in_expression s known e ≡ [] → numeric (t.checked s known e) ≡ [] → IsNumber (t.typed s known e).kind (kind_of (expression_of s locals e k).0)
   operand_is e k h a b =
       let c = t.checked s known e in
       is_number s c.value.kind (kind_of (expression_of s locals e k).0)
-      (h k a (left_nil c.faults (given_to (number widths.Int) c.value) b))
-      (allowed (takes (number widths.Int) c.value.kind) c.value.at (right_nil c.faults (given_to (number widths.Int) c.value) b))
+      (h k a (left_nil c.faults (if_so (is_numeric c.value.kind) c.value.at) b))
+      (allowed (is_numeric c.value.kind) c.value.at (right_nil c.faults (if_so (is_numeric c.value.kind) c.value.at) b))
 
   refit : (a b : List Fault) (c d : Checked) (p q : Numbered NumberedExpression) → a ≡ b → c ≡ d → p ≡ q → Fits b d q → Fits a c p
   refit a b c d p q e g h f = subst (λ w. Fits a c w) (sym h) (subst (λ w. Fits a w q) (sym g) (subst (λ w. Fits w d q) (sym e) f))
@@ -105,7 +112,7 @@ module _ (s : Start) (classes : AllByRecursion (IsDeclared s) s.program.classes)
       (h k at a b))
 
   operand_case : (at : ℕ) (operator : Operator) (e : Expression) → ExpressionAgrees e → OperandAgrees (operand_at at operator e)
-  operand_case at operator e h k a b =
+  operand_case at operator e h w k a b =
       let x : Operand-F Form Expression Operand = record { operator = operator; at = at; operand = e } in
       let v = (expression_of s locals e k).0 in
       let unknown : unknown_in_operand (operand_at at operator e) ≡ u.in_expression s known e =
@@ -114,11 +121,7 @@ module _ (s : Start) (classes : AllByRecursion (IsDeclared s) s.program.classes)
       fold-roll-Operand (ℕ → Checked) Checked Checked (t.in_form s known) (λ e. e.form e.at) (λ o. o.operand) x in
       ap (λ (made : Numbered NumberedOperand). kind_of_operand (made k).0) (operand_numbers s locals at operator e)
       ∙ fold-roll-NumberedOperand n.Kind n.Kind n.Kind kind_step (λ e. e.form) (λ o. o.operand) (record { operator = operator; at = at; operand = v })
-      ∙ operand_is e k h (sym unknown ∙ a) (sym (ap (operand s known) checked) ∙ b)
-
-  applied_number : (o : UnaryOperator) → n.applied_kind o (n.number widths.Int) ≡ n.number widths.Int
-  applied_number unary.Negative = refl
-  applied_number unary.Not = refl
+      ∙ later_is w e k h (sym unknown ∙ a) (sym (ap (later (number w)) checked) ∙ b)
 
   -- a form, whose parts are some for which this is known
   module _ (F E O : Type 0) (form : F → Form) (expression : E → Expression) (part : O → Operand) (of_expression : (k : E) → ExpressionAgrees (expression k)) (of_operand : (k : O) → OperandAgrees (part k)) where
@@ -134,29 +137,38 @@ module _ (s : Start) (classes : AllByRecursion (IsDeclared s) s.program.classes)
     abbrev made_step : f.Form-F F E O → Numbered NumberedForm
     made_step y = form_step s locals (map-Form Form Expression Operand (Numbered NumberedForm) (Numbered NumberedExpression) (Numbered NumberedOperand) (form_of s locals) (expression_of s locals) (operand_of s locals) (parts y))
 
-    -- numbers that are joined in turn
-    operands_are : (xs : List O) (k : ℕ) → flat_map (λ faults. faults) (map unknown_in_operand (map part xs)) ≡ [] → flat_map (operand s known) (map checked_operand (map part xs)) ≡ []
-        → n.chain_kind (n.number widths.Int) (map kind_of_operand (in_turn (map (operand_of s locals) (map part xs)) k).0) ≡ n.number widths.Int
-    operands_are [] k a b = refl
-    operands_are (x ∷ xs) k a b =
+    -- numbers of one width that are joined in turn
+    operands_are : (w : Width) (xs : List O) (k : ℕ) → flat_map (λ faults. faults) (map unknown_in_operand (map part xs)) ≡ [] → flat_map (later (number w)) (map checked_operand (map part xs)) ≡ []
+        → n.chain_kind (n.number w) (map kind_of_operand (in_turn (map (operand_of s locals) (map part xs)) k).0) ≡ n.number w
+    operands_are w [] k a b = refl
+    operands_are w (x ∷ xs) k a b =
         let made = operand_of s locals (part x) k in
         let unknown = flat_map (λ (faults : List Fault). faults) (map unknown_in_operand (map part xs)) in
-        let mistyped = flat_map (operand s known) (map checked_operand (map part xs)) in
-        let first = operand s known (checked_operand (part x)) in
-        ap (λ i. n.chain_kind (n.joined (n.number widths.Int) i) (map kind_of_operand (in_turn (map (operand_of s locals) (map part xs)) made.1).0))
-        (of_operand x k (left_nil (unknown_in_operand (part x)) unknown a) (left_nil first mistyped b))
-        ∙ operands_are xs made.1 (right_nil (unknown_in_operand (part x)) unknown a) (right_nil first mistyped b)
+        let mistyped = flat_map (later (number w)) (map checked_operand (map part xs)) in
+        let first = later (number w) (checked_operand (part x)) in
+        let rest = map kind_of_operand (in_turn (map (operand_of s locals) (map part xs)) made.1).0 in
+        ap (λ i. n.chain_kind (n.joined (n.number w) i) rest)
+        (of_operand x w k (left_nil (unknown_in_operand (part x)) unknown a) (left_nil first mistyped b))
+        ∙ ap (λ i. n.chain_kind i rest) (joined_alike w)
+        ∙ operands_are w xs made.1 (right_nil (unknown_in_operand (part x)) unknown a) (right_nil first mistyped b)
 
     chain_layer : (e : E) (others : List O) → FormFits (unknown_step (f.Chain e others)) (checked_step (f.Chain e others)) (made_step (f.Chain e others))
     chain_layer e others k at a b =
         let v = expression_of s locals (expression e) k in
         let vs = (in_turn (map (operand_of s locals) (map part others)) v.1).0 in
+        let made = kind_of_form (nf.Chain v.0 vs) in
+        let kind = (t.typed s known (expression e)).kind in
         let unknown = flat_map (λ (faults : List Fault). faults) (map unknown_in_operand (map part others)) in
-        let mistyped = flat_map (operand s known) (map checked_operand (map part others)) in
-        let first = operand s known (t.checked s known (expression e)) in
-        kind_is (nf.Chain v.0 vs) (nfo.Chain v.0 vs) (sym (nf.rolls-Chain v.0 vs))
-        ∙ ap (λ i. n.chain_kind i (map kind_of_operand vs)) (operand_is (expression e) k (of_expression e) (left_nil (u.in_expression s known (expression e)) unknown a) (left_nil first mistyped b))
-        ∙ operands_are others v.1 (right_nil (u.in_expression s known (expression e)) unknown a) (right_nil first mistyped b)
+        let behind = map checked_operand (map part others) in
+        let mistyped = flat_map (later kind) behind in
+        let first = numeric (t.checked s known (expression e)) in
+        let is = operand_is (expression e) k (of_expression e) (left_nil (u.in_expression s known (expression e)) unknown a) (left_nil first mistyped b) in
+        let as_wide : flat_map (later (number is.width)) behind ≡ [] = sym (ap (λ j. flat_map (later j) behind) is.told) ∙ right_nil first mistyped b in
+        let same : made ≡ n.number is.width =
+            kind_is (nf.Chain v.0 vs) (nfo.Chain v.0 vs) (sym (nf.rolls-Chain v.0 vs))
+            ∙ ap (λ i. n.chain_kind i (map kind_of_operand vs)) is.held
+            ∙ operands_are is.width others v.1 (right_nil (u.in_expression s known (expression e)) unknown a) as_wide in
+        subst (λ j. Agrees s (numeric_kind j) made) (sym is.told) same
 
     form_layer : (y : f.Form-F F E O) → FormFits (unknown_step y) (checked_step y) (made_step y)
     form_layer (f.Number i) k at a b = kind_is (nf.Number i) (nfo.Number i) (sym (nf.rolls-Number i))
@@ -168,9 +180,15 @@ module _ (s : Start) (classes : AllByRecursion (IsDeclared s) s.program.classes)
         let field = field_number s locals x y in
         subst (λ j. Agrees s (kind_of_field s (field_of s known x y)) j) (sym (kind_is (nf.Read (local_use locals x) field k) (nfo.Read (local_use locals x) field k) (sym (nf.rolls-Read (local_use locals x) field k))))
         (held s (kind_of_field s (field_of s known x y)) (n.field_kind (classes_in s) (n.kind_at (local_kinds s locals) (local_number locals x)) field) (field_holds s classes locals known knows x y at a b))
-    form_layer (f.Unary o e) k at a b =
+    form_layer (f.Unary unary.Negative e) k at a b =
         let v = (expression_of s locals (expression e) k).0 in
-        kind_is (nf.Unary o v) (nfo.Unary o v) (sym (nf.rolls-Unary o v)) ∙ ap (n.applied_kind o) (operand_is (expression e) k (of_expression e) a b) ∙ applied_number o
+        let is = operand_is (expression e) k (of_expression e) a b in
+        let same : kind_of_form (nf.Unary unary.Negative v) ≡ n.number is.width =
+            kind_is (nf.Unary unary.Negative v) (nfo.Unary unary.Negative v) (sym (nf.rolls-Unary unary.Negative v)) ∙ ap (n.applied_kind None) is.held in
+        subst (λ j. Agrees s (numeric_kind j) (kind_of_form (nf.Unary unary.Negative v))) (sym is.told) same
+    form_layer (f.Unary unary.Not e) k at a b =
+        let v = (expression_of s locals (expression e) k).0 in
+        kind_is (nf.Unary unary.Not v) (nfo.Unary unary.Not v) (sym (nf.rolls-Unary unary.Not v))
     form_layer (f.Chain e others) k at a b = chain_layer e others k at a b
     form_layer (f.Compared e c g) k at a b =
         let v = expression_of s locals (expression e) k in

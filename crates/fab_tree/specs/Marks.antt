@@ -1,4 +1,4 @@
--- The signs and the words that stand for parts of a tree.
+-- The signs and the words that stand for parts of a tree, and the widths that operators ask for and give.
 use Rattle.std.specs.Prelude.{Option, Some, None}
 use Rattle.fab_base.specs.declared.object.Width.{Width}
 use Rattle.fab_base.specs.declared.object.Width.TheVariants as widths
@@ -17,6 +17,16 @@ abbrev pub unary_of : Mark → Option UnaryOperator
 unary_of m.Minus = Some unary.Negative
 unary_of m.Bang = Some unary.Not
 unary_of _ = None
+
+-- the width of which an operator in front of its operand asks it to be; where it asks for none, it is of any
+abbrev pub operand_width : UnaryOperator → Option Width
+operand_width unary.Negative = None
+operand_width unary.Not = Some widths.Int
+
+-- the width of what it gives; where this is none, it is as wide as the operand
+abbrev pub result_width : UnaryOperator → Option Width
+result_width unary.Negative = None
+result_width unary.Not = Some widths.Int
 
 -- the type of numbers of a width
 abbrev pub width_mark : Width → Mark

@@ -1,7 +1,7 @@
 //! Expressions.
 
 ghost use Rattle.std.specs.Prelude.{◌≡◌};
-ghost use Rattle.fab_tree.specs.Marks.{unary_mark, unary_of};
+ghost use Rattle.fab_tree.specs.Marks.{operand_width, result_width, unary_mark, unary_of};
 ghost use Rattle.fab_tree.specs.Numbers.{width_of, number_value};
 
 use crate::name::Name;
@@ -54,6 +54,26 @@ impl UnaryOperator {
             Mark::Minus => Some(UnaryOperator::Negative),
             Mark::Bang => Some(UnaryOperator::Not),
             _ => None,
+        }
+    }
+
+    /// The width of which it asks its operand to be, where it asks for one.
+    pub fn operand_width(self) -> Option<Width>
+        ensures { result ≡ operand_width self }
+    {
+        match self {
+            UnaryOperator::Negative => None,
+            UnaryOperator::Not => Some(Width::Int),
+        }
+    }
+
+    /// The width of what it gives, where that isn't the operand's.
+    pub fn result_width(self) -> Option<Width>
+        ensures { result ≡ result_width self }
+    {
+        match self {
+            UnaryOperator::Negative => None,
+            UnaryOperator::Not => Some(Width::Int),
         }
     }
 }

@@ -10,10 +10,11 @@ use Rattle.fab_tree.specs.declared.expression.Operand.{Operand, fold-roll-Operan
 use Rattle.fab_tree.specs.declared.start.Start.{Start}
 use Rattle.fab_language.specs.declared.rule.Fault.{Fault}
 use Rattle.fab_language.specs.Heads.{Locals}
-use Rattle.fab_language.specs.Kinds.{are_comparable}
-use Rattle.fab_language.specs.Types.{Checked, asks_same, checked, comparison, if_so, in_expression, in_form, operand, typed}
+use Rattle.fab_language.specs.Kinds.{Kind, are_comparable, numeric_kind}
+use Rattle.fab_language.specs.Types.{Checked, asks_same, checked, comparison, if_so, in_expression, in_form, later, numeric, typed}
 use Rattle.fab_rules.specs.First.{first_from}
 use Rattle.fab_rules.proofs.Firsts.{in_two, in_three}
+use Rattle.fab_types.specs.Values.{in_value}
 
 module _ (s : Start) (known : Locals) where
   abbrev in_part : Form → ℕ → Checked
@@ -32,21 +33,25 @@ module _ (s : Start) (known : Locals) where
       ap in_other (sym (roll-out-Operand x))
       ∙ fold-roll-Operand (ℕ → Checked) Checked Checked (in_form s known) (λ e. e.form e.at) (λ u. u.operand) (out-Operand x)
 
-  -- what is wrong in an operand behind the first
-  abbrev pub behind : Operand → List Fault
-  behind u = operand s known (checked s known (out-Operand u).operand)
+  -- what is wrong in an operand that is given to what holds this kind
+  abbrev pub behind : Kind → Operand → List Fault
+  behind taker u = in_value s known taker (out-Operand u).operand
 
-  all_behind : (us : List Operand) → flat_map (operand s known) (map in_other us) ≡ flat_map behind us
-  all_behind [] = refl
-  all_behind (u ∷ us) =
-      ap (λ c. operand s known c ++ flat_map (operand s known) (map in_other us)) (by_operand u)
-      ∙ ap (λ l. behind u ++ l) (all_behind us)
+  all_behind : (k : Kind) (us : List Operand) → flat_map (later k) (map in_other us) ≡ flat_map (behind (numeric_kind k)) us
+  all_behind k [] = refl
+  all_behind k (u ∷ us) =
+      ap (λ c. later k c ++ flat_map (later k) (map in_other us)) (by_operand u)
+      ∙ ap (λ l. behind (numeric_kind k) u ++ l) (all_behind k us)
 
-  in_chain : (x e : Expression) (us : List Operand) → (out-Expression x).form ≡ kinds.Chain e us → in_expression s known x ≡ operand s known (checked s known e) ++ flat_map behind us
+  -- what the operands of a chain are given to that begins with this
+  abbrev taker_of : Expression → Kind
+  taker_of e = numeric_kind (typed s known e).kind
+
+  in_chain : (x e : Expression) (us : List Operand) → (out-Expression x).form ≡ kinds.Chain e us → in_expression s known x ≡ numeric (checked s known e) ++ flat_map (behind (taker_of e)) us
   in_chain x e us is =
       ap (λ c. c.faults) (by_form x ∙ ap (λ p. in_part p (out-Expression x).at) (is ∙ sym (kinds.rolls-Chain e us)))
       ∙ ap (λ c. (c (out-Expression x).at).faults) (fold-roll-Form (ℕ → Checked) Checked Checked (in_form s known) (λ e. e.form e.at) (λ u. u.operand) (parts.Chain e us))
-      ∙ ap (λ l. operand s known (checked s known e) ++ l) (all_behind us)
+      ∙ ap (λ l. numeric (checked s known e) ++ l) (all_behind (typed s known e).kind us)
 
   in_compared : (x e g : Expression) (c : Comparison) → (out-Expression x).form ≡ kinds.Compared e c g → in_expression s known x ≡ comparison s known (out-Expression x).at (asks_same c) (checked s known e) (checked s known g)
   in_compared x e g c is =
@@ -54,18 +59,20 @@ module _ (s : Start) (known : Locals) where
       ∙ ap (λ c. (c (out-Expression x).at).faults) (fold-roll-Form (ℕ → Checked) Checked Checked (in_form s known) (λ e. e.form e.at) (λ u. u.operand) (parts.Compared e c g))
 
   -- the first fault of a chain, from that of its operands
-  pub first_in_chain : (x e : Expression) (us seen : List Operand) (first front last : Option Fault) →
-      (out-Expression x).form ≡ kinds.Chain e us → seen ≡ us → front ≡ first_from first (operand s known (checked s known e)) → last ≡ first_from front (flat_map behind seen) → last ≡ first_from first (in_expression s known x)
-  first_in_chain x e us seen first front last is same f l =
-      in_two first front last (operand s known (checked s known e)) (flat_map behind seen) f l
-      ∙ ap (λ b. first_from first (operand s known (checked s known e) ++ flat_map behind b)) same
+  pub first_in_chain : (x e : Expression) (us seen : List Operand) (taker : Kind) (first front last : Option Fault) →
+      (out-Expression x).form ≡ kinds.Chain e us → seen ≡ us → taker ≡ numeric_kind (typed s known e).kind → front ≡ first_from first (numeric (checked s known e)) → last ≡ first_from front (flat_map (behind taker) seen)
+      → last ≡ first_from first (in_expression s known x)
+  first_in_chain x e us seen taker first front last is same given f l =
+      in_two first front last (numeric (checked s known e)) (flat_map (behind taker) seen) f l
+      ∙ ap (λ b. first_from first (numeric (checked s known e) ++ flat_map (behind taker) b)) same
+      ∙ ap (λ k. first_from first (numeric (checked s known e) ++ flat_map (behind k) us)) given
       ∙ ap (first_from first) (sym (in_chain x e us is))
 
   -- that of a comparison of two numbers
   pub first_in_order : (x e g : Expression) (c : Comparison) (first front last : Option Fault) →
-      (out-Expression x).form ≡ kinds.Compared e c g → asks_same c ≡ false → front ≡ first_from first (operand s known (checked s known e)) → last ≡ first_from front (operand s known (checked s known g)) → last ≡ first_from first (in_expression s known x)
+      (out-Expression x).form ≡ kinds.Compared e c g → asks_same c ≡ false → front ≡ first_from first (numeric (checked s known e)) → last ≡ first_from front (later (typed s known e).kind (checked s known g)) → last ≡ first_from first (in_expression s known x)
   first_in_order x e g c first front last is order f l =
-      in_two first front last (operand s known (checked s known e)) (operand s known (checked s known g)) f l
+      in_two first front last (numeric (checked s known e)) (later (typed s known e).kind (checked s known g)) f l
       ∙ ap (λ b. first_from first (comparison s known (out-Expression x).at b (checked s known e) (checked s known g))) (sym order)
       ∙ ap (first_from first) (sym (in_compared x e g c is))
 

@@ -1,13 +1,14 @@
 //! Expressions: the kinds of their values, and what is wrong in them.
 ghost use Rattle.std.specs.Prelude.{◌≡◌, flat_map};
 ghost use Rattle.fab_language.specs.Kinds.{are_comparable};
-ghost use Rattle.fab_language.specs.Types.{if_so, given_to, asks_same, in_reach, operand, checked, typed, in_expression};
+ghost use Rattle.fab_language.specs.Types.{if_so, given_to, asks_same, in_reach, numeric, later, under, checked, typed, in_expression};
 ghost use Rattle.fab_rules.specs.First.{first_from};
 ghost use Rattle.fab_types.specs.Seen.{seen};
 ghost use Rattle.fab_types.specs.Values.{in_value};
 
 use crate::kinds::{
-    Kind, are_comparable, field_of, is_reachable, kind_of_field, local_kind, takes,
+    Kind, applied_kind, are_comparable, field_of, is_numeric, is_reachable, kind_of_field,
+    local_kind, numeric_kind, takes,
 };
 use fab_base::{Boxed, Width};
 use fab_language::{Fault, NameRule};
@@ -58,7 +59,9 @@ fn asks_same(comparison: Comparison) -> bool
     }
 }
 
-/// The kind of an expression's value.
+/// The kind of an expression's value. It is sought as deep as operators stand in each other's first operands,
+/// which brackets bound.
+#[cycle(kind)]
 pub(crate) fn kind_of<'a>(
     tables: &Tables<'a>,
     known: &Known<'_>,
@@ -73,9 +76,14 @@ pub(crate) fn kind_of<'a>(
             kind_of_field(tables, field_of(tables, known, object, field))
         }
         Form::Number(number) => Kind::Number(number.width()),
-        Form::Unary { .. } | Form::Chain { .. } | Form::Compared { .. } => {
-            Kind::Number(Width::Int)
+        Form::Unary { operator, operand } => {
+            applied_kind(
+                operator.result_width(),
+                kind_of(tables, known, operand.get()),
+            )
         }
+        Form::Chain { first, .. } => numeric_kind(kind_of(tables, known, first.get())),
+        Form::Compared { .. } => Kind::Number(Width::Int),
     }
 }
 
@@ -121,13 +129,20 @@ pub(crate) fn in_expression(
     match &expression.form {
         Form::Number(_) | Form::Null | Form::Local(_) => first,
         Form::Read { object, .. } => in_reach(tables, known, first, object, expression.at),
-        Form::Unary { operand, .. } => in_operand(tables, known, first, operand),
+        Form::Unary { operator, operand } => in_under(
+            tables,
+            known,
+            first,
+            operator.operand_width(),
+            operand,
+        ),
         Form::Chain {
             first: front,
             others,
         } => {
-            let first = in_operand(tables, known, first, front);
-            in_operands(tables, known, first, others.as_slice())
+            let taker = numeric_kind(kind_of(tables, known, front.get()));
+            let first = in_numeric(tables, known, first, front);
+            in_operands(tables, known, first, taker, others.as_slice())
         }
         Form::Compared {
             left,
@@ -141,8 +156,8 @@ pub(crate) fn in_expression(
                 let first = in_expression(tables, known, first, right);
                 if_comparable(tables, known, first, left, right, expression.at)
             } else {
-                let first = in_operand(tables, known, first, left);
-                in_operand(tables, known, first, right)
+                let first = in_numeric(tables, known, first, left);
+                in_later(tables, known, first, left, right)
             }
         }
     }
@@ -151,39 +166,73 @@ pub(crate) fn in_expression(
 /// What is wrong in an operand, which is to be a number.
 #[cycle(expression)]
 #[tactic(auto, using(fab_rules::proofs::Firsts::in_parts))]
-fn in_operand(
+fn in_numeric(
     tables: &Tables<'_>,
     known: &Known<'_>,
     first: Option<Fault>,
     value: &Boxed<Expression>,
 ) -> Option<Fault>
-    ensures { result ≡ first_from first (operand tables.now known.now (checked tables.now known.now value.now)) }
+    ensures { result ≡ first_from first (numeric (checked tables.now known.now value.now)) }
 {
     let first = in_expression(tables, known, first, value.get());
-    value_given_to(tables, known, first, Kind::Number(Width::Int), value.get())
+    let kind = kind_of(tables, known, value.get());
+    if_so(first, is_numeric(kind), value.get().at)
 }
 
-/// What is wrong in the operands of a chain behind the first.
+/// What is wrong in the operand behind an operator, which asks for this width.
+#[cycle(expression)]
+#[tactic(auto, using(fab_rules::proofs::Firsts::in_parts))]
+fn in_under(
+    tables: &Tables<'_>,
+    known: &Known<'_>,
+    first: Option<Fault>,
+    width: Option<Width>,
+    value: &Boxed<Expression>,
+) -> Option<Fault>
+    ensures { result ≡ first_from first (under width (checked tables.now known.now value.now)) }
+{
+    match width {
+        None => in_numeric(tables, known, first, value),
+        Some(width) => {
+            let first = in_expression(tables, known, first, value.get());
+            value_given_to(tables, known, first, Kind::Number(width), value.get())
+        }
+    }
+}
+
+/// What is wrong in an operand behind the first of two.
+#[cycle(expression)]
+#[tactic(auto, using(fab_rules::proofs::Firsts::in_parts))]
+fn in_later(
+    tables: &Tables<'_>,
+    known: &Known<'_>,
+    first: Option<Fault>,
+    front: &Boxed<Expression>,
+    value: &Boxed<Expression>,
+) -> Option<Fault>
+    ensures { result ≡ first_from first (later (typed tables.now known.now front.now).kind (checked tables.now known.now value.now)) }
+{
+    let taker = numeric_kind(kind_of(tables, known, front.get()));
+    let first = in_expression(tables, known, first, value.get());
+    value_given_to(tables, known, first, taker, value.get())
+}
+
+/// What is wrong in the operands of a chain behind the first, and in that they are given to what holds this kind.
 #[cycle(expression)]
 #[tactic(auto, using(fab_rules::proofs::Firsts::in_parts))]
 fn in_operands(
     tables: &Tables<'_>,
     known: &Known<'_>,
     first: Option<Fault>,
+    taker: Kind<'_>,
     others: &[Operand],
 ) -> Option<Fault>
-    ensures { result ≡ first_from first (flat_map (λ u. operand tables.now known.now (checked tables.now known.now u.operand)) others.now) }
+    ensures { result ≡ first_from first (flat_map (λ u. in_value tables.now known.now (seen taker.entry) u.operand) others.now) }
 {
     let mut first = first;
     for other in others {
         first = in_expression(tables, known, first, &other.operand);
-        first = value_given_to(
-            tables,
-            known,
-            first,
-            Kind::Number(Width::Int),
-            &other.operand,
-        );
+        first = value_given_to(tables, known, first, taker, &other.operand);
     }
     first
 }

@@ -1,6 +1,6 @@
 //! What type a value has, as far as the names in it say.
 ghost use Rattle.std.specs.Prelude.{◌≡◌, option_copied};
-ghost use Rattle.fab_language.specs.Kinds.{takes, are_comparable, class_of, class_of_sort, class_of_local, kind_of_class, kind_of_sort, kind_of_field, field_of, local_of};
+ghost use Rattle.fab_language.specs.Kinds.{takes, are_comparable, is_numeric, numeric_kind, applied_kind, class_of, class_of_sort, class_of_local, kind_of_class, kind_of_sort, kind_of_field, field_of, local_of};
 ghost use Rattle.fab_language.specs.Types.{local_kind, is_reachable};
 ghost use Rattle.fab_types.specs.Seen.{seen};
 
@@ -43,6 +43,36 @@ pub(crate) fn are_comparable(left: Kind<'_>, right: Kind<'_>) -> bool
             Kind::Number(_) | Kind::Nothing => false,
         },
         Kind::Number(_) | Kind::Object(_) | Kind::Unknown => takes(left, right),
+    }
+}
+
+/// Whether an operand may be of this kind.
+pub(crate) fn is_numeric(kind: Kind<'_>) -> bool
+    ensures { result ≡ is_numeric (seen kind.entry) }
+{
+    match kind {
+        Kind::Number(_) | Kind::Unknown => true,
+        Kind::Object(_) | Kind::Nothing => false,
+    }
+}
+
+/// The kind of what an operator gives whose first operand is of this kind.
+pub(crate) fn numeric_kind<'a>(kind: Kind<'a>) -> Kind<'a>
+    ensures { seen result ≡ numeric_kind (seen kind.entry) }
+{
+    match kind {
+        Kind::Number(width) => Kind::Number(width),
+        Kind::Object(_) | Kind::Nothing | Kind::Unknown => Kind::Number(Width::Int),
+    }
+}
+
+/// The kind of what an operator gives that stands in front of an operand of this kind, and gives this width.
+pub(crate) fn applied_kind<'a>(width: Option<Width>, kind: Kind<'a>) -> Kind<'a>
+    ensures { seen result ≡ applied_kind width (seen kind.entry) }
+{
+    match width {
+        None => numeric_kind(kind),
+        Some(width) => Kind::Number(width),
     }
 }
 

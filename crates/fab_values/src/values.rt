@@ -1,6 +1,7 @@
 //! What is computed from values alone.
 ghost use Rattle.std.specs.Prelude.{◌≡◌};
-ghost use Rattle.fab_language.specs.Meaning.{State, applied, compares, default, equals, holds, int_of, negated, operate, truth};
+ghost use Rattle.std.specs.Int.{w32};
+ghost use Rattle.fab_language.specs.Meaning.{State, applied, calculated, compares, default, equals, holds, int_of, joint, negated, operate, truth, width_in, wider};
 ghost use Rattle.fab_values.specs.Computed.{computed};
 
 use fab_base::{Value, Width, java_add, java_div, java_mul, java_sub};
@@ -15,6 +16,31 @@ fn int_of(value: Value) -> i32
         Value::Int(n) => n,
         _ => 0,
     }
+}
+
+/// How wide the number is that a value is; what is none is as wide as the least.
+fn width_in(value: Value) -> Width
+    ensures { result ≡ width_in value }
+{
+    match value {
+        Value::Int(_) | Value::Null | Value::Ref(_) => Width::Int,
+    }
+}
+
+/// The greater of two widths.
+fn wider(first: Width, second: Width) -> Width
+    ensures { result ≡ wider first second }
+{
+    match first {
+        Width::Int => second,
+    }
+}
+
+/// The width of what an operator makes of two values.
+fn joint(left: Value, right: Value) -> Width
+    ensures { result ≡ joint left right }
+{
+    wider(width_in(left), width_in(right))
 }
 
 /// Whether a condition is true.
@@ -64,7 +90,9 @@ pub fn compares(comparison: Comparison, left: Value, right: Value) -> bool
 fn negated(value: Value) -> Value
     ensures { result ≡ negated value }
 {
-    Value::Int(java_sub(0, int_of(value)))
+    match width_in(value) {
+        Width::Int => Value::Int(java_sub(0, int_of(value))),
+    }
 }
 
 /// What an operator in front of its operand makes of it.
@@ -87,19 +115,26 @@ pub fn default(sort: Sort) -> Value
     }
 }
 
+/// What an operator makes of two numbers of 32 bits; none where it fails, which is at a zero divisor.
+fn calculated(operator: Operator, left: i32, right: i32) -> Option<i32>
+    ensures { result ≡ calculated w32 operator left right }
+{
+    match operator {
+        Operator::Or => Some(left | right),
+        Operator::And => Some(left & right),
+        Operator::Add => Some(java_add(left, right)),
+        Operator::Subtract => Some(java_sub(left, right)),
+        Operator::Multiply => Some(java_mul(left, right)),
+        Operator::Divide => java_div(left, right),
+    }
+}
+
 /// What an operator makes of two values; none where it fails, which is at a zero divisor.
 pub fn operate(operator: Operator, left: Value, right: Value) -> Option<Value>
     ensures { (t : State) → operate operator left right t ≡ computed result t }
 {
-    let a = int_of(left);
-    let b = int_of(right);
-    match operator {
-        Operator::Or => Some(Value::Int(a | b)),
-        Operator::And => Some(Value::Int(a & b)),
-        Operator::Add => Some(Value::Int(java_add(a, b))),
-        Operator::Subtract => Some(Value::Int(java_sub(a, b))),
-        Operator::Multiply => Some(Value::Int(java_mul(a, b))),
-        Operator::Divide => match java_div(a, b) {
+    match joint(left, right) {
+        Width::Int => match calculated(operator, int_of(left), int_of(right)) {
             Some(n) => Some(Value::Int(n)),
             None => None,
         },
