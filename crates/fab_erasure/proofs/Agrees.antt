@@ -2,8 +2,7 @@
 use Rattle.std.proofs.Common.{◌≡◌, inl, inr, ℕ, zero, suc, List, [], ◌∷◌, ◌++◌, Option, Some, None, Bool, true, false, not, ◌&&◌, ◌||◌, ◌==◌, map, length, refl, sym, ap, ◌∙◌, subst, true≢false, append-nil, arith}
 use Rattle.std.specs.Prelude.{slice_get}
 use Rattle.std.specs.List.{list_any, list_all, filter, flat_map, AllByRecursion}
-use Rattle.std.proofs.lemmas.Bool.{and_from, and_parts, or_right}
-use Rattle.std.proofs.lemmas.Bool.Decides.{nat_tests}
+use Rattle.std.proofs.lemmas.Bool.{and_from, and_parts, eq-eqb, eqb-true, or_right}
 use Rattle.fab_base.specs.declared.object.Oid.{Oid}
 use Rattle.fab_base.specs.declared.object.Stop.{Stop}
 use Rattle.fab_base.specs.declared.object.Tid.{Tid}
@@ -28,7 +27,7 @@ use Rattle.fab_erasure.specs.Erased as erase
 use Rattle.fab_erasure.specs.Erased.{returns_blank}
 use Rattle.fab_erasure.specs.Agreement.{Downgrading, downgrades_in, downgrades_of, IsIn, in_view, goes_into_view, downs_seen, touch_in_view, given_by, rows_shown, begins_in_view, result_seen, IsView, IsKept, IsFront, Agrees, ErasureAgrees}
 use Rattle.fab_laws.proofs.Kept.{get_shown, get_unshown, shown_ascends}
-use Rattle.fab_erasure.proofs.Views.{filter_twice, split_left}
+use Rattle.fab_erasure.proofs.Views.{filter_twice, split_left, split_right}
 use Rattle.fab_erasure.proofs.Near as n
 use Rattle.fab_erasure.proofs.Near.{Sight, Match, both_go, both_fail, both_miss, miss, cut, Hidden, went, fell, lost, halted}
 use Rattle.fab_erasure.proofs.Expressions.{IsLabelled}
@@ -39,28 +38,24 @@ use Rattle.fab_erasure.proofs.Plain as alone
 
 -- ---- lists
 
-all_of : {A : Type 0} (P : A → Type 0) (xs : List A) → ((x : A) → IsIn x xs → P x) → AllByRecursion P xs
+pub all_of : {A : Type 0} (P : A → Type 0) (xs : List A) → ((x : A) → IsIn x xs → P x) → AllByRecursion P xs
 all_of P [] h = tt
 all_of P (x ∷ xs) h = (h x (inl refl), all_of P xs (λ y i. h y (inr i)))
 
-split_after : {A : Type 0} (P : A → Type 0) (xs ys : List A) → AllByRecursion P (xs ++ ys) → AllByRecursion P ys
-split_after P [] ys h = h
-split_after P (x ∷ xs) ys h = split_after P xs ys h.1
-
-at_index : {A B : Type 0} (P : B → Type 0) (g : A → List B) (xs : List A) (i : ℕ) (x : A) → AllByRecursion P (flat_map g xs) → slice_get xs i ≡ Some x → AllByRecursion
+pub at_index : {A B : Type 0} (P : B → Type 0) (g : A → List B) (xs : List A) (i : ℕ) (x : A) → AllByRecursion P (flat_map g xs) → slice_get xs i ≡ Some x → AllByRecursion
     P (g x)
 at_index P g [] i x h e = cc
 at_index P g (y ∷ xs) zero x h e = subst (λ z. AllByRecursion P (g z)) (same y x e) (split_left P (g y) (flat_map g xs) h)
   where
     same : {A : Type 0} (a b : A) → Some a ≡ Some b → a ≡ b
     same a b i = cc
-at_index P g (y ∷ xs) (suc i) x h e = at_index P g xs i x (split_after P (g y) (flat_map g xs) h) e
+at_index P g (y ∷ xs) (suc i) x h e = at_index P g xs i x (split_right P (g y) (flat_map g xs) h) e
 
 pub all_pass : {A : Type 0} (p : A → Bool) (xs : List A) → ((x : A) → IsIn x xs → p x ≡ true) → list_all p xs ≡ true
 all_pass p [] h = refl
 all_pass p (x ∷ xs) h = and_from (p x) (list_all p xs) (h x (inl refl)) (all_pass p xs (λ y i. h y (inr i)))
 
-one_fails : {A : Type 0} (p : A → Bool) (xs : List A) (x : A) → IsIn x xs → p x ≡ false → list_all p xs ≡ false
+pub one_fails : {A : Type 0} (p : A → Bool) (xs : List A) (x : A) → IsIn x xs → p x ≡ false → list_all p xs ≡ false
 one_fails p [] x i e = absurd i
 one_fails p (y ∷ xs) x (inl same) e = ap (λ b. b && list_all p xs) (ap p (sym same) ∙ e)
 one_fails p (y ∷ xs) x (inr i) e = ap (λ b. p y && b) (one_fails p xs x i e) ∙ none (p y)
@@ -81,12 +76,6 @@ one_passes p (y ∷ xs) x (inr i) e = ap (λ b. p y || b) (one_passes p xs x i e
 none_passes : {A : Type 0} (p : A → Bool) (xs : List A) → ((x : A) → IsIn x xs → p x ≡ false) → list_any p xs ≡ false
 none_passes p [] h = refl
 none_passes p (x ∷ xs) h = rw (h x (inl refl)) (none_passes p xs (λ y i. h y (inr i)))
-
-same_number : (a b : ℕ) → (a == b) ≡ true → a ≡ b
-same_number a b h = grind (arith, nat_tests)
-
-self : (a : ℕ) → (a == a) ≡ true
-self a = grind (arith, nat_tests)
 
 module _ (sees shows : ℕ → Bool) (r : Resolved) (view : IsView sees shows r) (tid : Tid) where
   abbrev site_seen : ℕ → Bool
@@ -142,20 +131,20 @@ module _ (sees shows : ℕ → Bool) (r : Resolved) (view : IsView sees shows r)
   site_by y i true e = all_pass (λ (x : ℕ × List ℕ). not (x.0 == y.0) || list_all sees x.1) (sites_of r) (λ x j. by x j (x.0 == y.0) refl)
     where
       by : (x : ℕ × List ℕ) → IsIn x (sites_of r) → (c : Bool) → (x.0 == y.0) ≡ c → (not c || list_all sees x.1) ≡ true
-      by x j true k = ap (list_all sees) (view.one_place x y j i (same_number x.0 y.0 k)) ∙ e
+      by x j true k = ap (list_all sees) (view.one_place x y j i (eqb-true x.0 y.0 k)) ∙ e
       by x j false k = refl
-  site_by y i false e = one_fails (λ (x : ℕ × List ℕ). not (x.0 == y.0) || list_all sees x.1) (sites_of r) y i (rw (self y.0, e) refl)
+  site_by y i false e = one_fails (λ (x : ℕ × List ℕ). not (x.0 == y.0) || list_all sees x.1) (sites_of r) y i (rw (eq-eqb y.0 y.0 refl, e) refl)
 
   placed : AllByRecursion (λ (y : ℕ × List ℕ). site_seen y.0 ≡ list_all sees y.1) (sites_of r)
   placed = all_of (λ (y : ℕ × List ℕ). site_seen y.0 ≡ list_all sees y.1) (sites_of r) (λ y i. site_by y i (list_all sees y.1) refl)
 
   turn_by : (p : ℕ × ℕ → Bool) (d : Downgrading) → IsIn d (downgrades_of r) → (b : Bool) → p d.1 ≡ b
       → list_any (λ (x : Downgrading). (x.0 == d.0) && p x.1) (downgrades_of r) ≡ b
-  turn_by p d i true e = one_passes (λ (x : Downgrading). (x.0 == d.0) && p x.1) (downgrades_of r) d i (and_from (d.0 == d.0) (p d.1) (self d.0) e)
+  turn_by p d i true e = one_passes (λ (x : Downgrading). (x.0 == d.0) && p x.1) (downgrades_of r) d i (and_from (d.0 == d.0) (p d.1) (eq-eqb d.0 d.0 refl) e)
   turn_by p d i false e = none_passes (λ (x : Downgrading). (x.0 == d.0) && p x.1) (downgrades_of r) (λ x j. by x j (x.0 == d.0) refl)
     where
       by : (x : Downgrading) → IsIn x (downgrades_of r) → (c : Bool) → (x.0 == d.0) ≡ c → (c && p x.1) ≡ false
-      by x j true k = ap p (view.one_way x d j i (same_number x.0 d.0 k)) ∙ e
+      by x j true k = ap p (view.one_way x d j i (eqb-true x.0 d.0 k)) ∙ e
       by x j false k = refl
 
   turned : AllByRecursion (n.Turns (sight [])) (downgrades_of r)

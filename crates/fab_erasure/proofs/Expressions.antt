@@ -1,9 +1,8 @@
 -- Expressions: at a place that is seen the erased one follows the full one; at a hidden place nothing that is in view changes.
-use Rattle.std.proofs.Common.{◌≡◌, ℕ, zero, suc, List, [], ◌∷◌, ◌++◌, Option, Some, None, Bool, true, false, ◌&&◌, ◌==◌, ℤ, pos, negsuc, if◌then◌else◌, map, refl, sym, ap, ◌∙◌, subst, true≢false, arith}
+use Rattle.std.proofs.Common.{◌≡◌, ℕ, zero, suc, List, [], ◌∷◌, ◌++◌, Option, Some, None, Bool, true, false, ◌&&◌, ℤ, pos, negsuc, if◌then◌else◌, map, refl, sym, ap, ◌∙◌, subst, true≢false}
 use Rattle.std.specs.Prelude.{slice_get, unwrap_or}
 use Rattle.std.specs.List.{list_all, flat_map, AllByRecursion}
-use Rattle.std.proofs.lemmas.Bool.{and_parts, and_from}
-use Rattle.std.proofs.lemmas.Bool.Decides.{nat_tests}
+use Rattle.std.proofs.lemmas.Bool.{and_parts, and_from, eqb-true}
 use Rattle.fab_base.specs.Arith.{java_quotient}
 use Rattle.fab_base.specs.declared.object.Oid.{Oid}
 use Rattle.fab_base.specs.declared.object.Object.{Object}
@@ -56,12 +55,6 @@ pub never_fails : (sees : ℕ → Bool) (F : Option ℕ) → IsSeenFailure sees 
 never_fails sees None h k = k
 never_fails sees (Some l) h k = absurd (true≢false (sym h ∙ k))
 
-self : (n : ℕ) → (n == n) ≡ true
-self n = grind (arith, nat_tests)
-
-same_number : (a b : ℕ) → (a == b) ≡ true → a ≡ b
-same_number a b h = grind (arith, nat_tests)
-
 pub record IsLabelled (sees shows : ℕ → Bool) (program : Resolved) : Type 0 where
   pub shown : (n : ℕ) (class : Class) → slice_get program.classes n ≡ Some class → shows n ≡ sees class.label.number
   pub absent : (n : ℕ) → slice_get program.classes n ≡ None → shows n ≡ false
@@ -102,7 +95,7 @@ module _ (sees shows : ℕ → Bool) (program : Resolved) where
     where
       of_sort : (sort : Sort) → suits (kind_of_sort sort) (Ref o) ≡ true → class_of_sort program.classes sort ≡ slice_get program.classes o.class
       of_sort (sorts.Number widths.Int) k = absurd (true≢false (sym k))
-      of_sort (sorts.Class c) k = ap (slice_get program.classes) (sym (same_number o.class c.number k))
+      of_sort (sorts.Class c) k = ap (slice_get program.classes) (sym (eqb-true o.class c.number k))
 
   -- an object of a class that isn't there has no fields
   no_fields : (o : Oid) (x : Object) (field : ℕ) → slice_get program.classes o.class ≡ None → IsShaped program.classes o x → field_of field x ≡ Null

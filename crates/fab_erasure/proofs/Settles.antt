@@ -1,7 +1,7 @@
 -- An expression that came out once comes out so again, and changes nothing more.
-use Rattle.std.proofs.Common.{◌≡◌, ℕ, List, [], ◌∷◌, ◌++◌, Option, Some, None, Bool, true, false, ◌&&◌, ◌||◌, ◌==◌, if◌then◌else◌, refl, sym, ap, ◌∙◌, subst, true≢false, append_assoc, append-nil, arith}
+use Rattle.std.proofs.Common.{◌≡◌, ℕ, List, [], ◌∷◌, ◌++◌, Option, Some, None, Bool, true, false, ◌&&◌, ◌||◌, ◌==◌, if◌then◌else◌, refl, sym, ap, ◌∙◌, subst, true≢false, append_assoc, append-nil}
 use Rattle.std.specs.Prelude.{slice_get, unwrap_or}
-use Rattle.std.proofs.lemmas.Bool.Decides.{nat_tests}
+use Rattle.std.proofs.lemmas.Bool.{eq-eqb}
 use Rattle.fab_base.specs.declared.object.Oid.{Oid}
 use Rattle.fab_base.specs.declared.object.Object.{Object}
 use Rattle.fab_base.specs.declared.object.Stop.TheVariants.{Reads}
@@ -83,11 +83,8 @@ has_front site o [] ys h = absurd (true≢false (sym h))
 has_front site o (x ∷ xs) ys h = elim ((x.0 == site) && is_same x.1 o) as (λ b. (b || has_pair site o xs) ≡ true → (b || has_pair site o (xs ++ ys)) ≡ true)
     [ true ↦ λ e. refl | false ↦ λ e. has_front site o xs ys e ] h
 
-self : (n : ℕ) → (n == n) ≡ true
-self n = grind (arith, nat_tests)
-
 has_last : (site : ℕ) (o : Oid) (xs : List (ℕ × Oid)) → has_pair site o (xs ++ (site, o) ∷ []) ≡ true
-has_last site o [] = rw (self site, same_self o) refl
+has_last site o [] = rw (eq-eqb site site refl, same_self o) refl
 has_last site o (x ∷ xs) = elim ((x.0 == site) && is_same x.1 o) as (λ b. (b || has_pair site o (xs ++ (site, o) ∷ [])) ≡ true)
     [ true ↦ refl | false ↦ has_last site o xs ]
 
