@@ -2,7 +2,7 @@
 use Rattle.std.proofs.Common.{◌≡◌, inl, inr, ℕ, zero, suc, List, [], ◌∷◌, ◌++◌, Option, Some, None, Bool, true, false, not, ◌&&◌, ◌||◌, ◌==◌, map, length, refl, sym, ap, ◌∙◌, subst, true≢false, append-nil, arith}
 use Rattle.std.specs.Prelude.{slice_get}
 use Rattle.std.specs.List.{list_any, list_all, filter, flat_map, AllByRecursion}
-use Rattle.std.proofs.lemmas.Bool.{and_from, and_parts, or_right, eqb-true, eq-eqb}
+use Rattle.std.proofs.lemmas.Bool.{and_from, and_parts, eq-eqb, eqb-true, or_right}
 use Rattle.fab_base.proofs.Members.{all_of}
 use Rattle.fab_base.specs.declared.object.Oid.{Oid}
 use Rattle.fab_base.specs.declared.object.Stop.{Stop}
@@ -28,7 +28,7 @@ use Rattle.fab_erasure.specs.Erased as erase
 use Rattle.fab_erasure.specs.Erased.{returns_blank}
 use Rattle.fab_erasure.specs.Agreement.{Downgrading, downgrades_in, downgrades_of, In, in_view, goes_into_view, downs_seen, touch_in_view, given_by, rows_shown, begins_in_view, result_seen, IsView, IsKept, IsFront, Agrees, ErasureAgrees}
 use Rattle.fab_laws.proofs.Kept.{get_shown, get_unshown, shown_ascends}
-use Rattle.fab_erasure.proofs.Views.{filter_twice, split_left}
+use Rattle.fab_erasure.proofs.Views.{filter_twice, split_left, split_right}
 use Rattle.fab_erasure.proofs.Near as n
 use Rattle.fab_erasure.proofs.Near.{Sight, Match, both_go, both_fail, both_miss, miss, cut, Hidden, went, fell, lost, halted}
 use Rattle.fab_erasure.proofs.Expressions.{IsLabelled}
@@ -39,24 +39,20 @@ use Rattle.fab_erasure.proofs.Plain as alone
 
 -- ---- lists
 
-split_after : {A : Type 0} (P : A → Type 0) (xs ys : List A) → AllByRecursion P (xs ++ ys) → AllByRecursion P ys
-split_after P [] ys h = h
-split_after P (x ∷ xs) ys h = split_after P xs ys h.1
-
-at_index : {A B : Type 0} (P : B → Type 0) (g : A → List B) (xs : List A) (i : ℕ) (x : A) → AllByRecursion P (flat_map g xs) → slice_get xs i ≡ Some x → AllByRecursion
+pub at_index : {A B : Type 0} (P : B → Type 0) (g : A → List B) (xs : List A) (i : ℕ) (x : A) → AllByRecursion P (flat_map g xs) → slice_get xs i ≡ Some x → AllByRecursion
     P (g x)
 at_index P g [] i x h e = cc
 at_index P g (y ∷ xs) zero x h e = subst (λ z. AllByRecursion P (g z)) (same y x e) (split_left P (g y) (flat_map g xs) h)
   where
     same : {A : Type 0} (a b : A) → Some a ≡ Some b → a ≡ b
     same a b i = cc
-at_index P g (y ∷ xs) (suc i) x h e = at_index P g xs i x (split_after P (g y) (flat_map g xs) h) e
+at_index P g (y ∷ xs) (suc i) x h e = at_index P g xs i x (split_right P (g y) (flat_map g xs) h) e
 
 pub all_pass : {A : Type 0} (p : A → Bool) (xs : List A) → ((x : A) → In x xs → p x ≡ true) → list_all p xs ≡ true
 all_pass p [] h = refl
 all_pass p (x ∷ xs) h = and_from (p x) (list_all p xs) (h x (inl refl)) (all_pass p xs (λ y i. h y (inr i)))
 
-one_fails : {A : Type 0} (p : A → Bool) (xs : List A) (x : A) → In x xs → p x ≡ false → list_all p xs ≡ false
+pub one_fails : {A : Type 0} (p : A → Bool) (xs : List A) (x : A) → In x xs → p x ≡ false → list_all p xs ≡ false
 one_fails p [] x i e = absurd i
 one_fails p (y ∷ xs) x (inl same) e = ap (λ b. b && list_all p xs) (ap p (sym same) ∙ e)
 one_fails p (y ∷ xs) x (inr i) e = ap (λ b. p y && b) (one_fails p xs x i e) ∙ none (p y)

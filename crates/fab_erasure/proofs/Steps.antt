@@ -2,7 +2,7 @@
 use Rattle.std.proofs.Common.{◌≡◌, ℕ, suc, ◌+◌, ◌-◌, ◌≤◌, List, [], ◌∷◌, ◌++◌, Option, Some, None, Bool, true, false, ◌||◌, ◌==◌, cond, if◌then◌else◌, map, length, refl, sym, ap, ◌∙◌, subst, true≢false, append_assoc, append-nil, arith}
 use Rattle.std.specs.Prelude.{slice_get, slice_set, nat_le, count_by}
 use Rattle.std.specs.List.{list_all, filter}
-use Rattle.std.proofs.lemmas.Bool.{and_from, leb-false}
+use Rattle.std.proofs.lemmas.Bool.{and_from, eqb-true, leb-false}
 use Rattle.std.proofs.lemmas.Bool.Decides.{nat_tests}
 use Rattle.std.proofs.lemmas.List.{map-append, append_cancel_left}
 use Rattle.std.proofs.lemmas.List.Elements.{filter-append}
@@ -361,16 +361,10 @@ module _ (sight : Sight) where
     pub make_seen : Beside ls Any (settled (created o y s.heap) s) (settled (created o z t.heap) t)
     make_seen = new_by (is_spent s.heap) refl
 
-  self : (n : ℕ) → (n == n) ≡ true
-  self n = grind (arith, nat_tests)
-
-  same_number : (a b : ℕ) → (a == b) ≡ true → a ≡ b
-  same_number a b h = grind (arith, nat_tests)
-
   -- an object made at a site that is seen has one name
   pub one_index : (h k : Heap) (site : ℕ) → HeapNear h k → sight.site_seen site ≡ true → index_at site k ≡ index_at site h
   one_index h k site m at = ap (count_by (λ (o : Oid). o.site == site)) m.made ∙ count_seen made_seen (λ (o : Oid). o.site == site)
-      (λ o e. ap sight.site_seen (same_number o.site site e) ∙ at) h.made
+      (λ o e. ap sight.site_seen (eqb-true o.site site e) ∙ at) h.made
 
   pub name_same : (store class site : ℕ) (h k : Heap) → HeapNear h k → sight.site_seen site ≡ true → next_name sight.tid store class site k ≡ next_name sight.tid store
       class site h

@@ -10,10 +10,11 @@ use Rattle.fab_base.specs.declared.object.Oid.{Oid}
 use Rattle.fab_base.specs.FlatMap.{is_same}
 use Rattle.fab_base.proofs.NameOrder.{one_name}
 use Rattle.fab_base.proofs.Names.{same_self}
+use Rattle.fab_base.proofs.Lists.{all_split}
 use Rattle.fab_language.specs.Heaps.{is_among, without, each_once, touched, noted, is_full}
 use Rattle.fab_labelling.specs.Obligations.{under}
 use Rattle.fab_laws.specs.Changes.{AreApart, has_pair}
-use Rattle.fab_laws.proofs.Names.{among_once}
+use Rattle.fab_language.proofs.Touches.{among_once}
 
 -- ---- lists
 
@@ -63,12 +64,10 @@ count_seen p q f (x ∷ xs) =
     none e false i = sym (zero-add (count_by q xs))
 
 pub split_left : {A : Type 0} (P : A → Type 0) (xs ys : List A) → AllByRecursion P (xs ++ ys) → AllByRecursion P xs
-split_left P [] ys h = tt
-split_left P (x ∷ xs) ys h = (h.0, split_left P xs ys h.1)
+split_left P xs ys h = (all_split P xs ys h).0
 
 pub split_right : {A : Type 0} (P : A → Type 0) (xs ys : List A) → AllByRecursion P (xs ++ ys) → AllByRecursion P ys
-split_right P [] ys h = h
-split_right P (x ∷ xs) ys h = split_right P xs ys h.1
+split_right P xs ys h = (all_split P xs ys h).1
 
 -- ---- labels
 

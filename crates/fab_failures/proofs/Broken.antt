@@ -14,10 +14,11 @@ use Rattle.fab_net.specs.declared.note.Logged.{Logged}
 use Rattle.fab_net.specs.Events.{node_at}
 use Rattle.fab_rights.specs.Computed.{is_node, nodes_in}
 use Rattle.fab_world.specs.Workers.{Act, fresh}
-use Rattle.fab_world.specs.Machine.{Move, Setting, World, Node, Form, Does, Cuts, Fails, Posts, Crashes, Never, act, acted, are_enabled, at_node, bytes_at, bytes_in, bytes_to, calls_journal, cut, down, enabled, form_by, form_of}
+use Rattle.fab_world.specs.Machine.{Move, Setting, World, Node, Form, Does, Cuts, Fails, Posts, Crashes, Never, act, acted, are_enabled, at_node, bytes_at, bytes_in, bytes_to, calls_journal, cut, down, enabled, failure, form_by, form_of}
 use Rattle.fab_world.specs.Machine.{front_of, hears, is_empty, is_running, is_settled, is_whole, lacks, lands, logged, logs, may, node_of, notes_at, notes_if, option_list, post_bytes, posted, ready, record_at, record_behind, rest_of, runs, sends_out, step, steps}
 use Rattle.fab_world.specs.Machine.{waiting_for, with_at}
-use Rattle.fab_failures.specs.Failures.{AreOthers, IsBrokenAt, cut_first, failure, unmarked_log}
+use Rattle.fab_world.proofs.Steps.{at_other, cuts_here, cuts_other, fails_here, fails_other, fallen, ready_beside, ready_entries, ready_first, ready_posts, ready_sent}
+use Rattle.fab_failures.specs.Failures.{AreOthers, IsBrokenAt, cut_first, unmarked_log}
 
 -- ---- tables by number, with one place changed
 
@@ -33,12 +34,6 @@ with_on_two f g k x y m b e h = elim (cases_eq m k) [
   | inl p ↦ ap (λ t. (if t then x else f m) b) (eq-eqb m k p) ∙ e ∙ sym (ap (λ t. (if t then y else g m) b) (eq-eqb m k p))
   | inr p ↦ ap (λ t. (if t then x else f m) b) (ne_eqb m k p) ∙ h ∙ sym (ap (λ t. (if t then y else g m) b) (ne_eqb m k p))
 ]
-
-at_same : {A : Type 0} (f : ℕ → A) (n : ℕ) (x : A) → with_at f n x n ≡ x
-at_same f n x = ap (λ t. if t then x else f n) (eq-eqb n n refl)
-
-at_other : {A : Type 0} (f : ℕ → A) (n : ℕ) (x : A) (m : ℕ) → (m ≡ n → ⊥) → with_at f n x m ≡ f m
-at_other f n x m apart = ap (λ t. if t then x else f m) (ne_eqb m n apart)
 
 all_on : (f g : ℕ → Bool) → ((b : ℕ) → f b ≡ true → g b ≡ true) → (xs : List ℕ) → list_all f xs ≡ true → list_all g xs ≡ true
 all_on f g h [] e = refl
@@ -327,88 +322,20 @@ module _ (S : Setting) (w : World) (e : Inner) (allowed : enabled S w (Cuts 0 e)
   cut_is x =
       ap (λ t. if t then record x { entries = x.entries ++ option_list (act S w e).entry } else record x { torn = [] }) (record_long x.first x.entries (act S w e).entry writes)
 
-  ready_first : (x : Inner) → ((ready S w x).node (node_of x)).first ≡ (w.node (node_of x)).first
-  ready_first (i.Begin m) = refl
-  ready_first (i.Resume m) = refl
-  ready_first (i.Deliver a b) = refl
-  ready_first (i.Idle m s) = refl
-  ready_first (i.Recover m) = ap (λ (y : Node). y.first) (at_same w.node m (record (w.node m) { torn = []; up = true }))
-
-  ready_entries : (x : Inner) → ((ready S w x).node (node_of x)).entries ≡ (w.node (node_of x)).entries
-  ready_entries (i.Begin m) = refl
-  ready_entries (i.Resume m) = refl
-  ready_entries (i.Deliver a b) = refl
-  ready_entries (i.Idle m s) = refl
-  ready_entries (i.Recover m) = ap (λ (y : Node). y.entries) (at_same w.node m (record (w.node m) { torn = []; up = true }))
-
-  ready_other : (x : Inner) (m : ℕ) → (m ≡ node_of x → ⊥) → (ready S w x).node m ≡ w.node m
-  ready_other (i.Begin k) m p = refl
-  ready_other (i.Resume k) m p = refl
-  ready_other (i.Deliver a b) m p = refl
-  ready_other (i.Idle k s) m p = refl
-  ready_other (i.Recover k) m p = at_other w.node k (record (w.node k) { torn = []; up = true }) m p
-
-  ready_queue : (x : Inner) (a b : ℕ) → (b ≡ node_of x → ⊥) → (ready S w x).queue a b ≡ w.queue a b
-  ready_queue (i.Begin k) a b p = refl
-  ready_queue (i.Resume k) a b p = refl
-  ready_queue (i.Deliver c d) a b p = elim (cases_eq a c) [
-    | inl q ↦
-        ap (λ t. (if t then with_at (w.queue c) d (rest_of (w.queue c d)) else w.queue a) b) (eq-eqb a c q)
-        ∙ at_other (w.queue c) d (rest_of (w.queue c d)) b p ∙ ap (λ k. w.queue k b) (sym q)
-    | inr q ↦ ap (λ t. (if t then with_at (w.queue c) d (rest_of (w.queue c d)) else w.queue a) b) (ne_eqb a c q)
-  ]
-  ready_queue (i.Idle k s) a b p = refl
-  ready_queue (i.Recover k) a b p = refl
-
-  ready_sent : (x : Inner) (a b : ℕ) → (ready S w x).sent a b ≡ w.sent a b
-  ready_sent (i.Begin k) a b = refl
-  ready_sent (i.Resume k) a b = refl
-  ready_sent (i.Deliver c d) a b = refl
-  ready_sent (i.Idle k s) a b = refl
-  ready_sent (i.Recover k) a b = refl
-
-  ready_posts : (x : Inner) (k : ℕ) → (ready S w x).posts k ≡ w.posts k
-  ready_posts (i.Begin m) k = refl
-  ready_posts (i.Resume m) k = refl
-  ready_posts (i.Deliver c d) k = refl
-  ready_posts (i.Idle m s) k = refl
-  ready_posts (i.Recover m) k = refl
-
-  abbrev falls : Node → Node
-  falls x = record x { attempt = fresh; up = false }
-
-  abbrev readied : ℕ → Node
-  readied = (ready S w e).node
-
-  abbrev cut_own : Node
-  cut_own = cut S 0 (act S w e).entry (readied n)
-
-  cuts_own : (steps S w (Cuts 0 e)).node n ≡ falls (record (readied n) { torn = [] })
-  cuts_own = at_same (with_at readied n cut_own) n (falls (with_at readied n cut_own n)) ∙ ap falls (at_same readied n cut_own) ∙ ap falls (cut_is (readied n))
-
-  cuts_other : (m : ℕ) → (m ≡ n → ⊥) → (steps S w (Cuts 0 e)).node m ≡ w.node m
-  cuts_other m p =
-      at_other (with_at readied n cut_own) n (falls (with_at readied n cut_own n)) m p ∙ at_other readied n cut_own m p ∙ ready_other e m p
-
-  fails_own : (steps S w (Fails 0 e)).node n ≡ record (falls (w.node n)) { failed = true }
-  fails_own =
-      at_same (down S w n).node n (record ((down S w n).node n) { failed = true })
-      ∙ ap (λ (y : Node). record y { failed = true }) (at_same w.node n (falls (w.node n)))
-
-  fails_other : (m : ℕ) → (m ≡ n → ⊥) → (steps S w (Fails 0 e)).node m ≡ w.node m
-  fails_other m p = at_other (down S w n).node n (record ((down S w n).node n) { failed = true }) m p ∙ at_other w.node n (falls (w.node n)) m p
+  cuts_own : (steps S w (Cuts 0 e)).node n ≡ fallen (record ((ready S w e).node n) { torn = [] })
+  cuts_own = cuts_here S w 0 e ∙ ap fallen (cut_is ((ready S w e).node n))
 
   breaks : IsBrokenAt n (steps S w (Cuts 0 e)) (steps S w (Fails 0 e))
   breaks = record {
-    others = λ m p. fails_other m p ∙ sym (cuts_other m p);
-    first = ap (λ (x : Node). x.first) fails_own ∙ sym (ready_first e) ∙ sym (ap (λ (x : Node). x.first) cuts_own);
-    entries = ap (λ (x : Node). x.entries) fails_own ∙ sym (ready_entries e) ∙ sym (ap (λ (x : Node). x.entries) cuts_own);
-    attempt = ap (λ (x : Node). x.attempt) fails_own ∙ sym (ap (λ (x : Node). x.attempt) cuts_own);
-    up = ap (λ (x : Node). x.up) fails_own ∙ sym (ap (λ (x : Node). x.up) cuts_own);
-    failed = ap (λ (x : Node). x.failed) fails_own;
-    queue = λ a b. with_on (w.queue a) ((ready S w e).queue a) n [] [] b refl (λ p. sym (ready_queue e a b p));
-    sent = λ a b. sym (ready_sent e a b);
-    posts = λ k. sym (ready_posts e k);
+    others = λ m p. fails_other S w 0 e m p ∙ sym (cuts_other S w 0 e m p);
+    first = ap (λ (x : Node). x.first) (fails_here S w 0 e) ∙ sym (ready_first S w e n) ∙ sym (ap (λ (x : Node). x.first) cuts_own);
+    entries = ap (λ (x : Node). x.entries) (fails_here S w 0 e) ∙ sym (ready_entries S w e n) ∙ sym (ap (λ (x : Node). x.entries) cuts_own);
+    attempt = ap (λ (x : Node). x.attempt) (fails_here S w 0 e) ∙ sym (ap (λ (x : Node). x.attempt) cuts_own);
+    up = ap (λ (x : Node). x.up) (fails_here S w 0 e) ∙ sym (ap (λ (x : Node). x.up) cuts_own);
+    failed = ap (λ (x : Node). x.failed) (fails_here S w 0 e);
+    queue = λ a b. with_on (w.queue a) ((ready S w e).queue a) n [] [] b refl (λ p. sym (ready_beside S w e a b p));
+    sent = λ a b. ap (λ (f : ℕ → ℕ → List (List ℕ)). f a b) (sym (ready_sent S w e));
+    posts = λ k. ap (λ (f : ℕ → List (ℕ × List ℕ)). f k) (sym (ready_posts S w e));
   }
 
   -- but for its mark the log says the same of both

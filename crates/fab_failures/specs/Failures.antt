@@ -6,14 +6,11 @@ use Rattle.fab_net.specs.declared.event.Inner.{Inner}
 use Rattle.fab_net.specs.declared.note.Logged.{Logged}
 use Rattle.fab_net.specs.Events.{node_at}
 use Rattle.fab_world.specs.Machine.{Move, World}
+pub use Rattle.fab_world.specs.Machine.{failure}
 
 -- the event is cut, and no byte of its record stays
 abbrev pub cut_first : Inner → Move
 cut_first e = record { event = CrashIn 0 e; marked = false }
-
--- a call of the journal failed in it
-abbrev pub failure : Inner → Move
-failure e = record { event = CrashIn 0 e; marked = true }
 
 -- none of these is an event of this node
 abbrev pub AreOthers : ℕ → List Move → Type 0

@@ -2,8 +2,8 @@
 ghost use Rattle.std.specs.Prelude.{◌≡◌, ◌++◌, ◌∷◌, List, IsTrue};
 ghost use Rattle.fab_net.specs.declared.event.Inner.{Inner};
 ghost use Rattle.fab_net.specs.Events.{node_of};
-ghost use Rattle.fab_world.specs.Machine.{Move, Setting, World, are_enabled, logs, runs};
-ghost use Rattle.fab_failures.specs.Failures.{AreOthers, IsBrokenAt, cut_first, failure, unmarked_log};
+ghost use Rattle.fab_world.specs.Machine.{Move, Setting, World, are_enabled, failure, logs, runs};
+ghost use Rattle.fab_failures.specs.Failures.{AreOthers, IsBrokenAt, cut_first, unmarked_log};
 
 /// Where an event was cut before its first byte, and was its node's last one, a call of the journal may as well have
 /// failed in it: the other events may come as they came, whatever is logged of them is the same, and so is the world

@@ -1,8 +1,8 @@
 -- A program that owes it keeps it.
-use Rattle.std.proofs.Common.{◌≡◌, inl, inr, ℕ, zero, suc, List, [], ◌∷◌, ◌++◌, Option, Some, Bool, true, false, not, ◌&&◌, ◌||◌, ◌==◌, cond, map, length, refl, sym, ap, ◌∙◌, subst, true≢false}
+use Rattle.std.proofs.Common.{◌≡◌, ℕ, List, [], ◌∷◌, ◌++◌, Option, Some, Bool, true, false, not, ◌||◌, ◌==◌, cond, map, length, refl, sym, ap, ◌∙◌, subst, true≢false}
 use Rattle.std.specs.Prelude.{slice_get}
 use Rattle.std.specs.List.{filter, list_all, flat_map, AllByRecursion}
-use Rattle.std.proofs.lemmas.Bool.{and_from, eqb-true, eq-eqb}
+use Rattle.std.proofs.lemmas.Bool.{and_from, eq-eqb, eqb-true}
 use Rattle.fab_base.proofs.Members.{all_of}
 use Rattle.fab_base.specs.declared.object.Oid.{Oid}
 use Rattle.fab_base.specs.declared.object.Tid.{Tid}
@@ -15,31 +15,11 @@ use Rattle.fab_language.specs.Meaning.{State, Run, goes, ends, failed, stopped, 
 use Rattle.fab_laws.specs.Kinds.{parameter_kinds}
 use Rattle.fab_laws.proofs.Shapes.{met, each_suit}
 use Rattle.fab_erasure.specs.Agreement.{In, in_view, touch_in_view}
-use Rattle.fab_erasure.proofs.Views.{split_left, split_right}
+use Rattle.fab_erasure.proofs.Agrees.{all_pass, at_index, one_fails}
+use Rattle.fab_erasure.proofs.Views.{split_left}
 use Rattle.fab_fewer.specs.Asking.{IsKeptByAccess, is_asked_in_view, LearnsAsking, AsksInView, AsksAreInView}
 use Rattle.fab_fewer.proofs.Asking as a
 use Rattle.fab_laws.proofs.Locality.{ended_missing, failed_missing, stopped_missing, missing_one, missing_site}
-
-at_index : {A B : Type 0} (P : B → Type 0) (g : A → List B) (xs : List A) (i : ℕ) (x : A) → AllByRecursion P (flat_map g xs) → slice_get xs i ≡ Some x → AllByRecursion P (g x)
-at_index P g [] i x h e = cc
-at_index P g (y ∷ xs) zero x h e = subst (λ z. AllByRecursion P (g z)) (same y x e) (split_left P (g y) (flat_map g xs) h)
-  where
-    same : {A : Type 0} (a b : A) → Some a ≡ Some b → a ≡ b
-    same a b i = cc
-at_index P g (y ∷ xs) (suc i) x h e = at_index P g xs i x (split_right P (g y) (flat_map g xs) h) e
-
-all_pass : {A : Type 0} (p : A → Bool) (xs : List A) → ((x : A) → In x xs → p x ≡ true) → list_all p xs ≡ true
-all_pass p [] h = refl
-all_pass p (x ∷ xs) h = and_from (p x) (list_all p xs) (h x (inl refl)) (all_pass p xs (λ y i. h y (inr i)))
-
-one_fails : {A : Type 0} (p : A → Bool) (xs : List A) (x : A) → In x xs → p x ≡ false → list_all p xs ≡ false
-one_fails p [] x i e = absurd i
-one_fails p (y ∷ xs) x (inl same) e = ap (λ b. b && list_all p xs) (ap p (sym same) ∙ e)
-one_fails p (y ∷ xs) x (inr i) e = ap (λ b. p y && b) (one_fails p xs x i e) ∙ none (p y)
-  where
-    none : (b : Bool) → (b && false) ≡ false
-    none true = refl
-    none false = refl
 
 module _ (sees shows : ℕ → Bool) (r : Resolved) (learns : LearnsAsking sees shows r) (tid : Tid) where
   -- a site is in view where its labels are seen

@@ -17,7 +17,7 @@ use Rattle.fab_lined.proofs.Begun.{are_few}
 use Rattle.fab_lined.proofs.Lines.{few_crashes}
 use Rattle.fab_lined.proofs.Sums.{node_low, sum_of_nodes}
 use Rattle.fab_finite.specs.Finite.{TouchesWhatWasMissing, of_node, of_start, most, most_moves, most_starts}
-use Rattle.fab_finite.proofs.Following.{lines_enabled}
+use Rattle.fab_lined.proofs.Following.{lines_enabled}
 use Rattle.fab_finite.proofs.Rising.{Apart, rising_apart, rising_filter, rising_range}
 use Rattle.fab_finite.proofs.Totals.{total, total_is, total_same, total_times}
 use Rattle.fab_finite.proofs.Weights.{asked, told}

@@ -7,7 +7,6 @@ pub mod Acts
 -- what is still to come of a world, in each step
 pub mod Steps
 -- so each run comes to an end
-pub mod Following
 pub mod Ends
 -- how long some runs are
 mod FiniteExamples

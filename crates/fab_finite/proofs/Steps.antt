@@ -14,16 +14,16 @@ use Rattle.fab_world.specs.Machine.{Setting, World, Node, Form, Does, Cuts, Fail
 use Rattle.fab_world.specs.Machine.{ready, acted, cut, down, posted, at_node, bytes_to, waiting_for, record_at, record_behind, option_list, front_of, is_empty, is_evaluating, is_running}
 use Rattle.fab_world.specs.Machine.{steps, may, enabled}
 use Rattle.fab_world.specs.Serial.{IsSetting, IsEvaluation, attempts_in, attempts_at}
-use Rattle.fab_world.specs.Workers as workers
-use Rattle.fab_world.specs.Workers.{Attempt, Act, Phase, Kept, fresh, kept_of, takes}
+use Rattle.fab_world.specs.Workers.{Attempt, Act, Kept, fresh, kept_of, takes}
 use Rattle.fab_world.proofs.WorkerActs.{woken}
 use Rattle.fab_integrity.proofs.Changes.{Changes, does_changes, down_changes, fails_changes, cuts_changes, posted_node, if_whole, ready_attempt}
 use Rattle.fab_integrity.proofs.Invariant.{In}
 use Rattle.fab_integrity.proofs.Lasting.{kept_behind, keeps_behind}
 use Rattle.fab_integrity.proofs.Readings.{spelled_so}
 use Rattle.fab_integrity.proofs.Transport.{front_and_rest, mutes, other_queue, out_of, queue_behind, queue_beside, ready_other, ready_up, running_up, taken_queue, waiting_is}
-use Rattle.fab_integrity.proofs.Worlds.{at_same, at_other, down_here, down_other}
+use Rattle.fab_world.proofs.Steps.{at_same, at_other, down_here, down_other, fails_here, fails_other}
 use Rattle.fab_integrity.proofs.Steps.{may_node}
+use Rattle.fab_integrity.proofs.WorkerSteps.{is_evaluating_at}
 use Rattle.fab_lined.proofs.Begun.{one}
 use Rattle.fab_finite.specs.Finite.{TouchesWhatWasMissing, of_prepare, of_start}
 use Rattle.fab_finite.proofs.Rising.{Apart}
@@ -82,19 +82,16 @@ module _ (S : Setting) (T : ℕ) where
       → between less (steps S w (Fails keep e)) (node_of e) y + 1 ≤ between left w (node_of e) y + 0
   fails_row w keep e left less fewer some y =
       let n = node_of e in
-      let changed = record ((down S w n).node n) { failed = true } in
-      let here = at_same (down S w n).node n changed in
-      let node = ap (own less n y) here in
-      let before = ap (λ (x : Node). own less n y (record x { failed = true })) (down_here S w n) in
+      let node = ap (own less n y) (fails_here S w keep e) in
       let m = mul-le-mul_right (owed S.roots n y (w.node n).entries) fewer in
       let q = down_load w n n y in
-      omega (arith, node, before, m, q, some)
+      omega (arith, node, m, q, some)
 
   fails_others : (w : World) (keep : ℕ) (e : Inner) (left less : ℕ) → less ≤ left → (x : ℕ) → (x ≡ node_of e → ⊥) → (y : ℕ)
       → between less (steps S w (Fails keep e)) x y ≤ between left w x y
   fails_others w keep e left less fewer x ne y =
       between_less left less w (steps S w (Fails keep e)) x y fewer
-      (at_other (down S w (node_of e)).node (node_of e) (record ((down S w (node_of e)).node (node_of e)) { failed = true }) x ne ∙ down_other S w (node_of e) x ne)
+      (fails_other S w keep e x ne)
       (down_load w (node_of e) x y) refl
 
   -- ---- a post
@@ -153,12 +150,6 @@ module _ (S : Setting) (T : ℕ) where
   Comes w e act = Brings S T (node_of e) (kept S w (node_of e)) (w.node (node_of e)).attempt act (paid e) (given w e)
 
   module _ (real : IsSetting S) (law : IsEvaluation S) (grows : TouchesWhatWasMissing S) (w : World) (all : AllCounted w) where
-    evaluating : (phase : Phase) → is_evaluating phase ≡ true → phase ≡ workers.Evaluating
-    evaluating workers.Idle h = absurd (true≢false (sym h))
-    evaluating workers.Evaluating h = refl
-    evaluating (workers.Fetching o) h = absurd (true≢false (sym h))
-    evaluating (workers.Preparing ls) h = absurd (true≢false (sym h))
-
     -- the bytes that are heard are a message, or none
     comes_heard : (a b : ℕ) (heard : Option Message) → S.read (front_of (w.queue a b)) ≡ heard → Comes w (i.Deliver a b) (hears S w a b heard)
     comes_heard a b None is =
@@ -186,7 +177,7 @@ module _ (S : Setting) (T : ℕ) where
     comes_act (i.Begin n) can = begins_bring S T n (kept S w n) law grows (w.node n).attempt
     comes_act (i.Resume n) can =
         on_resumes S T n (kept S w n) law grows (w.node n).attempt
-        (evaluating (w.node n).attempt.phase (and_parts (is_running S w n) (is_evaluating (w.node n).attempt.phase) can).1) (all n)
+        (is_evaluating_at (w.node n).attempt.phase (and_parts (is_running S w n) (is_evaluating (w.node n).attempt.phase) can).1) (all n)
     comes_act (i.Deliver a b) can = comes_heard a b (S.read (front_of (w.queue a b))) refl
     comes_act (i.Idle n s) can =
         on_gives_up S T n (kept S w n) law grows s (w.node n).attempt (parts S w n) (and_parts _ _ (and_parts _ _ can).0).1

@@ -1,11 +1,9 @@
 -- What an event changes of the nodes: its own node alone, by a record at most and its attempt.
 use Rattle.std.proofs.Common.{◌≡◌, ℕ, ◌+◌, List, [], ◌∷◌, ◌++◌, length, take, Bool, true, false, cond, ◌==◌}
-use Rattle.std.proofs.Common.{Option, Some, None, refl, sym, ap, ◌∙◌, subst, inl, inr, arith, append-nil, length-append}
-use Rattle.std.proofs.lemmas.Bool.{cases_eq}
+use Rattle.std.proofs.Common.{Option, Some, None, refl, sym, ap, ◌∙◌, arith, append-nil, length-append}
 use Rattle.fab_base.specs.declared.entry.Entry.{Entry}
 use Rattle.fab_base.specs.declared.entry.Entry.TheVariants as e
 use Rattle.fab_net.specs.declared.event.Inner.{Inner}
-use Rattle.fab_net.specs.declared.event.Inner.TheVariants as i
 use Rattle.fab_world.specs.Machine.{Setting, World, Node, Does, Cuts, Fails, with_at, option_list, record_behind, node_of, act, ready, acted}
 use Rattle.fab_world.specs.Machine.{at_node, cut, down, posted, record_at, steps}
 use Rattle.fab_world.specs.Workers.{Kept, Attempt, fresh, worker_keeps, kept_of}
@@ -13,6 +11,7 @@ use Rattle.fab_integrity.proofs.Costs.{boots_by, outcomes_by, boots_in, outcomes
 use Rattle.fab_integrity.proofs.Worlds.{at_same, at_other}
 use Rattle.fab_integrity.proofs.Lasting.{kept_more}
 use Rattle.fab_integrity.proofs.Transport.{ready_entries, ready_first}
+pub use Rattle.fab_world.proofs.Steps.{ready_attempt, ready_posts}
 
 -- ---- the boots and the outcomes of a worker, one record later
 
@@ -90,28 +89,10 @@ changes_further w u v n entry a node is entries attempt c = record {
 }
 
 module _ (S : Setting) where
-  pub ready_posts : (w : World) (e : Inner) → (ready S w e).posts ≡ w.posts
-  ready_posts w (i.Begin n) = refl
-  ready_posts w (i.Resume n) = refl
-  ready_posts w (i.Deliver a b) = refl
-  ready_posts w (i.Idle n s) = refl
-  ready_posts w (i.Recover n) = refl
-
-  pub ready_attempt : (w : World) (e : Inner) (x : ℕ) → ((ready S w e).node x).attempt ≡ (w.node x).attempt
-  ready_attempt w (i.Begin n) x = refl
-  ready_attempt w (i.Resume n) x = refl
-  ready_attempt w (i.Idle n s) x = refl
-  ready_attempt w (i.Deliver a c) x = refl
-  ready_attempt w (i.Recover n) x = elim (cases_eq x n) [
-    | inl same ↦ subst (λ z. ((ready S w (i.Recover n)).node z).attempt ≡ (w.node z).attempt) (sym same)
-        (ap (λ (y : Node). y.attempt) (at_same w.node n (record (w.node n) { torn = []; up = true })))
-    | inr ne ↦ ap (λ (y : Node). y.attempt) (at_other w.node n (record (w.node n) { torn = []; up = true }) x ne)
-  ]
-
   -- an event that is done
   pub does_changes : (w : World) (e : Inner) → Changes w (steps S w (Does e)) (node_of e) (act S w e).entry (act S w e).attempt
   does_changes w e =
-      changes_behind w (ready S w e) (steps S w (Does e)) (node_of e) (act S w e).entry (act S w e).attempt (ready_entries S w e) (λ x ne. ready_attempt w e x)
+      changes_behind w (ready S w e) (steps S w (Does e)) (node_of e) (act S w e).entry (act S w e).attempt (ready_entries S w e) (λ x ne. ready_attempt S w e x)
       (changes_at (ready S w e) (steps S w (Does e)) (node_of e) (act S w e).entry (act S w e).attempt
       (acted S (act S w e) ((ready S w e).node (node_of e))) refl refl refl)
 
@@ -162,7 +143,7 @@ module _ (S : Setting) where
       → Changes w (steps S w (Cuts keep e)) (node_of e) (if_whole b (act S w e).entry) fresh
   cuts_changes w keep e b h =
       changed_and_down w (ready S w e) (node_of e) (cut S keep (act S w e).entry ((ready S w e).node (node_of e))) (if_whole b (act S w e).entry) (ready_entries S w e)
-      (ready_attempt w e)
+      (ready_attempt S w e)
       (cut_entries keep (act S w e).entry ((ready S w e).node (node_of e)) (w.node (node_of e)).entries b (ready_entries S w e (node_of e))
       (ap (λ first. keep == length (record_behind first (w.node (node_of e)).entries (act S w e).entry)) (ready_first S w e (node_of e)) ∙ h))
 

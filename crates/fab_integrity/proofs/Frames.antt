@@ -1,5 +1,5 @@
 -- What a change of one node leaves of the rest.
-use Rattle.std.proofs.Common.{◌≡◌, ◌⊎◌, inl, inr, ℕ, ◌+◌, ◌<◌, ◌≤◌, Bool, true, false, ◌==◌, IsFalse}
+use Rattle.std.proofs.Common.{◌≡◌, ◌⊎◌, inl, inr, ℕ, ◌+◌, ◌<◌, ◌≤◌, Bool, true, false, IsFalse}
 use Rattle.std.proofs.Common.{List, Some, refl, sym, ap, ◌∙◌, subst, true≢false, arith, IsTrue}
 use Rattle.std.specs.List.{range_with_len}
 use Rattle.std.proofs.lemmas.Bool.{cases_eq, false_from_ne_true}
@@ -22,8 +22,8 @@ use Rattle.fab_world.specs.Workers.{Attempt, Phase, fresh, is_in, kept_of}
 use Rattle.fab_integrity.proofs.Invariant.{In, rank_of, deals, Standing, limit, IsPreparing, tid_at, Open, State, Known, Rises}
 use Rattle.fab_integrity.proofs.Invariant.{TakesPart, current, Fits, IsDead, Has, Says, Voted, Answered, IsWorker, IsStore, Hears, Pair, CellOk}
 use Rattle.fab_integrity.proofs.Invariant.{IsHad, WorkerOk, AreCommits, standing, Inv, Moves}
-use Rattle.fab_integrity.proofs.Lists.{in_unless, in_blank, each_of}
-use Rattle.fab_integrity.proofs.Worlds.{IsAsBefore, Follows, down_here, down_beside, down_entries}
+use Rattle.fab_integrity.proofs.Lists.{in_blank, each_of}
+use Rattle.fab_integrity.proofs.Worlds.{IsAsBefore, Follows, down_here, down_beside, down_entries, down_queue}
 use Rattle.fab_integrity.proofs.Tids.{limit_next}
 
 pub rises_refl : (C : State) → Rises C C
@@ -416,17 +416,14 @@ module _ (S : Setting) (D ex : ℕ → Bool) where
     abbrev Silence : ℕ → List ℕ → Type 0
     Silence b bytes = ⊥
 
-    queues_lose : (x b : ℕ) (bytes : List ℕ) → In bytes ((down S w n).queue x b) → In bytes (w.queue x b)
-    queues_lose x b bytes h = in_unless (b == n) bytes (w.queue x b) h
-
     follows_down : Follows Silence n w (down S w n)
-    follows_down = record { others = down_beside S w n; queues = λ x b bytes h. inl (queues_lose x b bytes h) }
+    follows_down = record { others = down_beside S w n; queues = λ x b bytes h. inl (down_queue S w n x b bytes h) }
 
     -- of a node that is no worker nothing is seen but its records
     other_down : (IsWorker S D ex n → ⊥) → Inv S D ex (down S w n) cs C
     other_down none =
         same_seen w (down S w n) cs C inv (λ k worker. down_beside S w n k (λ e. none (subst (IsWorker S D ex) e worker)))
-        (λ s store. down_entries S w n s) (λ x b outside. queues_lose x b)
+        (λ s store. down_entries S w n s) (λ x b outside. down_queue S w n x b)
 
     abbrev Fallen : Standing
     Fallen = record { kept = kept S w n; attempt = fresh; up = false; deals = deals cs n }

@@ -26,6 +26,7 @@ use Rattle.fab_integrity.specs.Redone.{AllRedone}
 use Rattle.fab_world.specs.Workers as workers
 use Rattle.fab_world.specs.Workers.{Act, Attempt, Phase, stays, takes, wakes, tid_of, fresh}
 use Rattle.fab_world.proofs.WorkerActs.{heard}
+pub use Rattle.fab_world.proofs.Steps.{ready_beside}
 use Rattle.fab_integrity.proofs.Invariant.{In, State, Inv, Ordered, IsWorker, IsStore, deals}
 use Rattle.fab_integrity.proofs.Lists.{in_append, each_of, filter_all, filter_none}
 use Rattle.fab_integrity.proofs.Worlds.{IsAsBefore, Follows, IsSent, Lands, at_same, at_other, down_here, down_other}
@@ -167,14 +168,6 @@ module _ (S : Setting) where
     sent = λ b bytes h. absurd h;
     all = λ b. inr refl;
   }
-
-  -- a queue to another node than that of the event loses nothing
-  pub ready_beside : (w : World) (e : Inner) (x b : ℕ) → (b ≡ node_of e → ⊥) → (ready S w e).queue x b ≡ w.queue x b
-  ready_beside w (i.Begin n) x b ne = refl
-  ready_beside w (i.Resume n) x b ne = refl
-  ready_beside w (i.Idle n s) x b ne = refl
-  ready_beside w (i.Recover n) x b ne = refl
-  ready_beside w (i.Deliver a c) x b ne = other_queue S w a c x b (λ p. ne p.1)
 
 -- ---- what holds of a world and its commits
 

@@ -13,6 +13,7 @@ use Rattle.fab_world.specs.Machine.{Setting, Node, World, with_at, rest_of, opti
 use Rattle.fab_world.specs.Machine.{lands, is_running, may}
 use Rattle.fab_world.specs.Machine.{is_empty, front_of}
 use Rattle.fab_world.specs.Workers.{Act, to_all}
+pub use Rattle.fab_world.proofs.Steps.{ready_other, ready_entries, ready_first}
 use Rattle.fab_integrity.proofs.Invariant.{In}
 use Rattle.fab_integrity.proofs.Lists.{in_append, in_map, in_filter, in_if}
 use Rattle.fab_integrity.proofs.Worlds.{IsSent, Lands, at_same, at_other, as_before}
@@ -108,45 +109,13 @@ module _ (S : Setting) where
     ]
   ]
 
-  -- other nodes stay as they were
-  pub ready_other : (w : World) (e : Inner) (x : ℕ) → (x ≡ node_of e → ⊥) → (ready S w e).node x ≡ w.node x
-  ready_other w (i.Begin n) x ne = refl
-  ready_other w (i.Resume n) x ne = refl
-  ready_other w (i.Idle n s) x ne = refl
-  ready_other w (i.Deliver a c) x ne = refl
-  ready_other w (i.Recover n) x ne = at_other w.node n _ x ne
-
-  -- and nothing is recorded yet
-  pub ready_entries : (w : World) (e : Inner) (x : ℕ) → ((ready S w e).node x).entries ≡ (w.node x).entries
-  ready_entries w (i.Begin n) x = refl
-  ready_entries w (i.Resume n) x = refl
-  ready_entries w (i.Idle n s) x = refl
-  ready_entries w (i.Deliver a c) x = refl
-  ready_entries w (i.Recover n) x = elim (cases_eq x n) [
-    | inl same ↦ subst (λ z. ((ready S w (i.Recover n)).node z).entries ≡ (w.node z).entries) (sym same)
-        (ap (λ (y : Node). y.entries) (at_same w.node n (record (w.node n) { torn = []; up = true })))
-    | inr ne ↦ ap (λ (y : Node). y.entries) (at_other w.node n (record (w.node n) { torn = []; up = true }) x ne)
-  ]
-
-  -- nor does the version in which its journal begins change
-  pub ready_first : (w : World) (e : Inner) (x : ℕ) → ((ready S w e).node x).first ≡ (w.node x).first
-  ready_first w (i.Begin n) x = refl
-  ready_first w (i.Resume n) x = refl
-  ready_first w (i.Idle n s) x = refl
-  ready_first w (i.Deliver a c) x = refl
-  ready_first w (i.Recover n) x = elim (cases_eq x n) [
-    | inl same ↦ subst (λ z. ((ready S w (i.Recover n)).node z).first ≡ (w.node z).first) (sym same)
-        (ap (λ (y : Node). y.first) (at_same w.node n (record (w.node n) { torn = []; up = true })))
-    | inr ne ↦ ap (λ (y : Node). y.first) (at_other w.node n (record (w.node n) { torn = []; up = true }) x ne)
-  ]
-
   -- so a record has the same bytes
   pub record_ready : (w : World) (e : Inner) (entry : Option Entry)
       → record_behind ((ready S w e).node (node_of e)).first ((ready S w e).node (node_of e)).entries entry
       ≡ record_behind (w.node (node_of e)).first (w.node (node_of e)).entries entry
   record_ready w e entry =
-      ap (λ es. record_behind ((ready S w e).node (node_of e)).first es entry) (ready_entries w e (node_of e))
-      ∙ ap (λ first. record_behind first (w.node (node_of e)).entries entry) (ready_first w e (node_of e))
+      ap (λ es. record_behind ((ready S w e).node (node_of e)).first es entry) (ready_entries S w e (node_of e))
+      ∙ ap (λ first. record_behind first (w.node (node_of e)).entries entry) (ready_first S w e (node_of e))
 
   -- a node that is running is up
   pub running_up : (w : World) (n : ℕ) → IsTrue (is_running S w n) → (w.node n).up ≡ true
@@ -195,10 +164,10 @@ module _ (S : Setting) where
     node_here = at_same (ready S w e).node n (acted S a ((ready S w e).node n))
 
     node_there : (x : ℕ) → (x ≡ n → ⊥) → (mutes (ready S w e) n a).node x ≡ w.node x
-    node_there x ne = at_other (ready S w e).node n (acted S a ((ready S w e).node n)) x ne ∙ ready_other w e x ne
+    node_there x ne = at_other (ready S w e).node n (acted S a ((ready S w e).node n)) x ne ∙ ready_other S w e x ne
 
     entries_here : ((mutes (ready S w e) n a).node n).entries ≡ (w.node n).entries ++ option_list a.entry
-    entries_here = ap (λ (x : Node). x.entries) node_here ∙ ap (λ es. es ++ option_list a.entry) (ready_entries w e n)
+    entries_here = ap (λ (x : Node). x.entries) node_here ∙ ap (λ es. es ++ option_list a.entry) (ready_entries S w e n)
 
     attempt_here : ((mutes (ready S w e) n a).node n).attempt ≡ a.attempt
     attempt_here = ap (λ (x : Node). x.attempt) node_here

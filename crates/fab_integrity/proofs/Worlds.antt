@@ -1,12 +1,14 @@
 -- How one world follows another: what a node's act changes of it, whatever is lost of what it sends; and a node that goes down.
-use Rattle.std.specs.Prelude.{◌≡◌, ◌⊎◌, ℕ, true, List, ◌++◌, false}
+use Rattle.std.specs.Prelude.{◌≡◌, ◌⊎◌, ℕ, true, List, ◌++◌, ◌==◌}
 use Rattle.fab_base.specs.declared.message.Message.{Message}
 use Rattle.fab_base.specs.MessageSpelling.{spelled}
-use Rattle.fab_world.specs.Machine.{World, Node, option_list, Setting, with_at, down}
-use Rattle.fab_world.specs.Workers.{Act, fresh}
+use Rattle.fab_world.specs.Machine.{World, Node, option_list, Setting, down}
+use Rattle.fab_world.specs.Workers.{Act}
+pub use Rattle.fab_world.proofs.Steps.{at_same, at_other, fallen, down_here, down_other}
 use Rattle.fab_integrity.proofs.Invariant.{In}
-use Rattle.std.proofs.Common.{refl, sym, ap, subst, inl, inr}
-use Rattle.std.proofs.lemmas.Bool.{cases_eq, eq-eqb, ne_eqb}
+use Rattle.fab_integrity.proofs.Lists.{in_unless}
+use Rattle.std.proofs.Common.{sym, ap, subst, inl, inr}
+use Rattle.std.proofs.lemmas.Bool.{cases_eq}
 
 -- what the invariant sees of a node is as it was
 pub record IsAsBefore (before after : Node) : Type 0 where
@@ -32,38 +34,22 @@ pub record Lands (n : ℕ) (act : Act) (w v : World) : Type 0 where
   pub attempt : (v.node n).attempt ≡ act.attempt
   pub up : (v.node n).up ≡ true
 
--- ---- tables by number, with one place changed
-
--- there is what was put there
-pub at_same : {A : Type 0} (f : ℕ → A) (n : ℕ) (x : A) → with_at f n x n ≡ x
-at_same f n x = rw (eq-eqb n n refl) refl
-
--- and elsewhere what was there
-pub at_other : {A : Type 0} (f : ℕ → A) (n : ℕ) (x : A) (m : ℕ) → (m ≡ n → ⊥) → with_at f n x m ≡ f m
-at_other f n x m ne = rw (ne_eqb m n ne) refl
-
 pub as_before : (a b : Node) → b ≡ a → IsAsBefore a b
 as_before a b e = record { entries = ap (λ (x : Node). x.entries) e; attempt = ap (λ (x : Node). x.attempt) e; up = ap (λ (x : Node). x.up) e }
 
 -- ---- a node that goes down
 
--- its attempt is gone
-abbrev pub fallen : Node → Node
-fallen node = record node { attempt = fresh; up = false }
-
 module _ (S : Setting) (w : World) (n : ℕ) where
-  pub down_here : (down S w n).node n ≡ fallen (w.node n)
-  down_here = at_same w.node n (fallen (w.node n))
-
-  pub down_other : (x : ℕ) → (x ≡ n → ⊥) → (down S w n).node x ≡ w.node x
-  down_other x apart = at_other w.node n (fallen (w.node n)) x apart
-
   pub down_beside : (x : ℕ) → (x ≡ n → ⊥) → IsAsBefore (w.node x) ((down S w n).node x)
-  down_beside x apart = as_before (w.node x) ((down S w n).node x) (down_other x apart)
+  down_beside x apart = as_before (w.node x) ((down S w n).node x) (down_other S w n x apart)
+
+  -- what waits did before
+  pub down_queue : (x b : ℕ) (bytes : List ℕ) → In bytes ((down S w n).queue x b) → In bytes (w.queue x b)
+  down_queue x b bytes h = in_unless (b == n) bytes (w.queue x b) h
 
   -- its records stay
   pub down_entries : (x : ℕ) → ((down S w n).node x).entries ≡ (w.node x).entries
   down_entries x = elim (cases_eq x n) [
-    | inl e ↦ subst (λ x. ((down S w n).node x).entries ≡ (w.node x).entries) (sym e) (ap (λ (y : Node). y.entries) down_here)
+    | inl e ↦ subst (λ x. ((down S w n).node x).entries ≡ (w.node x).entries) (sym e) (ap (λ (y : Node). y.entries) (down_here S w n))
     | inr apart ↦ let b = down_beside x apart in b.entries
   ]

@@ -18,6 +18,7 @@ use Rattle.fab_language.specs.declared.ending.Ending.{Ending}
 use Rattle.fab_language.specs.declared.ending.Ending.TheVariants.{Ended, Failed, Stopped, Missing}
 use Rattle.fab_language.specs.Heaps.{Heap, is_among, is_changed, touched}
 use Rattle.fab_language.specs.Meaning.{State, failed, stopped, missing, Run, goes, ends, M, Meant, meant_at, meant_by, meaning, requested, state_at_start}
+use Rattle.fab_language.proofs.Touches.{among_once}
 use Rattle.fab_laws.specs.Closed.{HasOne}
 use Rattle.fab_laws.specs.Fewer.{AreKnown, KnowsTouched, LacksLast, IsOverFewer}
 use Rattle.fab_laws.specs.Locality.{IsPart, LacksToo, AgreesOn, IsSameOver, GoesOn}
@@ -27,7 +28,7 @@ use Rattle.fab_laws.proofs.Everywhere.{Anywhere, every}
 use Rattle.fab_laws.proofs.Fewer as beside
 use Rattle.fab_laws.proofs.Fewer.{both_go, both_end, short, last}
 use Rattle.fab_laws.proofs.Kept.{get_shown, get_unshown}
-use Rattle.fab_laws.proofs.Names.{among_once, or_true}
+use Rattle.fab_laws.proofs.Names.{or_true}
 use Rattle.fab_laws.proofs.Touches.{none_some, none_one, not_the_same, known_one, one_first, Lacking, known_or}
 
 -- ---- endings

@@ -10,6 +10,8 @@ use Rattle.fab_base.specs.FlatMap.{is_same}
 use Rattle.fab_base.proofs.Names.{same_self, same_flips}
 use Rattle.fab_base.proofs.NameOrder.{one_name}
 use Rattle.fab_language.specs.Heaps.{Heap, is_among, is_changed, with_row, without, each_once, touched, noted}
+pub use Rattle.fab_language.proofs.Touches.{among_once}
+use Rattle.fab_language.proofs.Touches.{once_more as once_last}
 use Rattle.fab_laws.specs.Changes.{AreApart, AreOnce, has_pair}
 
 -- the names behind and one more
@@ -19,24 +21,6 @@ among_more o p (x ∷ xs) = elim (is_same x o) as (λ b. (b || is_among o (xs ++
 
 pub among_last : (o : Oid) (xs : List Oid) → is_among o (xs ++ o ∷ []) ≡ true
 among_last o xs = among_more o o xs ∙ ap (λ b. is_among o xs || b) (same_self o) ∙ or_true (is_among o xs)
-
--- ---- each once
-
-among_without : (o p : Oid) (xs : List Oid) → is_same p o ≡ false → is_among o (without p xs) ≡ is_among o xs
-among_without o p [] h = refl
-among_without o p (x ∷ xs) h =
-    elim (is_same x p) as (λ b. is_same x p ≡ b → is_among o (if b then without p xs else x ∷ without p xs) ≡ is_among o (x ∷ xs)) [
-      | true ↦ λ e. among_without o p xs h ∙ sym (ap (λ b. b || is_among o xs) (ap (λ q. is_same q o) (one_name x p e) ∙ h))
-      | false ↦ λ e. ap (λ b. is_same x o || b) (among_without o p xs h)
-    ] refl
-
-pub among_once : (o : Oid) (xs : List Oid) → is_among o (each_once xs) ≡ is_among o xs
-among_once o [] = refl
-among_once o (p ∷ ps) =
-    elim (is_same p o) as (λ b. is_same p o ≡ b → (b || is_among o (without p (each_once ps))) ≡ (b || is_among o ps)) [
-      | true ↦ λ e. refl
-      | false ↦ λ e. among_without o p (each_once ps) e ∙ among_once o ps
-    ] refl
 
 -- ---- touches
 
@@ -134,18 +118,6 @@ once_both [] ys = (each_once ys, refl)
 once_both (x ∷ xs) ys =
     let later = once_both xs ys in
     (without x later.0, ap (λ l. x ∷ without x l) later.1 ∙ ap (λ l. x ∷ l) (without_both x (each_once xs) later.0))
-
-once_last : (o : Oid) (xs : List Oid) → each_once (xs ++ o ∷ []) ≡ (if is_among o xs then each_once xs else each_once xs ++ o ∷ [])
-once_last o [] = refl
-once_last o (p ∷ ps) = rw (once_last o ps) (split (is_among o ps))
-  where
-    split : (b : Bool) → p ∷ without p (if b then each_once ps else each_once ps ++ o ∷ []) ≡ (if is_same p o || b then p ∷ without p (each_once ps) else p ∷ without p (each_once ps) ++ o ∷ [])
-    split true = elim (is_same p o) as (λ c. p ∷ without p (each_once ps) ≡ (if c || true then p ∷ without p (each_once ps) else p ∷ without p (each_once ps) ++ o ∷ [])) [ true ↦ refl | false ↦ refl ]
-    split false = rw (without_both p (each_once ps) (o ∷ []), same_flips o p) (last (is_same p o))
-      where
-        last : (c : Bool) → p ∷ without p (each_once ps) ++ (if c then [] else o ∷ []) ≡ (if c || false then p ∷ without p (each_once ps) else p ∷ without p (each_once ps) ++ o ∷ [])
-        last true = ap (λ l. p ∷ l) (append-nil _)
-        last false = refl
 
 pub touched_list : (site : ℕ) (o : Oid) (ts : List (ℕ × Oid)) → touched (noted site o ts) ≡ (if is_among o (touched ts) then touched ts else touched ts ++ o ∷ [])
 touched_list site o ts =

@@ -13,8 +13,8 @@ use Rattle.fab_tree.specs.declared.resolved.Sort.{Sort}
 use Rattle.fab_tree.specs.declared.resolved.Local.{Local}
 use Rattle.fab_tree.specs.declared.resolved.Method.{Method}
 use Rattle.fab_language.specs.Meaning.{default, locals_at_start}
+
 -- what holds of two lists, by the name that it had here
-pub use Rattle.fab_base.proofs.Lists.{all_append as all_joined}
 
 -- a number leads nowhere
 pub number_leads_nowhere : (P : Oid → Type 0) (w : Width) (v : Value) → is_number_of w v ≡ true → IfSome (referred v) P

@@ -6,28 +6,21 @@ use Rattle.fab_base.specs.declared.object.Tid.{Tid}
 use Rattle.fab_base.specs.declared.object.Value.{Value}
 use Rattle.fab_base.specs.declared.object.Value.TheVariants.{Null}
 use Rattle.fab_base.specs.FlatMap.{FlatMap}
+use Rattle.fab_base.proofs.Lists.{all_append}
 use Rattle.fab_tree.specs.declared.resolved.Statement.{Statement}
 use Rattle.fab_language.specs.Heaps.{Heap}
 use Rattle.fab_language.specs.Meaning.{State, Run, goes, ends, End, M}
 use Rattle.fab_laws.specs.Runs.{state_behind}
-use Rattle.fab_laws.proofs.Values.{all_joined}
+use Rattle.fab_erasure.proofs.Views.{split_left, split_right}
 use Rattle.fab_left.specs.Left.{Place, Means, Entry, rest, tried, returning, handed, Stems, StemsIn, AllStem}
 use Rattle.fab_left.specs.Deeds.{Deed, passed, into, again, trying, entering, pushed}
 use Rattle.fab_left.specs.Steps.{IsSplit}
-
-all_front : {A : Type 0} (P : A → Type 0) (xs ys : List A) → AllByRecursion P (xs ++ ys) → AllByRecursion P xs
-all_front P [] ys h = tt
-all_front P (x ∷ xs) ys h = (h.0, all_front P xs ys h.1)
-
-all_behind : {A : Type 0} (P : A → Type 0) (xs ys : List A) → AllByRecursion P (xs ++ ys) → AllByRecursion P ys
-all_behind P [] ys h = h
-all_behind P (x ∷ xs) ys h = all_behind P xs ys h.1
 
 module _ (tid : Tid) (known : FlatMap) where
   -- entries may go, and others come that keep such heaps
   changed : (ks js new : List Entry) (t u : State) → Stems tid known u.heap.rows → AllByRecursion (StemsIn tid known) new → AllStem tid known (ks ++ js) t
       → AllStem tid known (ks ++ new) u
-  changed ks js new t u st n h = record { state = st; entries = all_joined (StemsIn tid known) ks new (all_front (StemsIn tid known) ks js h.entries) n }
+  changed ks js new t u st n h = record { state = st; entries = all_append (StemsIn tid known) ks new (split_left (StemsIn tid known) ks js h.entries) n }
 
   all_pushed : (p : Place) (s : Statement) (ss : List Statement) (u : State) → Stems tid known u.heap.rows → (d : Deed)
       → AllByRecursion (StemsIn tid known) (pushed p s ss u d)
@@ -47,11 +40,11 @@ module _ (tid : Tid) (known : FlatMap) where
     act_stems d e = changed ks (rest p (s ∷ ss) ∷ []) (pushed p s ss u d) t u (behind (goes d u) e) (all_pushed p s ss u (behind (goes d u) e) d) h
 
     pub end_stems : (e : End) → does p s t ≡ ends e u → AllStem tid known ks u
-    end_stems e i = record { state = behind (ends e u) i; entries = all_front (StemsIn tid known) ks (rest p (s ∷ ss) ∷ []) h.entries }
+    end_stems e i = record { state = behind (ends e u) i; entries = split_left (StemsIn tid known) ks (rest p (s ∷ ss) ∷ []) h.entries }
 
   pub popped_stems : (ks : List Entry) (k : Entry) (t : State) (locals : List Value) → AllStem tid known (ks ++ k ∷ []) t
       → AllStem tid known ks (record t { locals = locals })
-  popped_stems ks k t locals h = record { state = h.state; entries = all_front (StemsIn tid known) ks (k ∷ []) h.entries }
+  popped_stems ks k t locals h = record { state = h.state; entries = split_left (StemsIn tid known) ks (k ∷ []) h.entries }
 
   pub entered_stems : (ks : List Entry) (p callee : Place) (ss body : List Statement) (target : Option ℕ) (t : State) (locals : List Value)
       → AllStem tid known (ks ++ rest p ss ∷ []) t
@@ -63,7 +56,7 @@ module _ (tid : Tid) (known : FlatMap) where
       → AllStem tid known (ks ++ tried p locals heap ss ∷ []) t
       → AllStem tid known (ks ++ rest p ss ∷ []) (record t { locals = locals; heap = heap })
   caught_stems ks p locals heap ss t h =
-      let kept = all_behind (StemsIn tid known) ks (tried p locals heap ss ∷ []) h.entries in
+      let kept = split_right (StemsIn tid known) ks (tried p locals heap ss ∷ []) h.entries in
       changed ks (tried p locals heap ss ∷ []) (rest p ss ∷ []) t (record t { locals = locals; heap = heap }) kept.0 (tt, tt) h
 
   -- ---- what a call gives
@@ -86,7 +79,7 @@ module _ (tid : Tid) (known : FlatMap) where
       result_behind r e = subst (λ (q : Run (Option Value)). Stems tid known (state_behind q).heap.rows) e ((split.results callee).stems known t h.state)
 
       front : AllByRecursion (StemsIn tid known) ks
-      front = all_front (StemsIn tid known) ks (returning callee caller locals target ∷ []) h.entries
+      front = split_left (StemsIn tid known) ks (returning callee caller locals target ∷ []) h.entries
 
       pub returned_stems : (v : Option Value) (w : State) → m.result callee t ≡ goes v u → handed m caller target v (record u { locals = locals }) ≡ goes tt w
           → AllStem tid known ks w

@@ -204,7 +204,7 @@ fn put_last_first(indexed: &mut Indexed, list: &mut Vec<(Tid, Items)>)
 {
     'each: while let Some((tid, items)) = list.pop() {
         if let Err(items) = indexed.add(tid, items) {
-            let _ = list.push((tid, items));
+            list.push_reserved((tid, items));
             return;
         }
     }

@@ -17,4 +17,4 @@ pub use marks::put_marks;
 pub use moves::Move;
 pub use nodes::{are_nodes, is_node, number_of};
 pub use shape::{Shape, Sign, Spot};
-pub use texts::{put_made, put_short};
+pub use texts::{put_made, put_number, put_short};

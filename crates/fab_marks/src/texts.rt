@@ -11,7 +11,7 @@ use fab_tree::resolved::{Resolved, Root};
 use std::alloc::Global;
 
 /// A number.
-pub(crate) fn put_number(alloc: Global, out: &mut Seq<u8>, number: u64) -> Result<(), NoMemory>
+pub fn put_number(alloc: Global, out: &mut Seq<u8>, number: u64) -> Result<(), NoMemory>
     ensures { OnOk result (out.new ≡ out.old ++ decimal number) }
 {
     let text = format!(in alloc; "{number}")?;

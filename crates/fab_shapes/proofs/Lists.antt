@@ -2,7 +2,7 @@
 use Rattle.std.proofs.Common.{◌≡◌, Bool, true, List, [], ◌∷◌, refl}
 use Rattle.std.specs.List.{flat_map, AllByRecursion, list_all}
 use Rattle.std.proofs.lemmas.Bool.{and_from}
-use Rattle.fab_base.proofs.Lists.{all_append, all_split}
+use Rattle.fab_base.proofs.Lists.{all_always, all_flat, all_split}
 
 -- what holds of all that is made of each element
 pub in_each : {X A : Type 0} (P : A → Type 0) (f : X → List A) (xs : List X) → AllByRecursion P (flat_map f xs) → AllByRecursion (λ x. AllByRecursion P (f x)) xs
@@ -10,8 +10,7 @@ in_each P f [] h = tt
 in_each P f (x ∷ xs) h = let t = all_split P (f x) (flat_map f xs) h in (t.0, in_each P f xs t.1)
 
 pub of_all : {X A : Type 0} (P : A → Type 0) (f : X → List A) (xs : List X) → ((x : X) → AllByRecursion P (f x)) → AllByRecursion P (flat_map f xs)
-of_all P f [] h = tt
-of_all P f (x ∷ xs) h = all_append P (f x) (flat_map f xs) (h x) (of_all P f xs h)
+of_all P f xs h = all_flat P f xs (all_always (λ x. AllByRecursion P (f x)) h xs)
 
 pub all_pass : {A : Type 0} (f : A → Bool) (xs : List A) → AllByRecursion (λ x. f x ≡ true) xs → list_all f xs ≡ true
 all_pass f [] h = refl

@@ -1,10 +1,10 @@
 //! Elements of SVG.
 ghost use Rattle.std.specs.Prelude.{◌≡◌, ◌++◌, OnOk};
-ghost use Rattle.std.specs.Fmt.{decimal};
 ghost use Rattle.fab_svg.specs.Svg.{attribute, line_at, number_attribute, path_at, path_start, text_at, title};
 
 use crate::escaped::put_escaped;
 use fab_base::{NoMemory, Seq};
+use fab_marks::put_number;
 use std::alloc::Global;
 
 /// Words of the picture's own.
@@ -84,14 +84,6 @@ pub(crate) fn put_line(
     put_number_attribute(alloc, out, "x2", to.0)?;
     put_number_attribute(alloc, out, "y2", to.1)?;
     put(out, "/>")
-}
-
-/// A number.
-fn put_number(alloc: Global, out: &mut Seq<u8>, number: u64) -> Result<(), NoMemory>
-    ensures { OnOk result (out.new ≡ out.old ++ decimal number) }
-{
-    let digits = format!(in alloc; "{number}")?;
-    put(out, digits.as_str())
 }
 
 /// Where a path begins.

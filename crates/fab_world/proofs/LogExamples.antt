@@ -15,10 +15,10 @@ use Rattle.fab_net.specs.declared.note.Note.{Note}
 use Rattle.fab_net.specs.declared.note.Note.TheVariants as note
 use Rattle.fab_protocol.specs.Stores.{shelf_of}
 use Rattle.fab_protocol.proofs.Toy.{account, holding, attempt}
-use Rattle.fab_world.specs.Machine.{Setting, Move, Form, Does, Cuts, Crashes, Posts, World, form_of, enabled, logged, at_start}
+use Rattle.fab_world.specs.Machine.{Setting, Move, Form, Does, Cuts, Crashes, Posts, World, form_of, enabled, logged, at_start, failure}
 use Rattle.fab_world.specs.Serial.{world_of}
 use Rattle.fab_world.specs.Workers.{kept_of}
-use Rattle.fab_world.proofs.Toy.{setting, posts_of, plain, failing, is_run, both_written, transfers, until_prepare}
+use Rattle.fab_world.proofs.Toy.{setting, posts_of, plain, is_run, both_written, transfers, until_prepare}
 
 abbrev first : Tid
 first = attempt 0 1 1
@@ -68,7 +68,7 @@ log_of_torn_cut : logged S (world_of S voted) (cut 23)
 unfolding kept_of shelf_of
 log_of_torn_cut = refl
 
-log_of_mark : logged S (world_of S voted) (failing decides)
+log_of_mark : logged S (world_of S voted) (failure decides)
     ≡ record { event = CrashIn 0 decides; bytes = spelled (Vote first Yes); notes = []; whole = false; marked = true }
 unfolding kept_of shelf_of
 log_of_mark = refl
@@ -82,7 +82,7 @@ unfolding kept_of shelf_of
 log_of_post = refl
 
 -- a store's recovery writes no record, and yet its journal may fail
-log_of_lost : logged S (world_of S (voted ++ plain (Crash 1) ∷ [])) (failing (i.Recover 1))
+log_of_lost : logged S (world_of S (voted ++ plain (Crash 1) ∷ [])) (failure (i.Recover 1))
     ≡ record { event = CrashIn 0 (i.Recover 1); bytes = []; notes = []; whole = false; marked = true }
 unfolding kept_of shelf_of
 log_of_lost = refl

@@ -18,12 +18,12 @@ use Rattle.fab_net.specs.declared.outcome.Denial.TheVariants.{IllFormed}
 use Rattle.fab_rights.specs.Computed.{may_write, may_hold}
 use Rattle.fab_protocol.specs.Stores.{shelf_of}
 use Rattle.fab_world.specs.Workers.{kept_of, Fetching}
-use Rattle.fab_world.specs.Machine.{Setting, Move, Does, enabled, held_at, outcome}
+use Rattle.fab_world.specs.Machine.{Setting, Move, Does, enabled, held_at, outcome, failure}
 use Rattle.fab_base.specs.MessageSpelling.{spelled}
 use Rattle.fab_world.specs.Serial.{Excludes, IsRun, held_map, serial_replay, commits_in, world_of}
 use Rattle.fab_protocol.proofs.Toy.{account, box, holding, accounts, attempt, rights}
 use Rattle.fab_world.proofs.Toy.{amount, is_hostile}
-use Rattle.fab_world.proofs.Toy.{setting, no_posts, posts_of, plain, failing, is_run, is_account, fetches, both_written}
+use Rattle.fab_world.proofs.Toy.{setting, no_posts, posts_of, plain, is_run, is_account, fetches, both_written}
 use Rattle.fab_world.proofs.Toy.{commits, transfers, until_prepare, until_applied}
 
 -- ---- two workers that move 5: the slower one's first attempt is stale, and its second commits
@@ -187,7 +187,7 @@ abbrev T : Setting
 T = setting 0 1 0 no_posts (transfers first)
 
 abbrev silence : List Move
-silence = map plain (until_prepare 0) ++ failing (i.Deliver 0 1) ∷ plain (Idle 0 1) ∷ []
+silence = map plain (until_prepare 0) ++ failure (i.Deliver 0 1) ∷ plain (Idle 0 1) ∷ []
 
 silence_is_run : is_run T silence ≡ true
 unfolding kept_of shelf_of
@@ -209,7 +209,7 @@ no_idle_before = refl
 -- ---- a worker whose journal fails at the decision has not decided
 
 abbrev undecided : List Move
-undecided = map plain (until_prepare 0 ++ Deliver 0 1 ∷ []) ++ failing (i.Deliver 1 0) ∷ []
+undecided = map plain (until_prepare 0 ++ Deliver 0 1 ∷ []) ++ failure (i.Deliver 1 0) ∷ []
 
 undecided_is_run : is_run T undecided ≡ true
 unfolding kept_of shelf_of
@@ -226,7 +226,7 @@ prepared_for_ever = refl
 -- ---- a store whose journal fails at Recover doesn't come back
 
 abbrev lost : List Move
-lost = plain (Crash 1) ∷ failing (i.Recover 1) ∷ []
+lost = plain (Crash 1) ∷ failure (i.Recover 1) ∷ []
 
 lost_is_run : is_run T lost ≡ true
 unfolding kept_of shelf_of

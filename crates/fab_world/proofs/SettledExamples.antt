@@ -5,10 +5,10 @@ use Rattle.fab_net.specs.declared.event.Event.{Event}
 use Rattle.fab_net.specs.declared.event.Event.TheVariants.{Begin, Resume, Deliver, Idle, Crash, Recover}
 use Rattle.fab_net.specs.declared.event.Inner.TheVariants as i
 use Rattle.fab_protocol.specs.Stores.{shelf_of}
-use Rattle.fab_world.specs.Machine.{Setting, Move, Does, enabled}
+use Rattle.fab_world.specs.Machine.{Setting, Move, Does, enabled, failure}
 use Rattle.fab_world.specs.Serial.{world_of}
 use Rattle.fab_world.specs.Workers.{kept_of}
-use Rattle.fab_world.proofs.Toy.{setting, no_posts, plain, failing, is_run}
+use Rattle.fab_world.proofs.Toy.{setting, no_posts, plain, is_run}
 
 -- workers 0 and 3 want the box of store 4, which is hostile and silent
 abbrev S : Setting
@@ -57,7 +57,7 @@ unfolding kept_of shelf_of
 once_it_is_back = refl
 
 abbrev other_lost : List Move
-other_lost = then (Begin 3 ∷ Crash 3 ∷ []) ++ failing (i.Recover 3) ∷ []
+other_lost = then (Begin 3 ∷ Crash 3 ∷ []) ++ failure (i.Recover 3) ∷ []
 
 other_lost_is_run : is_run S other_lost ≡ true
 unfolding kept_of shelf_of
@@ -83,7 +83,7 @@ unfolding kept_of shelf_of
 once_store_is_back = refl
 
 abbrev store_lost : List Move
-store_lost = then (Crash 1 ∷ []) ++ failing (i.Recover 1) ∷ []
+store_lost = then (Crash 1 ∷ []) ++ failure (i.Recover 1) ∷ []
 
 store_lost_is_run : is_run S store_lost ≡ true
 unfolding kept_of shelf_of

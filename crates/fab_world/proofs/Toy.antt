@@ -1,5 +1,5 @@
 -- A small setting, made by hand: requests that move 5 between accounts, settings and runs over them.
-use Rattle.std.proofs.Common.{ℕ, zero, suc, ◌+◌, ◌-◌, Bool, true, false, if◌then◌else◌, List, [], ◌∷◌}
+use Rattle.std.proofs.Common.{ℕ, zero, suc, ◌+◌, ◌-◌, Bool, false, if◌then◌else◌, List, [], ◌∷◌}
 use Rattle.std.proofs.Common.{◌++◌, map, ℤ, pos, ◌+ℤ◌, ◌-ℤ◌, Option, Some, None, bytes_eq, find, ◌==◌, ◌||◌}
 use Rattle.fab_base.specs.declared.object.Oid.{Oid}
 use Rattle.fab_base.specs.declared.object.Object.{Object as Thing}
@@ -14,8 +14,7 @@ use Rattle.fab_base.specs.FlatMap.{FlatMap, get, put}
 use Rattle.fab_language.specs.declared.ending.Ending.TheVariants.{Ended, Missing}
 use Rattle.fab_language.specs.Meaning.{Meant}
 use Rattle.fab_net.specs.declared.event.Event.{Event}
-use Rattle.fab_net.specs.declared.event.Event.TheVariants.{Begin, Resume, Deliver, CrashIn}
-use Rattle.fab_net.specs.declared.event.Inner.{Inner}
+use Rattle.fab_net.specs.declared.event.Event.TheVariants.{Begin, Resume, Deliver}
 use Rattle.fab_protocol.proofs.Toy.{account, box, holding, accounts, made, rights}
 use Rattle.fab_world.specs.Machine.{Setting, Move, at_start, are_enabled}
 use Rattle.fab_base.specs.JournalSpelling.{journal_version}
@@ -93,10 +92,6 @@ posts_of h n messages m = if m == h then map (λ message. (n, message)) messages
 
 abbrev pub plain : Event → Move
 plain event = record { event = event; marked = false }
-
--- an event in which a journal call failed
-abbrev pub failing : Inner → Move
-failing e = record { event = CrashIn 0 e; marked = true }
 
 abbrev pub is_run : Setting → List Move → Bool
 is_run S moves = are_enabled S (at_start S) moves

@@ -137,6 +137,10 @@ form_by true _ = Never
 abbrev pub form_of : Move → Form
 form_of move = form_by move.marked move.event
 
+-- an event of a node in which a call of its journal failed
+abbrev pub failure : Inner → Move
+failure e = record { event = CrashIn 0 e; marked = true }
+
 module _ (S : Setting) where
   abbrev pub at_start : World
   at_start = record {

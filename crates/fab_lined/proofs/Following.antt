@@ -1,5 +1,5 @@
 -- What keeps crash lines may come.
-use Rattle.std.proofs.Common.{◌≡◌, ℕ, ◌≤◌, List, [], ◌∷◌, ◌++◌, length, min, Bool, true, false, not, ◌&&◌, is_some, Option, Some, None, refl, sym, subst, arith, true≢false}
+use Rattle.std.proofs.Common.{◌≡◌, ℕ, List, [], ◌∷◌, ◌++◌, length, min, Bool, true, false, not, ◌&&◌, is_some, Option, Some, None, refl, sym, arith, true≢false}
 use Rattle.std.specs.Prelude.{nat_le, if◌then◌else◌}
 use Rattle.std.proofs.lemmas.Bool.{and_from, and_parts, eqb-true, le-leb}
 use Rattle.fab_net.specs.declared.event.Inner.{Inner}
@@ -7,15 +7,12 @@ use Rattle.fab_net.specs.declared.event.Inner.TheVariants as i
 use Rattle.fab_world.specs.Machine.{Setting, World, Move, Form, Does, Cuts, Fails, Posts, Crashes, Never, form_of, at_start, act, node_of, step, enabled, are_enabled, may, record_at}
 use Rattle.fab_world.specs.Crashing.{CrashLine, KeepsLines, cut_at, goes_on, is_cut_to, keeps_by, keeps_lines, line_now, may_follow, must_crash}
 
-min_least : (a b : ℕ) → min a b ≤ b
-min_least a b = omega arith
-
 module _ (S : Setting) (lines : ℕ → List CrashLine) where
   module _ (w : World) (moves : List Move) where
     abbrev calm : Inner → Bool
     calm e = not (must_crash S lines w moves (node_of e))
 
-    goes_may : (e : Inner) → goes_on S lines w moves e ≡ true → may S w e ≡ true
+    pub goes_may : (e : Inner) → goes_on S lines w moves e ≡ true → may S w e ≡ true
     goes_may (i.Resume n) h = h
     goes_may (i.Begin n) h = (and_parts (may S w (i.Begin n)) (calm (i.Begin n)) h).0
     goes_may (i.Deliver a b) h = (and_parts (may S w (i.Deliver a b)) (calm (i.Deliver a b)) h).0
@@ -30,11 +27,11 @@ module _ (S : Setting) (lines : ℕ → List CrashLine) where
         by : (b : Bool) (kept : Option ℕ) → is_cut_to S lines (if b then kept else None) keep most ≡ true → (b ≡ true) × (nat_le keep most ≡ true)
         by true (Some bytes) k =
             let same : keep ≡ min bytes most = eqb-true keep (min bytes most) k in
-            (refl, le-leb keep most (subst (λ z. z ≤ most) (sym same) (min_least bytes most)))
+            (refl, le-leb keep most (omega (arith, same)))
         by true None k = absurd (true≢false (sym k))
         by false kept k = absurd (true≢false (sym k))
 
-    follows_enabled : (form : Form) → may_follow S lines w moves form ≡ true → enabled S w form ≡ true
+    pub follows_enabled : (form : Form) → may_follow S lines w moves form ≡ true → enabled S w form ≡ true
     follows_enabled (Does e) h = goes_may e (and_parts _ _ h).0
     follows_enabled (Cuts keep e) h =
         let p = and_parts (may S w e && calm e) (is_cut_to S lines (cut_at S lines w moves e) keep (length (record_at S w e))) h in
