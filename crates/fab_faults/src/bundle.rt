@@ -8,8 +8,8 @@ ghost use Rattle.fab_language.specs.Types as kinds;
 ghost use Rattle.fab_language.specs.Unknown as names;
 ghost use Rattle.fab_rules.specs.First.{first_from};
 
-use crate::lists;
-use crate::rules::{Miscounted, Misplaced, Mistyped, Unknown};
+use crate::items::in_items;
+use crate::rules::{Miscounted, Misplaced, Mistyped, MistypedGiven, Unknown};
 use crate::walk::in_heads;
 use fab_base::NoMemory;
 use fab_language::Fault;
@@ -19,12 +19,14 @@ use fab_tree::{Method, Start};
 use std::alloc::Global;
 
 /// Names that aren't declared, in what stands before the methods.
+#[tactic(auto, using(fab_rules::proofs::Firsts::in_parts))]
 fn unknown_before(tables: &Tables<'_>, first: Option<Fault>, start: &Start) -> Option<Fault>
     ensures { result ≡ first_from first (flat_map (names.in_delegation tables.now) start.now.program.delegations ++ flat_map (names.in_label_text tables.now) start.now.program.labels ++ flat_map (names.in_class tables.now) start.now.program.classes) }
 {
-    let first = lists::unknown_in_delegations(tables, first, start.program.delegations.as_slice());
-    let first = lists::unknown_in_labels(tables, first, start.program.labels.as_slice());
-    lists::unknown_in_classes(tables, first, start.program.classes.as_slice())
+    let rule = Unknown { tables };
+    let first = in_items(&rule, first, start.program.delegations.as_slice());
+    let first = in_items(&rule, first, start.program.labels.as_slice());
+    in_items(&rule, first, start.program.classes.as_slice())
 }
 
 /// Names that aren't declared, in the methods.
@@ -45,14 +47,16 @@ fn unknown_in_methods(
 }
 
 /// Names that aren't declared, in the run part.
+#[tactic(auto, using(fab_rules::proofs::Firsts::in_parts))]
 fn unknown_behind(tables: &Tables<'_>, first: Option<Fault>, start: &Start) -> Option<Fault>
     ensures { result ≡ first_from first (flat_map (names.in_root tables.now) start.now.roots ++ flat_map (names.in_session tables.now) start.now.sessions ++ flat_map (names.in_post tables.now) start.now.posts ++ flat_map (names.in_crash tables.now) start.now.crashes ++ flat_map (names.in_event tables.now) start.now.schedule) }
 {
-    let first = lists::unknown_in_roots(tables, first, start.roots.as_slice());
-    let first = lists::unknown_in_sessions(tables, first, start.sessions.as_slice());
-    let first = lists::unknown_in_posts(tables, first, start.posts.as_slice());
-    let first = lists::unknown_in_crashes(tables, first, start.crashes.as_slice());
-    lists::unknown_in_events(tables, first, start.schedule.as_slice())
+    let rule = Unknown { tables };
+    let first = in_items(&rule, first, start.roots.as_slice());
+    let first = in_items(&rule, first, start.sessions.as_slice());
+    let first = in_items(&rule, first, start.posts.as_slice());
+    let first = in_items(&rule, first, start.crashes.as_slice());
+    in_items(&rule, first, start.schedule.as_slice())
 }
 
 /// Principals of another kind than their places need, in the methods.
@@ -72,14 +76,16 @@ fn misplaced_in_methods(
 }
 
 /// Principals of another kind than their places need, in the run part.
+#[tactic(auto, using(fab_rules::proofs::Firsts::in_parts))]
 fn misplaced_behind(tables: &Tables<'_>, first: Option<Fault>, start: &Start) -> Option<Fault>
     ensures { result ≡ first_from first (flat_map (placed.in_root tables.now) start.now.roots ++ flat_map (placed.in_session tables.now) start.now.sessions ++ flat_map (placed.in_post tables.now) start.now.posts ++ flat_map (placed.in_crash tables.now) start.now.crashes ++ flat_map (placed.in_event tables.now) start.now.schedule) }
 {
-    let first = lists::misplaced_in_roots(tables, first, start.roots.as_slice());
-    let first = lists::misplaced_in_sessions(tables, first, start.sessions.as_slice());
-    let first = lists::misplaced_in_posts(tables, first, start.posts.as_slice());
-    let first = lists::misplaced_in_crashes(tables, first, start.crashes.as_slice());
-    lists::misplaced_in_events(tables, first, start.schedule.as_slice())
+    let rule = Misplaced { tables };
+    let first = in_items(&rule, first, start.roots.as_slice());
+    let first = in_items(&rule, first, start.sessions.as_slice());
+    let first = in_items(&rule, first, start.posts.as_slice());
+    let first = in_items(&rule, first, start.crashes.as_slice());
+    in_items(&rule, first, start.schedule.as_slice())
 }
 
 /// Too many or too few given, in the methods.
@@ -99,11 +105,13 @@ fn miscounted_in_methods(
 }
 
 /// Too many or too few given, in the run part.
+#[tactic(auto, using(fab_rules::proofs::Firsts::in_parts))]
 fn miscounted_behind(tables: &Tables<'_>, first: Option<Fault>, start: &Start) -> Option<Fault>
     ensures { result ≡ first_from first (flat_map (counted.in_root tables.now) start.now.roots ++ flat_map (counted.in_session tables.now) start.now.sessions) }
 {
-    let first = lists::miscounted_in_roots(tables, first, start.roots.as_slice());
-    lists::miscounted_in_sessions(tables, first, start.sessions.as_slice())
+    let rule = Miscounted { tables };
+    let first = in_items(&rule, first, start.roots.as_slice());
+    in_items(&rule, first, start.sessions.as_slice())
 }
 
 /// Values of other types than their places need, in the methods.
@@ -125,11 +133,13 @@ fn mistyped_in_methods(
 }
 
 /// Values of other types than their places need, in the run part.
+#[tactic(auto, using(fab_rules::proofs::Firsts::in_parts))]
 fn mistyped_behind(tables: &Tables<'_>, first: Option<Fault>, start: &Start) -> Option<Fault>
     ensures { result ≡ first_from first (flat_map (kinds.in_root tables.now) start.now.roots ++ flat_map (kinds.in_session tables.now) start.now.sessions) }
 {
-    let first = lists::mistyped_in_roots(tables, first, start.roots.as_slice());
-    lists::mistyped_in_sessions(tables, first, start.sessions.as_slice())
+    let rule = MistypedGiven { tables };
+    let first = in_items(&rule, first, start.roots.as_slice());
+    in_items(&rule, first, start.sessions.as_slice())
 }
 
 /// The first of all faults, rule by rule.

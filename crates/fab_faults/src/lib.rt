@@ -2,7 +2,7 @@
 #![tactic(auto)]
 
 mod bundle;
-mod lists;
+mod items;
 mod rule;
 mod rules;
 mod walk;

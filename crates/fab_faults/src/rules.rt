@@ -1,4 +1,4 @@
-//! The four rules that speak of what stands in a method.
+//! The four rules, each with the tables that it looks names up in.
 ghost use Rattle.std.specs.Prelude.{◌≡◌};
 
 use crate::rule::HeadRule;
@@ -296,4 +296,10 @@ impl<'t, 'a> HeadRule for Mistyped<'t, 'a> {
     fn in_result(&self, known: &Known, first: Option<Fault>, value: &Return) -> Option<Fault> {
         fab_types::in_result(self.tables, known, first, self.returns, value)
     }
+}
+
+/// A value that is given in the run part isn't of the type that its place needs.
+#[derive(Clone, Copy)]
+pub(crate) struct MistypedGiven<'t, 'a> {
+    pub(crate) tables: &'t Tables<'a>,
 }

@@ -14,7 +14,6 @@ use std::alloc::Global;
 
 /// The first fault in a block, in which alone its locals are known.
 #[cycle(walk)]
-#[tactic(auto, using(crate::proofs::Walks::found_if_alone, crate::proofs::Walks::found_if_else, crate::proofs::Walks::found_while, crate::proofs::Walks::found_atomic, crate::proofs::Walks::found_next))]
 fn in_block<'a, R: HeadRule>(
     rule: &R,
     known: &mut Known<'a>,
@@ -32,7 +31,6 @@ fn in_block<'a, R: HeadRule>(
 
 /// The first fault in statements, behind which their locals are known.
 #[cycle(walk)]
-#[tactic(auto, using(crate::proofs::Walks::found_if_alone, crate::proofs::Walks::found_if_else, crate::proofs::Walks::found_while, crate::proofs::Walks::found_atomic, crate::proofs::Walks::found_next))]
 fn in_row<'a, R: HeadRule>(
     rule: &R,
     known: &mut Known<'a>,
@@ -52,7 +50,6 @@ fn in_row<'a, R: HeadRule>(
 
 /// The first fault in a statement.
 #[cycle(walk)]
-#[tactic(auto, using(crate::proofs::Walks::found_if_alone, crate::proofs::Walks::found_if_else, crate::proofs::Walks::found_while, crate::proofs::Walks::found_atomic, crate::proofs::Walks::found_next))]
 fn in_statement<'a, R: HeadRule>(
     rule: &R,
     known: &mut Known<'a>,

@@ -1,4 +1,3 @@
-use Rattle.std.proofs.Common.{sym, ap, ◌∙◌}
 use Rattle.std.specs.List.{flat_map}
 use Rattle.fab_language.specs.Roles.{in_method}
 use Rattle.fab_rules.specs.First.{first_from}
