@@ -1,18 +1,16 @@
 //! The reply to what is asked.
-ghost use Rattle.std.specs.Prelude.{◌≡◌, ◌≢◌, ◌⊎◌, ◌↔◌, ◌≤◌, IsTrue, List, ℕ, [], Some, None as Nothing, codes, IfOk, IfSome, IsErrOf, OnErr};
-ghost use Rattle.std.specs.Io.KnownBytes.{Keeps, IsAtEnd};
+ghost use Rattle.std.specs.Prelude.{◌≡◌, ◌≢◌, ◌↔◌, ◌≤◌, IsTrue, List, ℕ, Some, None as Nothing, IfOk, IsErrOf, OnErr};
 ghost use Rattle.fab_base.specs.Faults.{Rose};
-ghost use Rattle.fab_reply.specs.Headline.{Headline, IsPartFor, IsWholeFor};
-ghost use Rattle.fab_front.specs.Lines.{line};
-ghost use Rattle.fab_reply.specs.Reply.{Answers, AreCut, ComesTo, Ends, IsCut, IsComplete, IsInput, IsJournalFault, JournalsAre, Replies, RepliesInPart, SpeaksOfText};
+ghost use Rattle.fab_reply.specs.Answered.{IsDone};
+ghost use Rattle.fab_reply.specs.Reply.{Answers, AreCut, Ends, IsCut, IsInput, JournalsAre};
+ghost use Rattle.fab_reply.specs.Tasks.{task_of};
 ghost use Rattle.fab_replay.specs.Courses.{IsCourse};
 ghost use Rattle.fab_front.specs.Reading.{TakesAtMost};
 ghost use Rattle.fab_answers.specs.Says.{MakesRuns};
 ghost use Rattle.fab_command.specs.declared.command.Command.TheVariants.{Audit, Infer};
 ghost use Rattle.fab_reply.specs.Replays.{CanMake};
 ghost use Rattle.fab_front.specs.declared.reading.ReadError.TheVariants.{Fault, Memory as Wanting};
-ghost use Rattle.fab_front.specs.declared.status.Status.{Status as AnyStatus};
-ghost use Rattle.fab_front.specs.declared.status.Status.TheVariants.{Ok as Done, Usage, ReadFault, WriteFault, Memory, JournalFault};
+ghost use Rattle.fab_front.specs.declared.status.Status.TheVariants.{ReadFault, WriteFault};
 
 use crate::answers::replayed;
 use fab_answers::{Said, said_of};
@@ -168,61 +166,8 @@ pub fn answer<C: Course<Core<M::Item>>, S: Source, K: Sink, M: Journals>(
     requires made { CanMake C.makes asked }
     requires course { IsCourse C.makes (C.may course.now) (C.comes course.now) }
 
-    // What each status says of what was read and of what was written.
-    ensures means { Ends asked result (S.left source.old) (S.left source.new) (K.written sink.old) (K.written sink.new) (M.seen journals.old) (M.seen journals.new) }
-
-    // Whatever reply the command and the text have is the one that comes, whole, unless the source,
-    // the sink or a journal fails or memory runs out; so each refusal comes exactly where it should.
-    ensures exact { result ≢ ReadFault → IfSome (S.left source.old) (λ text. (status : AnyStatus) (reply : List ℕ) → Replies asked text status reply → ComesTo result status (K.written sink.old) (K.written sink.new) reply) }
-
-    // Where `run` is asked of a text that has an accepted bundle, or `watch` of one whose root may be read, that is done, unless the source, the sink or a
-    // journal fails or memory runs out.
-    ensures complete { result ≢ ReadFault → IfSome (S.left source.old) (IsComplete asked result) }
-
-    // `Usage` comes exactly where nothing is asked, and nothing is read then.
-    ensures usage { asked ≡ Nothing → ComesTo result Usage (K.written sink.old) (K.written sink.new) (line (codes "usage")) }
-    ensures usage_only { result ≡ Usage → asked ≡ Nothing }
-    ensures unread { asked ≡ Nothing → source.new ≡ source.old }
-
-    // Never more than 4,194,305 bytes are read, and with each status that speaks of the text, but
-    // the limit on bytes, it was read to its end.
-    ensures taken { TakesAtMost 4194305 (S.left source.old) (S.left source.new) }
-    ensures whole { SpeaksOfText result → IsAtEnd (S.left source.new) }
-
-    // `ReadFault` comes only where the source's faults rose, and nothing is written.
-    ensures read_fault { result ≡ ReadFault → Rose (S.faults source.old) (S.faults source.new) }
-    ensures read_fault_unwritten { result ≡ ReadFault → sink.new ≡ sink.old }
-
-    // `WriteFault` comes only where the sink's faults rose, and a front of the reply is written.
-    ensures write_fault { result ≡ WriteFault → Rose (K.faults sink.old) (K.faults sink.new) }
-    ensures write_fault_front { result ≡ WriteFault → RepliesInPart asked (S.left source.old) (S.left source.new) (K.written sink.old) (K.written sink.new) (M.seen journals.old) (M.seen journals.new) }
-
-    // With `Memory` nothing is written, and nothing came of the journals, or a run was cut short in which none failed, and each is given back or
-    // counted as lost; or some front of the reply to what was read is written, perhaps none of it, over the journals as its run left them.
-    ensures memory { result ≡ Memory → (Keeps (K.written sink.old) (K.written sink.new) × AreCut asked (S.left source.old) (S.left source.new) (M.seen journals.old) (M.seen journals.new)) ⊎ RepliesInPart asked (S.left source.old) (S.left source.new) (K.written sink.old) (K.written sink.new) (M.seen journals.old) (M.seen journals.new) }
-    ensures source_faults { S.faults source.old ≤ S.faults source.new }
-    ensures sink_faults { K.faults sink.old ≤ K.faults sink.new }
-
-    // The counts stay at each other status, so a fault is told as one, and not as want of memory.
-    ensures source_unfailed { result ≢ ReadFault → S.faults source.new ≡ S.faults source.old }
-    ensures sink_unfailed { result ≢ WriteFault → K.faults sink.new ≡ K.faults sink.old }
-
-    // With `Ok` of a command that makes a run, and where a journal failed in its run, the text that it wants of that
-    // run was written, for `replay` the report, for `run` what it tells and for `watch` the report and the reads, and the headline holds of the run, integrity, trusted replay and isolation.
-    // Where a journal failed before there was a run, or there was no memory for the run's text, nothing was written.
-    ensures headline { MakesRuns asked → result ≡ Done → Headline asked (IsWholeFor asked) (S.left source.old) (S.left source.new) (K.written sink.old) (K.written sink.new) }
-    ensures headline_of_a_part { (node : ℕ) → result ≡ JournalFault node
-        → Keeps (K.written sink.old) (K.written sink.new) ⊎ Headline asked (IsPartFor asked node) (S.left source.old) (S.left source.new) (K.written sink.old) (K.written sink.new) }
-
-    // `JournalFault` comes of `replay`, `run`, `watch`, `view` and `trust` alone, and only these make journals and have them kept. What was
-    // kept, and which faults there were, says `means`. With each other status no journal's making failed.
-    ensures journal_fault { (node : ℕ) → result ≡ JournalFault node → MakesRuns asked }
-    ensures journals_unfailed { (IsJournalFault result → ⊥) → (M.seen journals.new).faults ≡ (M.seen journals.old).faults }
-    // Where it is told that no journal may fail, none does.
-    ensures journals_unfailing { (M.seen journals.old).may_fail ≡ Some [] → (node : ℕ) → result ≡ JournalFault node → ⊥ }
-    ensures journals_untouched { (MakesRuns asked → ⊥) → journals.new ≡ journals.old }
-    ensures journals_faults { (M.seen journals.old).faults ≤ (M.seen journals.new).faults }
-    ensures journals_told { (M.seen journals.new).may_fail ≡ (M.seen journals.old).may_fail }
+    // The clauses are the fields of `IsDone`, and of `IsAnswered` in it (`specs/Answered.antt`), of this command as what is asked for.
+    ensures done { IsDone (task_of asked) result S.left S.faults source.old source.new K.written K.faults sink.old sink.new M.seen journals.old journals.new }
 {
     run(alloc, course, asked, source, sink, journals)
 }

@@ -1,5 +1,5 @@
 use Rattle.fab_gen.specs.Generated.{generated_text}
-use Rattle.fab_top.proofs.Fronts.{none_written}
+use Rattle.fab_reply.proofs.Fronts.{none_written}
 use Rattle.fab_top.proofs.tasks.generate.Goals as goal
 
 pub returns-in-Err-clause-text : goal.returns-in-Err-clause-text

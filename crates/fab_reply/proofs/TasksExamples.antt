@@ -5,7 +5,7 @@ use Rattle.fab_command.specs.declared.command.Telling.TheVariants.{Report, Summa
 use Rattle.fab_command.specs.declared.task.Task.TheVariants.{Drill, Generate, Reply}
 use Rattle.fab_gen.specs.Generated.{generated_text}
 use Rattle.fab_front.specs.declared.status.Status.TheVariants as status
-use Rattle.fab_top.specs.Tasks.{Generates, IsRead, IsReplied, command_in, input_of, rest_of}
+use Rattle.fab_reply.specs.Tasks.{Generates, IsRead, IsReplied, command_in, input_of, rest_of, task_of}
 
 -- ---- what is asked, and of which text
 
@@ -33,6 +33,15 @@ drill_reads_nothing h = h
 
 gen_has_no_reply : IsReplied (Some (Generate 7 3)) → ⊥
 gen_has_no_reply h = h
+
+a_command_is_replied : IsReplied (task_of (Some Check))
+a_command_is_replied = tt
+
+a_command_is_read : IsRead (task_of (Some Check))
+a_command_is_read = tt
+
+nothing_is_no_task : task_of None ≡ None
+nothing_is_no_task = refl
 
 -- ---- how `gen` may end
 

@@ -18,6 +18,11 @@ command_in (Some (Drill number size)) = Some (Run Summary)
 command_in (Some (Generate number size)) = None
 command_in None = None
 
+-- a command is answered, or nothing is asked
+abbrev pub task_of : Option Command → Option Task
+task_of (Some command) = Some (Reply command)
+task_of None = None
+
 -- no text is made up: a command is answered, or nothing is asked
 abbrev pub IsReplied : Option Task → Type 0
 IsReplied (Some (Generate number size)) = ⊥
