@@ -1,7 +1,7 @@
 //! What a worker is about to do.
 
-ghost use Rattle.std.specs.Prelude.{◌≡◌, IfOk, IfSome, Some, None};
-ghost use Rattle.fab_base.specs.JournalSpelling.{IsEntry, KeepsEntry, record_bytes as record_of, journal_version};
+ghost use Rattle.std.specs.Prelude.{◌≡◌, IfOk, OnOk, Some, None};
+ghost use Rattle.fab_base.specs.JournalSpelling.{IsEntry, IsVersion, KeepsEntry, record_bytes as record_of};
 
 use crate::change::Change;
 use fab_base::{Entry, NoMemory, Seq};
@@ -29,22 +29,17 @@ impl Drop for WorkerPlan {
 }
 
 impl Model for WorkerPlan {
-    ghost use Rattle.std.specs.Prelude.{IfSome};
-    ghost use Rattle.fab_base.specs.JournalSpelling.{IsEntry, journal_version};
     ghost use Rattle.fab_worker.specs.Plans.{Plan};
 
     ghost Value = { Plan };
 
     ghost view = { λ p. record { entry = p.entry; change = p.change; step = p.step } };
-
-    ghost invariant = { λ p. IfSome p.entry (IsEntry journal_version) };
 }
 
 impl WorkerPlan {
-    /// What is to be written and sent. What each plan writes can be read back.
+    /// What is to be written and sent.
     pub fn step(&self) -> &Step
-        ensures step { result.now ≡ self.now.step }
-        ensures fits { IfSome self.now.entry (IsEntry journal_version) }
+        ensures { result.now ≡ self.now.step }
     {
         &self.step
     }
@@ -77,18 +72,21 @@ pub(crate) fn unrecorded(change: Change, sends: Sends, notes: Seq<Note>) -> Work
     }
 }
 
-/// A plan with a record.
+/// A plan with a record, which is written in this version and can be read back.
 pub(crate) fn recorded(
     alloc: Global,
+    version: u16,
     entry: Entry,
     change: Change,
     sends: Sends,
     notes: Seq<Note>,
 ) -> Result<WorkerPlan, NoMemory>
-    requires { KeepsEntry entry }
-    ensures { IfOk result (λ p. p ≡ record { entry = Some entry; change = change; step = record { entry = Some (record_of journal_version entry); sends = sends; notes = notes } }) }
+    requires version { IsVersion version }
+    requires entry { KeepsEntry entry }
+    ensures plan { IfOk result (λ p. p ≡ record { entry = Some entry; change = change; step = record { entry = Some (record_of version entry); sends = sends; notes = notes } }) }
+    ensures fits { OnOk result (IsEntry version entry) }
 {
-    let bytes = record_bytes(alloc, &entry)?;
+    let bytes = record_bytes(alloc, &entry, version)?;
     Ok(WorkerPlan {
         entry: Some(entry),
         change,

@@ -22,7 +22,7 @@ make-requires-else-is_worker-clause-fields c =
 
 pub returns-in_ok-store : goal.returns-in_ok-store
 returns-in_ok-store c =
-    store_at_start c.args.given.now (subst IsGiven c.given.view_is c.given.invariant) c.args.number c.in_ok-store.store c.requires
+    store_at_start c.args.given.now (subst IsGiven c.given.view_is c.given.invariant) c.args.number c.args.version c.in_ok-store.store c.requires.node
     (ap (λ (g : GivenModel). is_worker g.rights c.args.number) (sym c.given.view_is) ∙ sym c.is_worker.ensures.computed ∙ c.if-is_worker.false)
-    c.in_ok-store.ensures.node (c.in_ok-store.ensures.rights ∙ ap (λ (g : GivenModel). g.rights) c.given.view_is)
+    c.in_ok-store.ensures.node c.in_ok-store.ensures.version (c.in_ok-store.ensures.rights ∙ ap (λ (g : GivenModel). g.rights) c.given.view_is)
     (c.in_ok-store.ensures.shelf ∙ ap (λ (rows : FlatMap). shelf_at_start rows c.args.number) (c.rows.ensures.all ∙ ap (λ (g : GivenModel). g.roots) c.given.view_is))
