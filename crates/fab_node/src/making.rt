@@ -39,7 +39,6 @@ pub fn role_at_start(
 impl<J: Journal> Node<J> {
     /// A node that is up, with a journal that holds its header.
     pub fn make(alloc: Global, number: u16, role: Role, journal: J) -> Node<J>
-        requires content { (first : ℕ) × IsVersion first × (J.content journal ≡ header_bytes first number) }
         requires synced { J.synced journal ≡ length (J.content journal) }
         ensures stands { (g : GivenModel) (first : ℕ) → IsVersion first → J.content journal ≡ header_bytes first number
             → RoleStands g number (node_at_start first) role → Stands g (node_at_start first) result }

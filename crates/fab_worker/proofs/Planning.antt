@@ -1,5 +1,5 @@
 -- What a worker plans, by what it has.
-use Rattle.std.proofs.Common.{◌≡◌, ◌≤◌, ◌++◌, length, IsTrue, ◌||◌, if◌then◌else◌, ℕ, List, [], ◌∷◌, map, Option, Some, None, Bool, true, false, not, Result, Ok, Err, IfOk, OnOk, refl, sym, ap, subst, ◌∙◌}
+use Rattle.std.proofs.Common.{◌≡◌, ◌≤◌, ◌++◌, length, IsTrue, ◌||◌, if◌then◌else◌, ℕ, List, [], ◌∷◌, map, Option, Some, None, Bool, true, false, not, Result, Ok, Err, IfOk, IfSome, refl, sym, ap, subst, ◌∙◌}
 use Rattle.std.specs.Prelude.{◌==◌}
 use Rattle.std.specs.List.{filter, list_any, AllByRecursion}
 use Rattle.std.proofs.lemmas.List.{append_assoc}
@@ -178,11 +178,12 @@ module _ (x : WorkerModel) (parts : Parts) (new : List (Option Rows)) (behind : 
 
   pub decided_fits : {E : Type 0} (r : Result Plan E) (step : Step) → request ≤ length (requests_of x.program x.node)
       → AreStores stores
-      → IfOk r (λ p. p ≡ record { entry = Some entry; change = c.Commits new; step = step }) → OnOk r (IsEntry x.version entry)
+      → IfOk r (λ p. p ≡ record { entry = Some entry; change = c.Commits new; step = step })
+      → IfOk r (λ p. IfSome p.entry (IsEntry x.version))
       → IfOk r (λ p. 1 ≤ x.spare_decisions → Fits x p)
   decided_fits (Ok p) step within few h one = λ room. subst (Fits x) (sym h) (record {
     can = (same_request, within, few);
-    spelled = one;
+    spelled = subst (λ (q : Plan). IfSome q.entry (IsEntry x.version)) h one;
     change = behind.fits;
     ends = tt;
     room = room;

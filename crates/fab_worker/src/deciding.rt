@@ -9,7 +9,7 @@ ghost use Rattle.fab_worker.specs.Models.{tid_at};
 ghost use Rattle.fab_worker.specs.Plans.{AreBehind, Fits, IsAtWork, IsPlanOf};
 
 use crate::change::Change;
-use crate::plan::{WorkerPlan, recorded};
+use crate::plan::WorkerPlan;
 use crate::worker::Worker;
 use fab_base::{Entry, Message, NoMemory, Seq};
 use fab_cache::NewCaches;
@@ -63,13 +63,6 @@ impl Worker {
             result: parts.value,
             stores: Seq::from_slice(self.alloc, stores)?,
         };
-        recorded(
-            self.alloc,
-            self.version,
-            entry,
-            Change::Commits(caches),
-            sends,
-            notes,
-        )
+        self.recorded(entry, Change::Commits(caches), sends, notes)
     }
 }

@@ -12,7 +12,7 @@ ghost use Rattle.fab_worker.specs.Outcomes.{HasRecord};
 ghost use Rattle.fab_worker.specs.declared.change.Change.TheVariants.{Closes};
 
 use crate::change::Change;
-use crate::plan::{WorkerPlan, recorded, unrecorded};
+use crate::plan::{WorkerPlan, unrecorded};
 use crate::worker::Worker;
 use fab_base::{Entry, NoMemory, Seq, Stop};
 use fab_commit::{Sends, copies};
@@ -74,14 +74,7 @@ impl Worker {
     {
         let request = self.request_number();
         notes.push(Note::Closed { request, outcome })?;
-        recorded(
-            self.alloc,
-            self.version,
-            closed(request, outcome),
-            Change::Closes,
-            sends,
-            notes,
-        )
+        self.recorded(closed(request, outcome), Change::Closes, sends, notes)
     }
 
     /// That the attempt ended without a commit.

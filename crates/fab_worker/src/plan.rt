@@ -1,14 +1,14 @@
 //! What a worker is about to do.
 
-ghost use Rattle.std.specs.Prelude.{◌≡◌, IfOk, OnOk, Some, None};
-ghost use Rattle.fab_base.specs.JournalSpelling.{IsEntry, IsVersion, KeepsEntry, record_bytes as record_of};
+ghost use Rattle.std.specs.Prelude.{◌≡◌, IfOk, IfSome, Some, None};
+ghost use Rattle.fab_base.specs.JournalSpelling.{IsEntry, KeepsEntry, record_bytes as record_of};
 
 use crate::change::Change;
+use crate::worker::Worker;
 use fab_base::{Entry, NoMemory, Seq};
 use fab_commit::Sends;
 use fab_journal::record_bytes;
 use fab_net::{Note, Step};
-use std::alloc::Global;
 use std::marker::Model;
 
 /// What a worker will keep and say: the record, what becomes of the attempt, and the step in bytes.
@@ -72,28 +72,32 @@ pub(crate) fn unrecorded(change: Change, sends: Sends, notes: Seq<Note>) -> Work
     }
 }
 
-/// A plan with a record, which is written in this version and can be read back.
-pub(crate) fn recorded(
-    alloc: Global,
-    version: u16,
-    entry: Entry,
-    change: Change,
-    sends: Sends,
-    notes: Seq<Note>,
-) -> Result<WorkerPlan, NoMemory>
-    requires version { IsVersion version }
-    requires entry { KeepsEntry entry }
-    ensures plan { IfOk result (λ p. p ≡ record { entry = Some entry; change = change; step = record { entry = Some (record_of version entry); sends = sends; notes = notes } }) }
-    ensures fits { OnOk result (IsEntry version entry) }
-{
-    let bytes = record_bytes(alloc, &entry, version)?;
-    Ok(WorkerPlan {
-        entry: Some(entry),
-        change,
-        step: Step {
-            entry: Some(bytes),
-            sends,
-            notes,
-        },
-    })
+impl Worker {
+    /// A plan with a record, which is written in the worker's version and can be read back.
+    pub(crate) fn recorded(
+        &self,
+        entry: Entry,
+        change: Change,
+        sends: Sends,
+        notes: Seq<Note>,
+    ) -> Result<WorkerPlan, NoMemory>
+        requires { KeepsEntry entry }
+        ensures plan { IfOk result (λ p. p ≡ record {
+          entry = Some entry;
+          change = change;
+          step = record { entry = Some (record_of self.now.version entry); sends = sends; notes = notes };
+        }) }
+        ensures fits { IfOk result (λ p. IfSome p.entry (IsEntry self.now.version)) }
+    {
+        let bytes = record_bytes(self.alloc, &entry, self.version)?;
+        Ok(WorkerPlan {
+            entry: Some(entry),
+            change,
+            step: Step {
+                entry: Some(bytes),
+                sends,
+                notes,
+            },
+        })
+    }
 }

@@ -1,4 +1,4 @@
-use Rattle.std.proofs.Common.{◌≡◌, ◌<◌, ◌^◌, length, arith, rules, refl, ap}
+use Rattle.std.proofs.Common.{◌≡◌, ◌<◌, ◌^◌, length, arith, rules, ap}
 use Rattle.fab_base.specs.JournalSpelling.{body_bytes, IsEntry}
 use Rattle.fab_journal.proofs.Lengths.{body_small}
 use Rattle.fab_journal.proofs.writing.record_bytes.Goals as goal

@@ -9,12 +9,10 @@ use Rattle.fab_node.specs.Standing.{GivenModel, IsGiven}
 use Rattle.fab_node.proofs.Started.{given_fields, given_program, store_at_start}
 use Rattle.fab_node.proofs.making.role_at_start.Goals as goal
 
-pub make-requires : goal.make-requires
-make-requires c =
-    record {
-      program = subst (λ (p : Resolved). IsProgramOf p c.args.number c.given.inside.rights) (sym c.in_ok-program.ensures.cases)
-          (given_program _ c.given.invariant c.args.number);
-    }
+pub make-requires-clause-program : goal.make-requires-clause-program
+make-requires-clause-program c =
+    subst (λ (p : Resolved). IsProgramOf p c.args.number c.given.inside.rights) (sym c.in_ok-program.ensures.cases)
+    (given_program _ c.given.invariant c.args.number)
 
 pub make-requires-else-is_worker-clause-fields : goal.make-requires-else-is_worker-clause-fields
 make-requires-else-is_worker-clause-fields c =

@@ -26,5 +26,5 @@ returns-clause-fits c =
     (c.tid-tid.ensures.tid ∙ (λ i. record { worker = c.self.invariant.worker i; boot = c.self.inside.session.boot; number = c.self.inside.session.number }) ∙ ap tid_at c.self.view_is) c.request_number-request.ensures.number (c.in_ok-from_slice.ensures ∙ c.requires.stores) c.recorded.result _ c.request_number-request.ensures.left
     (subst AreStores (sym c.in_ok-from_slice.ensures) c.requires.few) c.recorded.ensures.plan c.recorded.ensures.fits
 
-pub recorded-requires-clause-entry : goal.recorded-requires-clause-entry
-recorded-requires-clause-entry c = subst AreStores (sym c.in_ok-from_slice.ensures) c.requires.few
+pub recorded-requires : goal.recorded-requires
+recorded-requires c = subst AreStores (sym c.in_ok-from_slice.ensures) c.requires.few
