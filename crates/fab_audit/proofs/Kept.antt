@@ -3,7 +3,7 @@ use Rattle.std.specs.Prelude.{◌≡◌, ℕ, suc, ◌<◌, ◌&&◌, ◌==◌, 
 use Rattle.std.specs.List.{AllByRecursion, list_any}
 use Rattle.std.proofs.Common.{refl, sym, ap, ◌∙◌, subst, append_assoc, get_or}
 use Rattle.std.proofs.lemmas.List.{append-nil}
-use Rattle.fab_base.specs.JournalSpelling.{header_bytes, journal_version, records_from}
+use Rattle.fab_base.specs.JournalSpelling.{header_bytes, records_from}
 use Rattle.fab_tree.specs.declared.resolved.Resolved.{Resolved}
 use Rattle.fab_net.specs.declared.note.Logged.{Logged}
 use Rattle.fab_net.specs.Events.{node_at}
@@ -18,7 +18,7 @@ use Rattle.fab_evidence.specs.Texts.{journal_line, journals_text}
 use Rattle.fab_audit.specs.Keeping.{IsShownOf}
 use Rattle.fab_audit.specs.Right.{journal_behind, kept_journal}
 use Rattle.fab_audit.specs.Runs.{has_failed}
-use Rattle.fab_audit.proofs.Unbroken.{failed_in_log, first_stays, unmarked_is_sound}
+use Rattle.fab_audit.proofs.Unbroken.{failed_in_log, unmarked_is_sound}
 
 -- ---- bytes
 
@@ -57,10 +57,8 @@ module _ (core : CoreModel) (program : Resolved) (same : program ≡ core.given.
   content_is j none h =
       let S = setting core.given in
       let x = (world_by core.given core.moves).node journal.node in
-      let begun : x.first ≡ journal_version = first_stays S core.moves journal.node in
       h.content_is (unmarked_is_sound S core.moves journal.node none)
-      ∙ append_assoc (header_bytes journal_version journal.node) (records_from journal_version x.entries) x.torn
-      ∙ ap (λ version. header_bytes version journal.node ++ records_from version x.entries ++ x.torn) (sym begun)
+      ∙ append_assoc (header_bytes x.first journal.node) (records_from x.first x.entries) x.torn
 
   pub kept_if_sound : (j : JournalModel) → has_failed core.moves journal.node ≡ false → slot core.journals journal.node ≡ Some j
       → IsJournalAt core.given ((world_by core.given core.moves).node journal.node) journal.node (slot core.journals journal.node)

@@ -30,7 +30,6 @@ or_right false c e = e
 
 module _ (S : Setting) (D : ℕ → Bool) where
   record IsUnbroken (n : ℕ) (x : Node) : Type 0 where
-    first : x.first ≡ S.first n
     sound : D n ≡ false → x.failed ≡ false
 
   abbrev AreUnbroken : World → Type 0
@@ -46,18 +45,18 @@ module _ (S : Setting) (D : ℕ → Bool) where
   cut_unbroken n keep entry x h = by (keep == length (record_behind x.first x.entries entry))
     where
       by : (b : Bool) → IsUnbroken n (if b then record x { entries = x.entries ++ option_list entry } else record x { torn = take keep (record_behind x.first x.entries entry) })
-      by true = record { first = h.first; sound = h.sound }
-      by false = record { first = h.first; sound = h.sound }
+      by true = record { sound = h.sound }
+      by false = record { sound = h.sound }
 
   ready_unbroken : (w : World) (e : Inner) → AreUnbroken w → AreUnbroken (ready S w e)
   ready_unbroken w (i.Begin n) h = h
   ready_unbroken w (i.Resume n) h = h
   ready_unbroken w (i.Deliver a b) h = h
   ready_unbroken w (i.Idle n s) h = h
-  ready_unbroken w (i.Recover n) h = put w.node n (record (w.node n) { torn = []; up = true }) (record { first = (h n).first; sound = (h n).sound }) h
+  ready_unbroken w (i.Recover n) h = put w.node n (record (w.node n) { torn = []; up = true }) (record { sound = (h n).sound }) h
 
   down_unbroken : (w : World) (n : ℕ) → AreUnbroken w → AreUnbroken (down S w n)
-  down_unbroken w n h = put w.node n (record (w.node n) { attempt = fresh; up = false }) (record { first = (h n).first; sound = (h n).sound }) h
+  down_unbroken w n h = put w.node n (record (w.node n) { attempt = fresh; up = false }) (record { sound = (h n).sound }) h
 
   -- a failure is of a node that has a mark
   abbrev IsMarkedIn : Form → Type 0
@@ -75,7 +74,7 @@ module _ (S : Setting) (D : ℕ → Bool) where
   steps_unbroken : (w : World) (form : Form) → AreUnbroken w → IsMarkedIn form → AreUnbroken (steps S w form)
   steps_unbroken w (Does e) h marks =
       let r = ready_unbroken w e h in
-      put (ready S w e).node (node_of e) (acted S (act S w e) ((ready S w e).node (node_of e))) (record { first = (r (node_of e)).first; sound = (r (node_of e)).sound }) r
+      put (ready S w e).node (node_of e) (acted S (act S w e) ((ready S w e).node (node_of e))) (record { sound = (r (node_of e)).sound }) r
   steps_unbroken w (Cuts keep e) h marks =
       let r = ready_unbroken w e h in
       let entry = (act S w e).entry in
@@ -85,7 +84,7 @@ module _ (S : Setting) (D : ℕ → Bool) where
   steps_unbroken w (Fails keep e) h marks =
       let r = down_unbroken w (node_of e) h in
       put (down S w (node_of e)).node (node_of e) (record ((down S w (node_of e)).node (node_of e)) { failed = true })
-      (record { first = (r (node_of e)).first; sound = λ none. absurd (let both : true ≡ false = sym marks ∙ none in cc) }) r
+      (record { sound = λ none. absurd (let both : true ≡ false = sym marks ∙ none in cc) }) r
   steps_unbroken w (Posts x) h marks = posts_unbroken w x (w.posts x) h
   steps_unbroken w (Crashes n) h marks = down_unbroken w n h
   steps_unbroken w Never h marks = h
@@ -117,10 +116,7 @@ module _ (S : Setting) (D : ℕ → Bool) where
 -- behind every list of moves
 module _ (S : Setting) (moves : List Move) (n : ℕ) where
   here : IsUnbroken S (has_failed moves) n ((runs S (at_start S) moves).node n)
-  here = runs_unbroken S (has_failed moves) moves (at_start S) (λ m e. e) (λ m. record { first = refl; sound = λ e. refl }) n
-
-  pub first_stays : ((runs S (at_start S) moves).node n).first ≡ S.first n
-  first_stays = here.first
+  here = runs_unbroken S (has_failed moves) moves (at_start S) (λ m e. e) (λ m. record { sound = λ e. refl }) n
 
   pub unmarked_is_sound : has_failed moves n ≡ false → ((runs S (at_start S) moves).node n).failed ≡ false
   unmarked_is_sound = here.sound

@@ -66,20 +66,20 @@ no_named_failure : IsOutcome 1 2 → ⊥
 no_named_failure h = let e : 2 ≡ 65535 = h.unnamed (λ named. omega (arith, named.0)) in omega (arith, e)
 
 -- a journal of the Decided record: whole, without its last byte, and with less than a header
-whole_is_read : IsReadAs (journal_bytes journal_version 0 (decided ∷ [])) (decided ∷ []) 32
+whole_is_read : IsReadAs (journal_bytes journal_version 0 (decided ∷ [])) (decided ∷ []) 32 journal_version
 whole_is_read = inr (record {
-  front = record { node = 0; in_range = lit< tt; entries_fit = (decided_is_spelled, tt); within = lit≤ tt; spelled = refl };
+  front = record { first = journal_version; known = refl; node = 0; in_range = lit< tt; entries_fit = (decided_is_spelled, tt); within = lit≤ tt; spelled = refl; behind = refl };
   torn = short_is_torn _ (lit< tt);
 })
 
-torn_is_dropped : IsReadAs (take 31 (journal_bytes journal_version 0 (decided ∷ []))) [] 8
+torn_is_dropped : IsReadAs (take 31 (journal_bytes journal_version 0 (decided ∷ []))) [] 8 journal_version
 torn_is_dropped = inr (record {
-  front = record { node = 0; in_range = lit< tt; entries_fit = tt; within = lit≤ tt; spelled = refl };
+  front = record { first = journal_version; known = refl; node = 0; in_range = lit< tt; entries_fit = tt; within = lit≤ tt; spelled = refl; behind = refl };
   torn = cut_is_torn _ (lit< tt);
 })
 
-torn_header_is_nothing : IsReadAs (70 ∷ 65 ∷ 66 ∷ []) [] 0
-torn_header_is_nothing = inl (record { node = 0; in_range = lit< tt; shorter = lit< tt; begins = refl }, refl, refl)
+torn_header_is_nothing : IsReadAs (70 ∷ 65 ∷ 66 ∷ []) [] 0 journal_version
+torn_header_is_nothing = inl (record { first = journal_version; known = refl; node = 0; in_range = lit< tt; shorter = lit< tt; begins = refl }, refl, refl, refl)
 
 -- another first byte is bad at 0, version 2 at 5
 bad_letter : GoesWrongAt (71 ∷ 65 ∷ []) 0
@@ -108,7 +108,8 @@ kind_nine_is_bad : GoesWrongAt (header_bytes journal_version 0 ++ framed (9 ∷ 
 kind_nine_is_bad = inr (record {
   before = [];
   start = 8;
-  front = record { node = 0; in_range = lit< tt; entries_fit = tt; within = lit≤ tt; spelled = refl };
+  version = journal_version;
+  front = record { first = journal_version; known = refl; node = 0; in_range = lit< tt; entries_fit = tt; within = lit≤ tt; spelled = refl; behind = refl };
   body = 9 ∷ drop 1 (body_bytes journal_version decided);
   more = [];
   length_fits = lit< tt;
@@ -140,7 +141,8 @@ unfolding boot_and_more
 longer_is_bad = inr (record {
   before = [];
   start = 8;
-  front = record { node = 0; in_range = lit< tt; entries_fit = tt; within = lit≤ tt; spelled = refl };
+  version = journal_version;
+  front = record { first = journal_version; known = refl; node = 0; in_range = lit< tt; entries_fit = tt; within = lit≤ tt; spelled = refl; behind = refl };
   body = boot_and_more;
   more = [];
   length_fits = lit< tt;

@@ -7,9 +7,13 @@ use Rattle.fab_base.specs.declared.entry.Entry.{Entry}
 use Rattle.fab_base.specs.declared.entry.Entry.TheVariants.{Decided, Closed, Boot, Prepared, Refused, Applied, Released, BootSeen}
 use Rattle.fab_base.specs.FieldSpelling.{two_bytes, four_bytes, tid_bytes, IsTid, value_bytes, IsValue, items_bytes, AreItems, KeepsItems}
 
--- the version in which a journal begins; no other is known so far
+-- the version in which a new journal begins
 abbrev pub journal_version : ℕ
 journal_version = 1
+
+-- the versions in which a journal may begin; no other is known so far
+abbrev pub IsVersion : ℕ → Type 0
+IsVersion version = version ≡ journal_version
 
 -- the header: the letters FABJ, the version, the node
 abbrev pub header_bytes : ℕ → ℕ → List ℕ
@@ -71,7 +75,7 @@ IsEntryBody version (Released tid) = IsTid tid
 IsEntryBody version (BootSeen worker boot) = (worker < 2 ^ 16) × (boot < 2 ^ 32)
 
 pub record IsEntry (version : ℕ) (entry : Entry) : Type 0 where
-  pub known : version ≡ journal_version
+  pub known : IsVersion version
   pub body : IsEntryBody version entry
 
 -- the orders and counts alone: what of this the types of the code don't keep
@@ -112,31 +116,38 @@ AreEntries version (entry ∷ entries) = IsEntry version entry × AreEntries (ne
 
 -- bytes that begin a header and are shorter than it
 pub record IsTornHeader (bytes : List ℕ) : Type 0 where
+  pub first : ℕ
+  pub known : IsVersion first
   pub node : ℕ
   pub in_range : node < 2 ^ 16
   pub shorter : length bytes < 8
-  pub begins : bytes ≡ take (length bytes) (header_bytes journal_version node)
+  pub begins : bytes ≡ take (length bytes) (header_bytes first node)
 
 -- bytes at whose front no whole record stands, whatever its body is
 abbrev pub IsTorn : List ℕ → Type 0
 IsTorn bytes = (body more : List ℕ) → length body < 2 ^ 32 → bytes ≢ framed body ++ more
 
--- the first len bytes are a journal of these entries
-pub record IsSpelledTo (bytes : List ℕ) (entries : List Entry) (len : ℕ) : Type 0 where
+-- the first len bytes are a journal of these entries, and a record behind them is in this version
+pub record IsSpelledTo (bytes : List ℕ) (entries : List Entry) (len next : ℕ) : Type 0 where
+  pub first : ℕ
+  pub known : IsVersion first
   pub node : ℕ
   pub in_range : node < 2 ^ 16
-  pub entries_fit : AreEntries journal_version entries
+  pub entries_fit : AreEntries first entries
   pub within : len ≤ length bytes
-  pub spelled : take len bytes ≡ journal_bytes journal_version node entries
+  pub spelled : take len bytes ≡ journal_bytes first node entries
+  pub behind : next ≡ version_behind first entries
 
 -- The whole part of the bytes is a journal of these entries, and so long: no whole record follows.
-pub record IsWholePart (bytes : List ℕ) (entries : List Entry) (len : ℕ) : Type 0 where
-  pub front : IsSpelledTo bytes entries len
+pub record IsWholePart (bytes : List ℕ) (entries : List Entry) (len next : ℕ) : Type 0 where
+  pub front : IsSpelledTo bytes entries len next
   pub torn : IsTorn (drop len bytes)
 
--- the bytes are read as these entries, whole in their first len bytes; of a torn header nothing is read
-abbrev pub IsReadAs : List ℕ → List Entry → ℕ → Type 0
-IsReadAs bytes entries len = (IsTornHeader bytes × (entries ≡ []) × (len ≡ 0)) ⊎ IsWholePart bytes entries len
+-- The bytes are read as these entries, whole in their first len bytes, and a record behind them is in this version.
+-- Of a torn header nothing is read, and a journal that is begun anew has the version of a new one.
+abbrev pub IsReadAs : List ℕ → List Entry → ℕ → ℕ → Type 0
+IsReadAs bytes entries len next =
+    (IsTornHeader bytes × (entries ≡ []) × (len ≡ 0) × (next ≡ journal_version)) ⊎ IsWholePart bytes entries len next
 
 -- the first place where bytes differ from what should stand there
 pub record IsFirstWrong (right bytes : List ℕ) (at : ℕ) : Type 0 where
@@ -165,13 +176,14 @@ pub record IsBadBody (version : ℕ) (body : List ℕ) (place : ℕ) : Type 0 wh
 pub record IsBadRecord (bytes : List ℕ) (at : ℕ) : Type 0 where
   pub before : List Entry
   pub start : ℕ
-  pub front : IsSpelledTo bytes before start
+  pub version : ℕ
+  pub front : IsSpelledTo bytes before start version
   pub body : List ℕ
   pub more : List ℕ
   pub length_fits : length body < 2 ^ 32
   pub follows : drop start bytes ≡ framed body ++ more
   pub place : ℕ
-  pub bad : IsBadBody (version_behind journal_version before) body place
+  pub bad : IsBadBody version body place
   pub at_place : at ≡ start + place
 
 -- where bytes go wrong: in the header, whose node may be any, or in a whole record
@@ -183,5 +195,5 @@ GoesWrongAt bytes at = IsFirstWrong opening bytes at ⊎ IsBadRecord bytes at
 
 -- the place where bytes that are read as no entries go wrong
 pub record IsBadPlace (bytes : List ℕ) (at : ℕ) : Type 0 where
-  pub unread : (entries : List Entry) (len : ℕ) → IsReadAs bytes entries len → ⊥
+  pub unread : (entries : List Entry) (len next : ℕ) → IsReadAs bytes entries len next → ⊥
   pub wrong : GoesWrongAt bytes at

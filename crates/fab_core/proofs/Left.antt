@@ -3,13 +3,13 @@ use Rattle.std.specs.Prelude.{◌≡◌, ℕ, suc, ◌+◌, ◌<◌, ◌≤◌, 
 use Rattle.std.specs.List.{AllByRecursion}
 use Rattle.std.proofs.Common.{refl, sym, ap, ◌∙◌, subst, arith, append-nil}
 use Rattle.std.proofs.lemmas.List.{length-append, length-map, map-append, reverse-append}
-use Rattle.fab_base.specs.JournalSpelling.{header_bytes, journal_version}
+use Rattle.fab_base.specs.JournalSpelling.{header_bytes}
 use Rattle.fab_base.proofs.Lists.{all_append}
 use Rattle.fab_world.specs.Machine.{at_start}
 use Rattle.fab_node.specs.Standing.{GivenModel, JournalModel, NodeModel}
 use Rattle.fab_core.specs.Cores.{SlotStands, is_honest, setting}
 use Rattle.fab_core.specs.Honest.{AreFor, honest_up}
-use Rattle.fab_core.specs.Starts.{AreBack, Empty, EndsInFront, Headed, HoldsFront, HoldsHeader, HoldsNothing, IsFresh, IsLeft, honest_below}
+use Rattle.fab_core.specs.Starts.{AreBack, Empty, EndsInFront, Headed, HoldsFront, HoldsHeader, HoldsNothing, IsFresh, IsLeft, first_of, honest_below}
 use Rattle.fab_core.specs.Telling.{those_in}
 use Rattle.fab_core.proofs.AtStart.{those_both}
 use Rattle.fab_core.proofs.Honest.{IsFront, IsPlace, for_both, for_long, for_seen, front_up, honest_long, place_of}
@@ -39,11 +39,11 @@ headed_on g n old new slot more stands h =
     one : (s : Option NodeModel) → SlotStands g (at_start (setting g)) n s → AreFor IsHeaded (cond (is_honest g n) (n ∷ []) []) (journals_in (s ∷ []))
     one None barred = subst (λ b. AreFor IsHeaded (cond b (n ∷ []) []) []) (sym barred) tt
     one (Some x) (honest, number, is) =
-        let content = is.journal.content_is refl ∙ append-nil _ ∙ append-nil (header_bytes journal_version x.number) in
-        let synced = is.journal.synced_is refl ∙ ap length (append-nil (header_bytes journal_version x.number)) in
+        let content = is.journal.content_is refl ∙ append-nil _ ∙ append-nil (header_bytes (first_of x.number) x.number) in
+        let synced = is.journal.synced_is refl ∙ ap length (append-nil (header_bytes (first_of x.number) x.number)) in
         subst (λ b. AreFor IsHeaded (cond b (n ∷ []) []) (x.journal ∷ [])) (sym honest) (
           record {
-            content_is = content ∙ ap (header_bytes journal_version) number;
+            content_is = content ∙ ap (λ m. header_bytes (first_of m) m) number;
             synced_is = synced ∙ ap length (sym content);
           },
           tt,

@@ -1,13 +1,10 @@
 -- How long the record of a recovery is.
-use Rattle.std.proofs.Common.{◌≡◌, ℕ, List, [], Bool, true, false, Option, Some, None, refl, ◌∙◌, ap, sym, subst, suc}
+use Rattle.std.proofs.Common.{◌≡◌, ℕ, List, [], Bool, true, false, Option, Some, None, refl, sym, subst}
 use Rattle.std.specs.Prelude.{if◌then◌else◌}
-use Rattle.fab_base.specs.declared.entry.Entry.TheVariants as entries
-use Rattle.fab_base.specs.JournalSpelling.{journal_version}
-use Rattle.fab_journal.proofs.Lengths.{length-record}
 use Rattle.fab_net.specs.declared.event.Inner.TheVariants as i
 use Rattle.fab_rights.specs.Computed.{is_worker}
 use Rattle.fab_world.specs.Machine.{Node, World}
-use Rattle.fab_world.specs.Workers.{Act, kept_of}
+use Rattle.fab_world.specs.Workers.{Act}
 use Rattle.fab_node.specs.Deeds.{deed}
 use Rattle.fab_node.specs.declared.role.Role.{Role}
 use Rattle.fab_node.specs.declared.role.Role.TheVariants as roles
@@ -28,7 +25,7 @@ left false a c h = refl
 -- a worker writes its boot
 pub boot_length : (g : GivenModel) (x : Node) (n : ℕ) → is_worker g.rights n ≡ true → Some 9 ≡ length_in (deed g x (i.Recover n) [])
 boot_length g x n h =
-    sym (taken (is_worker g.rights n) _ _ h ∙ ap (λ len. Some len) (length-record journal_version (entries.Boot (suc (kept_of x.entries).boot))))
+    sym (taken (is_worker g.rights n) _ _ h)
 
 -- and a store writes nothing
 pub nothing_long : (g : GivenModel) (x : Node) (n : ℕ) → is_worker g.rights n ≡ false → None ≡ length_in (deed g x (i.Recover n) [])

@@ -1,21 +1,18 @@
 -- What a core is behind an event that was cut.
-use Rattle.std.specs.Prelude.{◌≡◌, ◌<◌, ◌≤◌, ◌==◌, ◌&&◌, nat_le, ℕ, Bool, true, false, IsTrue, List, [], ◌∷◌, ◌++◌, map, length, Option, Some, None, is_some, option_map, unwrap_or}
+use Rattle.std.specs.Prelude.{◌≡◌, ◌<◌, ◌≤◌, ◌==◌, ◌&&◌, nat_le, ℕ, Bool, true, false, IsTrue, List, [], ◌∷◌, ◌++◌, map, length, Option, is_some}
 use Rattle.std.proofs.Common.{refl, sym, ap, ◌∙◌, subst, arith}
 use Rattle.std.proofs.lemmas.Bool.{and_parts}
 use Rattle.std.proofs.lemmas.Bool.Decides.{nat_tests}
-use Rattle.fab_base.specs.declared.entry.Entry.{Entry}
-use Rattle.fab_base.specs.JournalSpelling.{record_bytes, journal_version}
-use Rattle.fab_journal.proofs.Journals.{version_stays}
 use Rattle.fab_net.specs.declared.event.Inner.{Inner}
 use Rattle.fab_net.specs.declared.event.Event.TheVariants as events
 use Rattle.fab_net.specs.declared.note.Logged.{Logged}
 use Rattle.fab_net.specs.declared.note.Note.{Note}
 use Rattle.fab_net.specs.declared.note.Step.{Step}
 use Rattle.fab_queues.specs.Channels.{Network}
-use Rattle.fab_world.specs.Machine.{Setting, World, Node, Move, Cuts, node_of, act, may, enabled, logged, notes_if, record_at, record_behind, steps}
+use Rattle.fab_world.specs.Machine.{Setting, World, Node, Move, Cuts, node_of, act, may, enabled, logged, notes_if, record_at, steps}
 use Rattle.fab_world.specs.Serial.{attempts}
 use Rattle.fab_world.specs.Workers.{Act}
-use Rattle.fab_node.specs.Standing.{GivenModel, NodeModel, Stands}
+use Rattle.fab_node.specs.Standing.{GivenModel, NodeModel, Stands, version_of}
 use Rattle.fab_node.specs.Deeds.{cut_at, deed, readied, record_in, step_if}
 use Rattle.fab_node.proofs.Acts.{cuts_own, cuts_other, is_deed}
 use Rattle.fab_nodes.specs.Acts.{HasRecord, IsCutTo, bytes_through, notes_in}
@@ -29,19 +26,13 @@ use Rattle.fab_core.proofs.Stepped.{is_about}
 use Rattle.fab_core.proofs.Tables.{bytes_same}
 use Rattle.fab_core.proofs.Wholly.{calls_by, lost_by, own}
 
--- a record's bytes are the same behind whatever records
-record_same : (first : ℕ) (entries : List Entry) (entry : Option Entry) → first ≡ journal_version
-    → record_behind first entries entry ≡ unwrap_or (option_map (record_bytes journal_version) entry) []
-record_same first entries None begun = refl
-record_same first entries (Some entry) begun = ap (λ version. record_bytes version entry) (version_stays first entries ∙ begun)
+whole_by : (version : ℕ) (b : Bool) (act : Act) → is_some (step_if version b act) ≡ b
+whole_by version true act = refl
+whole_by version false act = refl
 
-whole_by : (b : Bool) (act : Act) → is_some (step_if b act) ≡ b
-whole_by true act = refl
-whole_by false act = refl
-
-notes_by : (S : Setting) (b : Bool) (act : Act) → notes_in (step_if b act) ≡ notes_if S b act.notes
-notes_by S true act = refl
-notes_by S false act = refl
+notes_by : (S : Setting) (version : ℕ) (b : Bool) (act : Act) → notes_in (step_if version b act) ≡ notes_if S b act.notes
+notes_by S version true act = refl
+notes_by S version false act = refl
 
 module _ (g : GivenModel) (nodes : List (Option NodeModel)) (queues : Network) (places : List ℕ) (log : List Logged) (core : IsCore g nodes queues places log)
     (keep : ℕ) (e : Inner) (allowed : IsTrue (enabled (setting g) (world_by g (map move_of log)) (Cuts keep e))) where
@@ -69,10 +60,8 @@ module _ (g : GivenModel) (nodes : List (Option NodeModel)) (queues : Network) (
     act_is : act S w e ≡ deed_here
     act_is = is_deed g w e ∙ ap (deed g (w.node (node_of e)) e) (bytes_same S w queues e core.stands.queue ∙ sym delivered)
 
-    record_is : record_at S w e ≡ record_in deed_here
-    record_is =
-        record_same (w.node (node_of e)).first (w.node (node_of e)).entries (act S w e).entry (own g nodes queues places log core e may_be).stands.begun
-        ∙ ap record_in act_is
+    record_is : record_at S w e ≡ record_in (w.node (node_of e)) deed_here
+    record_is = ap (record_in (w.node (node_of e))) act_is
 
     pub has_record : HasRecordAt g e bytes keep nodes
     has_record =
@@ -104,16 +93,19 @@ module _ (g : GivenModel) (nodes : List (Option NodeModel)) (queues : Network) (
         abbrev entry : Logged
         entry = record { event = events.CrashIn keep e; bytes = bytes; notes = notes_in step; whole = is_some step; marked = false }
 
-        step_is : step ≡ step_if (keep == length (record_at S w e)) (act S w e)
+        abbrev version : ℕ
+        version = version_of (w.node (node_of e))
+
+        step_is : step ≡ step_if version (keep == length (record_at S w e)) (act S w e)
         step_is =
-            is_cut.step_is ∙ (λ j. step_if (keep == length (sym record_is j)) (sym act_is j))
+            is_cut.step_is ∙ (λ j. step_if version (keep == length (sym record_is j)) (sym act_is j))
 
         pub entry_cut : entry ≡ logged S w (unmarked (events.CrashIn keep e))
         entry_cut = λ j. record {
           event = events.CrashIn keep e;
           bytes = (delivered ∙ sym (bytes_same S w queues e core.stands.queue)) j;
-          notes = (ap notes_in step_is ∙ notes_by S (keep == length (record_at S w e)) (act S w e)) j;
-          whole = (ap is_some step_is ∙ whole_by (keep == length (record_at S w e)) (act S w e)) j;
+          notes = (ap notes_in step_is ∙ notes_by S version (keep == length (record_at S w e)) (act S w e)) j;
+          whole = (ap is_some step_is ∙ whole_by version (keep == length (record_at S w e)) (act S w e)) j;
           marked = false;
         }
 

@@ -11,6 +11,10 @@ use Rattle.fab_node.specs.Standing.{GivenModel, JournalModel, NodeModel}
 use Rattle.fab_core.specs.Cores.{SlotStands, is_honest, setting}
 use Rattle.fab_core.specs.Telling.{those_in}
 
+-- the version in which the journal of a node begins
+abbrev pub first_of : ℕ → ℕ
+first_of n = journal_version
+
 abbrev pub given_by : Resolved → Rights → GivenModel
 given_by program rights = record { program = program; rights = rights; roots = map_at_start program }
 
@@ -46,12 +50,12 @@ pub record AreBack (g : GivenModel) (node : ℕ) (old new : List (ℕ × Bool)) 
 -- ---- what journals hold where the header of one couldn't be written
 
 pub record HoldsHeader (n : ℕ) (content : List ℕ) (synced : ℕ) : Type 0 where
-  pub content_is : content ≡ header_bytes journal_version n
+  pub content_is : content ≡ header_bytes (first_of n) n
   pub synced_is : synced ≡ length content
 
 pub record HoldsFront (n : ℕ) (content : List ℕ) (synced : ℕ) : Type 0 where
   pub many : ℕ
-  pub content_is : content ≡ take many (header_bytes journal_version n)
+  pub content_is : content ≡ take many (header_bytes (first_of n) n)
   pub synced_is : synced ≡ 0
 
 pub record HoldsNothing (content : List ℕ) (synced : ℕ) : Type 0 where

@@ -1,7 +1,7 @@
 -- What a core tells of its run: which worker is at work, how requests ended, what is held, the journals.
 use Rattle.std.specs.Prelude.{◌≡◌, ℕ, ◌+◌, ◌≤◌, Bool, true, false, not, ◌&&◌, IsTrue, IsFalse, List, [], ◌∷◌, ◌++◌, map, length, count_by, is_some, if◌then◌else◌, Option, Some, None, option_map}
 use Rattle.std.specs.List.{range_with_len, flat_map}
-use Rattle.fab_base.specs.JournalSpelling.{record_bytes, journal_version}
+use Rattle.fab_journal.specs.Lengths.{record_length}
 use Rattle.fab_eval.specs.Answered.{answered}
 use Rattle.fab_eval.specs.Attempts.{is_made_in}
 use Rattle.fab_eval.specs.declared.job.Job.{Job}
@@ -41,7 +41,7 @@ MayBeDone S w (Some inner) = IsTrue (may S w inner)
 
 -- how long the record of an act is, if it has one
 abbrev pub length_in : Act → Option ℕ
-length_in act = option_map (λ entry. length (record_bytes journal_version entry)) act.entry
+length_in act = option_map record_length act.entry
 
 -- ---- workers at work
 

@@ -7,12 +7,12 @@ ghost use Rattle.fab_tree.specs.declared.start.Start.{Start};
 ghost use Rattle.fab_language.specs.Numbers.{resolved};
 ghost use Rattle.fab_settings.specs.Settings.{IsAcceptedWith, is_hostile_node};
 ghost use Rattle.fab_core.specs.Cores.{HasPlaces, count_in, is_honest as is_honest_in};
-ghost use Rattle.fab_base.specs.JournalSpelling.{header_bytes as header_of, journal_version};
+ghost use Rattle.fab_base.specs.JournalSpelling.{header_bytes as header_of};
 ghost use Rattle.fab_device.specs.Devices.{JournalCause, KeepsSure};
 ghost use Rattle.fab_device.specs.declared.traits.JournalError.TheVariants.{Failed as JournalFault, Memory as Wanting};
 ghost use Rattle.fab_core.specs.declared.refused.CoreRefused.TheVariants.{Journal as JournalFailed, Memory as WantsMemory};
 ghost use Rattle.fab_core.specs.Honest.{AreFor, honest_in};
-ghost use Rattle.fab_core.specs.Starts.{AreAtStart, AreBack, AreUnchanged, EndsInFront, HoldsFront, IsFailedAt, IsFresh, IsLeft, IsNext, IsUnmoved, given_by, honest_below, journals_faults, nodes_faults};
+ghost use Rattle.fab_core.specs.Starts.{AreAtStart, AreBack, AreUnchanged, EndsInFront, HoldsFront, IsFailedAt, IsFresh, IsLeft, IsNext, IsUnmoved, first_of, given_by, honest_below, journals_faults, nodes_faults};
 ghost use Rattle.fab_core.specs.Telling.{those_in};
 
 use crate::core_state::Core;
@@ -20,7 +20,7 @@ use crate::reading::put_journal;
 use crate::refused::CoreRefused;
 use fab_base::{NoMemory, Seq};
 use fab_device::{Journal, JournalError};
-use fab_journal::{append_synced, header_bytes};
+use fab_journal::{JOURNAL_VERSION, append_synced, header_bytes};
 use fab_node::{Given, Node, role_at_start};
 use fab_nodes::is_node;
 use fab_places::principal_of;
@@ -51,6 +51,13 @@ fn is_honest(given: &Given, n: u16) -> bool
     is_node(given.rights(), n) && !is_hostile(given.program(), n)
 }
 
+/// The version in which the journal of the node of this number begins.
+fn first_of(_number: u16) -> u16
+    ensures { result ≡ first_of _number }
+{
+    JOURNAL_VERSION
+}
+
 /// Writes the header into a node's journal.
 fn start_journal<J: Journal>(
     alloc: Global,
@@ -58,14 +65,14 @@ fn start_journal<J: Journal>(
     journal: &mut J,
 ) -> Result<(), JournalError>
     requires { J.content journal.old ≡ [] }
-    ensures content { OnOk result (J.content journal.new ≡ header_of journal_version number) }
+    ensures content { OnOk result (J.content journal.new ≡ header_of (first_of number) number) }
     ensures synced { OnOk result (J.synced journal.new ≡ length (J.content journal.new)) }
     ensures failed { IsErrOf result JournalFault → HoldsFront number (J.content journal.new) (J.synced journal.new) }
     ensures memory { IsErrOf result Wanting → J.content journal.new ≡ [] }
     ensures cause { JournalCause (J.faults journal.old) (J.faults journal.new) result }
     ensures sure { KeepsSure (J.sure journal.old) (J.sure journal.new) (IsErrOf result JournalFault) }
 {
-    let header = header_bytes(alloc, number)?;
+    let header = header_bytes(alloc, first_of(number), number)?;
     append_synced(journal, header.as_slice())
 }
 
@@ -92,7 +99,7 @@ fn honest_node<J: Journal + Drop>(
     ensures empty { IsErrOf result Wanting → AllByRecursion (λ j. J.content j ≡ []) rest.new.items }
 {
     nodes.reserve(1)?;
-    let role = role_at_start(alloc, given, number)?;
+    let role = role_at_start(alloc, given, number, first_of(number))?;
     let Some(journal) = rest.pop() else {
         return Err(JournalError::Memory);
     };

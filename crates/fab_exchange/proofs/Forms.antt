@@ -3,9 +3,10 @@ use Rattle.std.proofs.Common.{◌≡◌, ℕ, List, true, false, Option, Some, N
 use Rattle.std.proofs.Common.{refl, sym, ap, ◌∙◌, subst}
 use Rattle.std.specs.Prelude.{is_some, option_map, if◌then◌else◌}
 use Rattle.fab_base.specs.declared.entry.Entry.{Entry}
-use Rattle.fab_base.specs.JournalSpelling.{record_bytes, journal_version, version_behind}
+use Rattle.fab_base.specs.JournalSpelling.{version_behind}
 use Rattle.fab_eval.specs.declared.done.Done.{Done}
-use Rattle.fab_journal.proofs.Lengths.{same_length}
+use Rattle.fab_journal.specs.Lengths.{record_length}
+use Rattle.fab_journal.proofs.Lengths.{length-record}
 use Rattle.fab_net.specs.declared.event.Event.{Event}
 use Rattle.fab_net.specs.declared.event.Event.TheVariants as e
 use Rattle.fab_net.specs.declared.event.Inner.{Inner}
@@ -50,7 +51,7 @@ module _ (g : GivenModel) (moves : List Move) (x : Inner) where
   unfolding form_at line_of
   form_uncut used is none = entry_whole (act (setting g) w x).entry line (ap (keeps_by (setting g) (lines_of g.program)) is ∙ none)
 
-  entry_none : (entry : Option Entry) → option_map (λ y. length (record_bytes journal_version y)) entry ≡ None → formed entry line ≡ Does x
+  entry_none : (entry : Option Entry) → option_map record_length entry ≡ None → formed entry line ≡ Does x
   entry_none None h = refl
   entry_none (Some entry) h = absurd (cc)
 
@@ -60,14 +61,14 @@ module _ (g : GivenModel) (moves : List Move) (x : Inner) where
   form_unwritten h = entry_none (act (setting g) w x).entry h
 
   entry_cut : (entry : Option Entry) (used : Option CrashLine) (bytes most : ℕ) → keeps_by (setting g) (lines_of g.program) used ≡ Some bytes
-      → option_map (λ y. length (record_bytes journal_version y)) entry ≡ Some most → formed entry used ≡ Cuts (min bytes most) x
+      → option_map record_length entry ≡ Some most → formed entry used ≡ Cuts (min bytes most) x
   entry_cut None used bytes most kept h = absurd (cc)
   entry_cut (Some entry) used bytes most kept h =
       ap (λ k. form_by x k (length (record_behind (w.node (node_of x)).first (w.node (node_of x)).entries (Some entry)))) kept
-      ∙ ap (λ k. Cuts (min bytes k) x) (same_length entry (version_behind (w.node (node_of x)).first (w.node (node_of x)).entries) journal_version)
+      ∙ ap (λ k. Cuts (min bytes k) x) (length-record (version_behind (w.node (node_of x)).first (w.node (node_of x)).entries) entry)
       ∙ ap (λ k. Cuts (min bytes k) x) (some_length h)
     where
-      some_length : Some (length (record_bytes journal_version entry)) ≡ Some most → length (record_bytes journal_version entry) ≡ most
+      some_length : Some (record_length entry) ≡ Some most → record_length entry ≡ most
       some_length h = cc
 
   -- a line cuts it

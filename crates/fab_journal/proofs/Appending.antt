@@ -3,11 +3,11 @@ use Rattle.std.proofs.Common.{◌≡◌, ℕ, ◌+◌, ◌-◌, ◌^◌, ◌<◌
 use Rattle.std.proofs.lemmas.List.{append-nil, length-take}
 use Rattle.std.proofs.Math.Seq.{take-append_seam, drop-append_seam, take-append-add}
 use Rattle.fab_base.specs.declared.entry.Entry.{Entry}
-use Rattle.fab_base.specs.JournalSpelling.{header_bytes, records_from, record_bytes, version_behind, journal_bytes, IsEntry, AreEntries, IsTorn, IsReadAs, journal_version}
+use Rattle.fab_base.specs.JournalSpelling.{header_bytes, records_from, record_bytes, version_behind, journal_bytes, IsEntry, AreEntries, IsVersion, IsTorn, IsReadAs}
 use Rattle.fab_base.proofs.Torn.{short_is_torn}
 use Rattle.fab_device.specs.Devices.{MayLeave}
 use Rattle.fab_journal.proofs.Fronts.{torn_inside}
-use Rattle.fab_journal.proofs.Journals.{version_stays, records-push}
+use Rattle.fab_journal.proofs.Journals.{records-push}
 
 -- ---- what a crash leaves
 
@@ -29,37 +29,44 @@ front_is_left old bytes left h =
 
 -- ---- the journal with one record more
 
-pub journal-push : (node : ℕ) (entries : List Entry) (e : Entry) → journal_bytes journal_version node (entries ++ e ∷ []) ≡ journal_bytes journal_version node entries ++ record_bytes (version_behind journal_version entries) e
-journal-push node entries e =
-    ap (λ (t : List ℕ). header_bytes journal_version node ++ t) (records-push journal_version entries e)
-    ∙ sym (append_assoc (header_bytes journal_version node) (records_from journal_version entries) (record_bytes (version_behind journal_version entries) e))
+pub journal-push : (first node : ℕ) (entries : List Entry) (e : Entry)
+    → journal_bytes first node (entries ++ e ∷ []) ≡ journal_bytes first node entries ++ record_bytes (version_behind first entries) e
+journal-push first node entries e =
+    ap (λ (t : List ℕ). header_bytes first node ++ t) (records-push first entries e)
+    ∙ sym (append_assoc (header_bytes first node) (records_from first entries) (record_bytes (version_behind first entries) e))
 
 -- ---- what is behind a journal and no whole record is dropped
 
-behind : (node : ℕ) (entries : List Entry) (rest : List ℕ) → node < 2 ^ 16 → AreEntries journal_version entries → IsTorn rest → IsReadAs (journal_bytes journal_version node entries ++ rest) entries (length (journal_bytes journal_version node entries))
-behind node entries rest small fits torn =
+behind : (first node : ℕ) (entries : List Entry) (rest : List ℕ) → IsVersion first → node < 2 ^ 16 → AreEntries first entries → IsTorn rest
+    → IsReadAs (journal_bytes first node entries ++ rest) entries (length (journal_bytes first node entries)) (version_behind first entries)
+behind first node entries rest known small fits torn =
     inr (record {
       front = record {
+        first = first;
+        known = known;
         node = node;
         in_range = small;
         entries_fit = fits;
-        within = omega (arith, length-append (journal_bytes journal_version node entries) rest);
-        spelled = take-append_seam (journal_bytes journal_version node entries) rest;
+        within = omega (arith, length-append (journal_bytes first node entries) rest);
+        spelled = take-append_seam (journal_bytes first node entries) rest;
+        behind = refl;
       };
-      torn = subst IsTorn (sym (drop-append_seam (journal_bytes journal_version node entries) rest)) torn;
+      torn = subst IsTorn (sym (drop-append_seam (journal_bytes first node entries) rest)) torn;
     })
 
-pub whole_read : (node : ℕ) (entries : List Entry) → node < 2 ^ 16 → AreEntries journal_version entries → IsReadAs (journal_bytes journal_version node entries) entries (length (journal_bytes journal_version node entries))
-whole_read node entries small fits =
-    subst (λ (t : List ℕ). IsReadAs t entries (length (journal_bytes journal_version node entries))) (append-nil (journal_bytes journal_version node entries))
-    (behind node entries [] small fits (short_is_torn [] (omega arith)))
+pub whole_read : (first node : ℕ) (entries : List Entry) → IsVersion first → node < 2 ^ 16 → AreEntries first entries
+    → IsReadAs (journal_bytes first node entries) entries (length (journal_bytes first node entries)) (version_behind first entries)
+whole_read first node entries known small fits =
+    subst (λ (t : List ℕ). IsReadAs t entries (length (journal_bytes first node entries)) (version_behind first entries)) (append-nil (journal_bytes first node entries))
+    (behind first node entries [] known small fits (short_is_torn [] (omega arith)))
 
-cut_record : (e : Entry) (n : ℕ) → IsEntry journal_version e → n < length (record_bytes journal_version e) → IsTorn (take n (record_bytes journal_version e))
-cut_record e n fits lt = subst (λ (t : List ℕ). IsTorn (take n t)) (append-nil (record_bytes journal_version e)) (torn_inside e [] n fits lt)
+cut_record : (version : ℕ) (e : Entry) (n : ℕ) → IsEntry version e → n < length (record_bytes version e) → IsTorn (take n (record_bytes version e))
+cut_record version e n fits lt = subst (λ (t : List ℕ). IsTorn (take n t)) (append-nil (record_bytes version e)) (torn_inside version e [] n fits lt)
 
-pub torn_read : (node : ℕ) (entries : List Entry) (e : Entry) (n : ℕ) → node < 2 ^ 16 → AreEntries journal_version entries → IsEntry (version_behind journal_version entries) e → n < length (record_bytes (version_behind journal_version entries) e)
-    → IsReadAs (journal_bytes journal_version node entries ++ take n (record_bytes (version_behind journal_version entries) e)) entries (length (journal_bytes journal_version node entries))
-torn_read node entries e n small fits =
-    subst (λ (v : ℕ). IsEntry v e → n < length (record_bytes v e) → IsReadAs (journal_bytes journal_version node entries ++ take n (record_bytes v e)) entries (length (journal_bytes journal_version node entries)))
-    (sym (version_stays journal_version entries))
-    (λ one lt. behind node entries (take n (record_bytes journal_version e)) small fits (cut_record e n one lt))
+pub torn_read : (first node : ℕ) (entries : List Entry) (e : Entry) (n : ℕ) → IsVersion first → node < 2 ^ 16 → AreEntries first entries
+    → IsEntry (version_behind first entries) e → n < length (record_bytes (version_behind first entries) e)
+    → IsReadAs (journal_bytes first node entries ++ take n (record_bytes (version_behind first entries) e)) entries
+    (length (journal_bytes first node entries)) (version_behind first entries)
+torn_read first node entries e n known small fits one lt =
+    let version = version_behind first entries in
+    behind first node entries (take n (record_bytes version e)) known small fits (cut_record version e n one lt)

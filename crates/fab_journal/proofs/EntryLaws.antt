@@ -10,7 +10,7 @@ use Rattle.fab_base.specs.declared.message.Items.{Items}
 use Rattle.fab_base.specs.declared.entry.Entry.{Entry}
 use Rattle.fab_base.specs.declared.entry.Entry.TheVariants as entries
 use Rattle.fab_base.specs.FieldSpelling.{two_bytes, four_bytes, tid_bytes, IsTid, value_bytes, IsValue, items_bytes, AreItems}
-use Rattle.fab_base.specs.JournalSpelling.{result_bytes, IsResult, stores_bytes, AscendFrom, AreStores, NamesNode, IsOutcome, body_bytes, IsEntryBody, IsEntry, journal_version}
+use Rattle.fab_base.specs.JournalSpelling.{result_bytes, IsResult, stores_bytes, AscendFrom, AreStores, NamesNode, IsOutcome, body_bytes, IsEntryBody, IsVersion, IsEntry}
 use Rattle.fab_wire.specs.Reading.{◌>>=◌, made, value_at}
 use Rattle.fab_wire.proofs.ReaderLaws.{IsBytes, IsBytes-nil, IsBytes-cons, Reads, Stops, bind_ok, bind_err, ok_is, made_reads, chosen_reads, both_reads, respelled, nothing_reads}
 use Rattle.fab_wire.proofs.NumberLaws.{two_reads, four_reads, byte_reads}
@@ -238,78 +238,78 @@ said (entries.Released tid) = tid_bytes tid
 said (entries.BootSeen worker boot) = two_bytes worker ++ four_bytes boot
 
 -- an entry of a kind
-abbrev OfKind : ℕ → Entry → Type 0
-OfKind kind e = IsEntryBody journal_version e × (kind_of e ≡ kind)
+abbrev OfKind : ℕ → ℕ → Entry → Type 0
+OfKind version kind e = IsEntryBody version e × (kind_of e ≡ kind)
 
-decided_back : (e : Entry) → OfKind 1 e
-    → (p : Tid × (ℕ × (Option Value × List ℕ))) × (IsTid p.0 × ((p.1.0 < 2 ^ 32) × (IsResult journal_version p.1.1.0 × AreStores p.1.1.1))) × (entries.Decided p.0 p.1.0 p.1.1.0 p.1.1.1 ≡ e)
+decided_back : (version : ℕ) (e : Entry) → OfKind version 1 e
+    → (p : Tid × (ℕ × (Option Value × List ℕ))) × (IsTid p.0 × ((p.1.0 < 2 ^ 32) × (IsResult version p.1.1.0 × AreStores p.1.1.1))) × (entries.Decided p.0 p.1.0 p.1.1.0 p.1.1.1 ≡ e)
 unfolding kind_of
-decided_back (entries.Decided tid request result stores) h = ((tid, (request, (result, stores))), (h.0.0, (h.0.1, (h.0.2, h.0.3))), refl)
-decided_back e h = absurd (omega (arith, h.1))
+decided_back version (entries.Decided tid request result stores) h = ((tid, (request, (result, stores))), (h.0.0, (h.0.1, (h.0.2, h.0.3))), refl)
+decided_back version e h = absurd (omega (arith, h.1))
 
-closed_back : (e : Entry) → OfKind 2 e → (p : ℕ × (ℕ × ℕ)) × ((p.0 < 2 ^ 32) × IsOutcome p.1.0 p.1.1) × (entries.Closed p.0 p.1.0 p.1.1 ≡ e)
+closed_back : (version : ℕ) (e : Entry) → OfKind version 2 e → (p : ℕ × (ℕ × ℕ)) × ((p.0 < 2 ^ 32) × IsOutcome p.1.0 p.1.1) × (entries.Closed p.0 p.1.0 p.1.1 ≡ e)
 unfolding kind_of
-closed_back (entries.Closed request outcome node) h = ((request, (outcome, node)), (h.0.0, h.0.1), refl)
-closed_back e h = absurd (omega (arith, h.1))
+closed_back version (entries.Closed request outcome node) h = ((request, (outcome, node)), (h.0.0, h.0.1), refl)
+closed_back version e h = absurd (omega (arith, h.1))
 
-boot_back : (e : Entry) → OfKind 3 e → (n : ℕ) × (n < 2 ^ 32) × (entries.Boot n ≡ e)
+boot_back : (version : ℕ) (e : Entry) → OfKind version 3 e → (n : ℕ) × (n < 2 ^ 32) × (entries.Boot n ≡ e)
 unfolding kind_of
-boot_back (entries.Boot boot) h = (boot, h.0, refl)
-boot_back e h = absurd (omega (arith, h.1))
+boot_back version (entries.Boot boot) h = (boot, h.0, refl)
+boot_back version e h = absurd (omega (arith, h.1))
 
-prepared_back : (e : Entry) → OfKind 4 e → (p : Tid × Items) × (IsTid p.0 × AreItems 1 p.1) × (entries.Prepared p.0 p.1 ≡ e)
+prepared_back : (version : ℕ) (e : Entry) → OfKind version 4 e → (p : Tid × Items) × (IsTid p.0 × AreItems version p.1) × (entries.Prepared p.0 p.1 ≡ e)
 unfolding kind_of
-prepared_back (entries.Prepared tid items) h = ((tid, items), (h.0.0, h.0.1), refl)
-prepared_back e h = absurd (omega (arith, h.1))
+prepared_back version (entries.Prepared tid items) h = ((tid, items), (h.0.0, h.0.1), refl)
+prepared_back version e h = absurd (omega (arith, h.1))
 
-refused_back : (e : Entry) → OfKind 5 e → (t : Tid) × IsTid t × (entries.Refused t ≡ e)
+refused_back : (version : ℕ) (e : Entry) → OfKind version 5 e → (t : Tid) × IsTid t × (entries.Refused t ≡ e)
 unfolding kind_of
-refused_back (entries.Refused tid) h = (tid, h.0, refl)
-refused_back e h = absurd (omega (arith, h.1))
+refused_back version (entries.Refused tid) h = (tid, h.0, refl)
+refused_back version e h = absurd (omega (arith, h.1))
 
-applied_back : (e : Entry) → OfKind 6 e → (t : Tid) × IsTid t × (entries.Applied t ≡ e)
+applied_back : (version : ℕ) (e : Entry) → OfKind version 6 e → (t : Tid) × IsTid t × (entries.Applied t ≡ e)
 unfolding kind_of
-applied_back (entries.Applied tid) h = (tid, h.0, refl)
-applied_back e h = absurd (omega (arith, h.1))
+applied_back version (entries.Applied tid) h = (tid, h.0, refl)
+applied_back version e h = absurd (omega (arith, h.1))
 
-released_back : (e : Entry) → OfKind 7 e → (t : Tid) × IsTid t × (entries.Released t ≡ e)
+released_back : (version : ℕ) (e : Entry) → OfKind version 7 e → (t : Tid) × IsTid t × (entries.Released t ≡ e)
 unfolding kind_of
-released_back (entries.Released tid) h = (tid, h.0, refl)
-released_back e h = absurd (omega (arith, h.1))
+released_back version (entries.Released tid) h = (tid, h.0, refl)
+released_back version e h = absurd (omega (arith, h.1))
 
-boot_seen_back : (e : Entry) → OfKind 8 e → (p : ℕ × ℕ) × ((p.0 < 2 ^ 16) × (p.1 < 2 ^ 32)) × (entries.BootSeen p.0 p.1 ≡ e)
+boot_seen_back : (version : ℕ) (e : Entry) → OfKind version 8 e → (p : ℕ × ℕ) × ((p.0 < 2 ^ 16) × (p.1 < 2 ^ 32)) × (entries.BootSeen p.0 p.1 ≡ e)
 unfolding kind_of
-boot_seen_back (entries.BootSeen worker boot) h = ((worker, boot), (h.0.0, h.0.1), refl)
-boot_seen_back e h = absurd (omega (arith, h.1))
+boot_seen_back version (entries.BootSeen worker boot) h = ((worker, boot), (h.0.0, h.0.1), refl)
+boot_seen_back version e h = absurd (omega (arith, h.1))
 
-entry_by_reads : (kind : ℕ) → (1 ≤ kind) × (kind ≤ 8) → Reads (entry_by kind) said (OfKind kind)
+entry_by_reads : (version kind : ℕ) → (1 ≤ kind) × (kind ≤ 8) → Reads (entry_by kind) said (OfKind version kind)
 unfolding kind_of said
-entry_by_reads zero h = absurd (omega (arith, h.0))
-entry_by_reads (suc zero) h =
-    made_reads (λ p. entries.Decided p.0 p.1.0 p.1.1.0 p.1.1.1) said (OfKind 1) (both_reads tid_reads (both_reads four_reads (both_reads (result_reads journal_version) stores_reads)))
-    (λ p fp. (simp append_assoc, ((fp.0, fp.1.0, fp.1.1.0, fp.1.1.1), refl))) decided_back
-entry_by_reads (suc (suc zero)) h =
-    made_reads (λ p. entries.Closed p.0 p.1.0 p.1.1) said (OfKind 2) (both_reads four_reads outcome_reads) (λ p fp. (refl, ((fp.0, fp.1), refl))) closed_back
-entry_by_reads (suc (suc (suc zero))) h = made_reads (λ n. entries.Boot n) said (OfKind 3) four_reads (λ n fn. (refl, (fn, refl))) boot_back
-entry_by_reads (suc (suc (suc (suc zero)))) h =
-    made_reads (λ p. entries.Prepared p.0 p.1) said (OfKind 4) (both_reads tid_reads (items_reads journal_version)) (λ p fp. (refl, ((fp.0, fp.1), refl))) prepared_back
-entry_by_reads (suc (suc (suc (suc (suc zero))))) h = made_reads (λ t. entries.Refused t) said (OfKind 5) tid_reads (λ t ft. (refl, (ft, refl))) refused_back
-entry_by_reads (suc (suc (suc (suc (suc (suc zero)))))) h = made_reads (λ t. entries.Applied t) said (OfKind 6) tid_reads (λ t ft. (refl, (ft, refl))) applied_back
-entry_by_reads (suc (suc (suc (suc (suc (suc (suc zero))))))) h = made_reads (λ t. entries.Released t) said (OfKind 7) tid_reads (λ t ft. (refl, (ft, refl))) released_back
-entry_by_reads (suc (suc (suc (suc (suc (suc (suc (suc zero)))))))) h =
-    made_reads (λ p. entries.BootSeen p.0 p.1) said (OfKind 8) (both_reads two_reads four_reads) (λ p fp. (refl, ((fp.0, fp.1), refl))) boot_seen_back
-entry_by_reads (suc (suc (suc (suc (suc (suc (suc (suc (suc kind))))))))) h = absurd (omega (arith, h.1))
+entry_by_reads version zero h = absurd (omega (arith, h.0))
+entry_by_reads version (suc zero) h =
+    made_reads (λ p. entries.Decided p.0 p.1.0 p.1.1.0 p.1.1.1) said (OfKind version 1) (both_reads tid_reads (both_reads four_reads (both_reads (result_reads version) stores_reads)))
+    (λ p fp. (simp append_assoc, ((fp.0, fp.1.0, fp.1.1.0, fp.1.1.1), refl))) (decided_back version)
+entry_by_reads version (suc (suc zero)) h =
+    made_reads (λ p. entries.Closed p.0 p.1.0 p.1.1) said (OfKind version 2) (both_reads four_reads outcome_reads) (λ p fp. (refl, ((fp.0, fp.1), refl))) (closed_back version)
+entry_by_reads version (suc (suc (suc zero))) h = made_reads (λ n. entries.Boot n) said (OfKind version 3) four_reads (λ n fn. (refl, (fn, refl))) (boot_back version)
+entry_by_reads version (suc (suc (suc (suc zero)))) h =
+    made_reads (λ p. entries.Prepared p.0 p.1) said (OfKind version 4) (both_reads tid_reads (items_reads version)) (λ p fp. (refl, ((fp.0, fp.1), refl))) (prepared_back version)
+entry_by_reads version (suc (suc (suc (suc (suc zero))))) h = made_reads (λ t. entries.Refused t) said (OfKind version 5) tid_reads (λ t ft. (refl, (ft, refl))) (refused_back version)
+entry_by_reads version (suc (suc (suc (suc (suc (suc zero)))))) h = made_reads (λ t. entries.Applied t) said (OfKind version 6) tid_reads (λ t ft. (refl, (ft, refl))) (applied_back version)
+entry_by_reads version (suc (suc (suc (suc (suc (suc (suc zero))))))) h = made_reads (λ t. entries.Released t) said (OfKind version 7) tid_reads (λ t ft. (refl, (ft, refl))) (released_back version)
+entry_by_reads version (suc (suc (suc (suc (suc (suc (suc (suc zero)))))))) h =
+    made_reads (λ p. entries.BootSeen p.0 p.1) said (OfKind version 8) (both_reads two_reads four_reads) (λ p fp. (refl, ((fp.0, fp.1), refl))) (boot_seen_back version)
+entry_by_reads version (suc (suc (suc (suc (suc (suc (suc (suc (suc kind))))))))) h = absurd (omega (arith, h.1))
 
-entry_parts : (e : Entry) → body_bytes journal_version e ≡ (kind_of e ∷ []) ++ said e
+entry_parts : (version : ℕ) (e : Entry) → body_bytes version e ≡ (kind_of e ∷ []) ++ said e
 unfolding kind_of said
-entry_parts (entries.Decided tid request result stores) = refl
-entry_parts (entries.Closed request outcome node) = refl
-entry_parts (entries.Boot boot) = refl
-entry_parts (entries.Prepared tid items) = refl
-entry_parts (entries.Refused tid) = refl
-entry_parts (entries.Applied tid) = refl
-entry_parts (entries.Released tid) = refl
-entry_parts (entries.BootSeen worker boot) = refl
+entry_parts version (entries.Decided tid request result stores) = refl
+entry_parts version (entries.Closed request outcome node) = refl
+entry_parts version (entries.Boot boot) = refl
+entry_parts version (entries.Prepared tid items) = refl
+entry_parts version (entries.Refused tid) = refl
+entry_parts version (entries.Applied tid) = refl
+entry_parts version (entries.Released tid) = refl
+entry_parts version (entries.BootSeen worker boot) = refl
 
 kind_within : (e : Entry) → (1 ≤ kind_of e) × (kind_of e ≤ 8)
 unfolding kind_of
@@ -322,8 +322,9 @@ kind_within (entries.Applied tid) = (omega arith, omega arith)
 kind_within (entries.Released tid) = (omega arith, omega arith)
 kind_within (entries.BootSeen worker boot) = (omega arith, omega arith)
 
-pub entry_reads : Reads entry_at (body_bytes journal_version) (IsEntry journal_version)
+pub entry_reads : (version : ℕ) → IsVersion version → Reads entry_at (body_bytes version) (IsEntry version)
 unfolding entry_at
-entry_reads =
-    respelled (body_bytes journal_version) (IsEntry journal_version) (chosen_reads entry_by kind_of said (IsEntryBody journal_version) (byte_reads 1 8 (omega arith) (omega arith)) entry_by_reads)
-    (λ e fe. entry_parts e) (λ e h. record { known = refl; body = h.1 }) (λ e h. (kind_within e, h.body))
+entry_reads version known =
+    respelled (body_bytes version) (IsEntry version)
+    (chosen_reads entry_by kind_of said (IsEntryBody version) (byte_reads 1 8 (omega arith) (omega arith)) (entry_by_reads version))
+    (λ e fe. entry_parts version e) (λ e h. record { known = known; body = h.1 }) (λ e h. (kind_within e, h.body))

@@ -1,12 +1,12 @@
 -- How long records are, and how long a body may be.
-use Rattle.std.proofs.Common.{◌≡◌, ℕ, ◌+◌, ◌*◌, ◌^◌, ◌<◌, ◌≤◌, Option, Some, None, List, [], ◌∷◌, ◌++◌, length, length-append, refl, sym, ◌∙◌, arith}
+use Rattle.std.proofs.Common.{◌≡◌, ℕ, ◌+◌, ◌*◌, ◌^◌, ◌<◌, ◌≤◌, Option, Some, None, List, [], ◌∷◌, ◌++◌, length, length-append, refl, sym, subst, ◌∙◌, arith}
 use Rattle.std.specs.List.{flat_map}
 use Rattle.fab_base.specs.declared.object.Value.{Value}
 use Rattle.fab_base.specs.declared.entry.Entry.{Entry}
 use Rattle.fab_base.specs.declared.entry.Entry.TheVariants as entries
 use Rattle.fab_base.specs.declared.message.Message.TheVariants.{Prepare}
-use Rattle.fab_base.specs.FieldSpelling.{two_bytes, four_bytes, items_bytes, KeepsItems, sent_version, tid_bytes}
-use Rattle.fab_base.specs.JournalSpelling.{result_bytes, stores_bytes, body_bytes, record_bytes, IsEntry, journal_version}
+use Rattle.fab_base.specs.FieldSpelling.{two_bytes, four_bytes, items_bytes, AreItems, KeepsItems, sent_version, tid_bytes}
+use Rattle.fab_base.specs.JournalSpelling.{result_bytes, stores_bytes, body_bytes, record_bytes, IsEntry}
 use Rattle.fab_base.proofs.Torn.{length-framed}
 use Rattle.fab_wire.proofs.Lengths.{value_le, items_le}
 use Rattle.fab_wire.proofs.MessageLaws.{can_be_encoded}
@@ -39,15 +39,15 @@ result_le None = omega arith
 result_le (Some v) = value_le v
 
 -- a body's length fits its field
-pub body_small : (e : Entry) → IsEntry journal_version e → length (body_bytes journal_version e) < 2 ^ 32
-body_small (entries.Decided tid request result stores) fits =
-    omega (arith, body_length journal_version (entries.Decided tid request result stores), result_le result, fits.body.3.count)
-body_small (entries.Closed request outcome node) fits = omega arith
-body_small (entries.Boot boot) fits = omega arith
-body_small (entries.Prepared tid items) fits =
-    let kept : KeepsItems items = can_be_encoded sent_version (Prepare tid items) (record { known = refl; body = fits.body }) in
-    omega (arith, body_length journal_version (entries.Prepared tid items), items_le items kept.written kept.created, kept.reads, kept.writes, kept.creates)
-body_small (entries.Refused tid) fits = omega arith
-body_small (entries.Applied tid) fits = omega arith
-body_small (entries.Released tid) fits = omega arith
-body_small (entries.BootSeen worker boot) fits = omega arith
+pub body_small : (version : ℕ) (e : Entry) → IsEntry version e → length (body_bytes version e) < 2 ^ 32
+body_small version (entries.Decided tid request result stores) fits =
+    omega (arith, body_length version (entries.Decided tid request result stores), result_le result, fits.body.3.count)
+body_small version (entries.Closed request outcome node) fits = omega arith
+body_small version (entries.Boot boot) fits = omega arith
+body_small version (entries.Prepared tid items) fits =
+    let kept : KeepsItems items = can_be_encoded sent_version (Prepare tid items) (record { known = refl; body = (fits.body.0, subst (λ v. AreItems v items) fits.known fits.body.1) }) in
+    omega (arith, body_length version (entries.Prepared tid items), items_le items kept.written kept.created, kept.reads, kept.writes, kept.creates)
+body_small version (entries.Refused tid) fits = omega arith
+body_small version (entries.Applied tid) fits = omega arith
+body_small version (entries.Released tid) fits = omega arith
+body_small version (entries.BootSeen worker boot) fits = omega arith

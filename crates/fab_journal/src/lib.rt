@@ -16,4 +16,4 @@ pub use laws::{
     one_record_more, records_have_their_length, torn_record_is_dropped,
 };
 pub use records::read_records;
-pub use writing::{header_bytes, record_bytes};
+pub use writing::{JOURNAL_VERSION, header_bytes, record_bytes};

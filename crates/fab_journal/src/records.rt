@@ -3,12 +3,12 @@
 ghost use Rattle.std.specs.Prelude.{◌≡◌, ◌≤◌, ℕ, List, take, length};
 ghost use Rattle.std.specs.Option.{option_copied};
 ghost use Rattle.fab_base.specs.declared.entry.Entry.{Entry};
-ghost use Rattle.fab_base.specs.JournalSpelling.{opening, IsReadAs};
+ghost use Rattle.fab_base.specs.JournalSpelling.{opening, IsReadAs, IsVersion};
 ghost use Rattle.fab_journal.specs.Records.{ReadsRecords, AnswersOnly, ReadsBody, FrontRecord, FirstWrong};
 
 use crate::entries::entry_of;
 use crate::error::RecordError;
-use crate::writing::OPENING;
+use crate::writing::{JOURNAL_VERSION, OPENING};
 use byteorder::{BigEndian, ByteOrder};
 use fab_base::{Entry, Seq};
 use fab_wire::Stop;
@@ -17,17 +17,18 @@ use std::alloc::Global;
 /// How long a header is.
 const HEADER: usize = 8;
 
-/// The whole records of a journal, and how long they and the header are. What a torn record or a
-/// torn header left at the end is dropped; of a torn header nothing is read, in 0 bytes.
-pub fn read_records(alloc: Global, bytes: &[u8]) -> Result<(Seq<Entry>, u64), RecordError>
+/// The whole records of a journal, how long they and the header are, and the version of a record
+/// behind them. What a torn record or a torn header left at the end is dropped; of a torn header
+/// nothing is read, in 0 bytes, and the version is that of a new journal.
+pub fn read_records(alloc: Global, bytes: &[u8]) -> Result<(Seq<Entry>, u64, u16), RecordError>
     ensures read { ReadsRecords result bytes.now }
-    ensures only { (entries : List Entry) (len : ℕ) → IsReadAs bytes.now entries len → AnswersOnly result entries len }
+    ensures only { (entries : List Entry) (len next : ℕ) → IsReadAs bytes.now entries len next → AnswersOnly result entries len next }
 {
     if let Some(at) = first_wrong(&OPENING, bytes) {
         return Err(RecordError::Bad { at: at as u64 });
     }
     if bytes.len() < HEADER {
-        return Ok((Seq::new(alloc), 0));
+        return Ok((Seq::new(alloc), 0, JOURNAL_VERSION));
     }
     records_from(alloc, bytes)
 }
@@ -45,15 +46,16 @@ fn first_wrong(right: &[u8], bytes: &[u8]) -> Option<usize>
 }
 
 /// The records behind a whole header.
-fn records_from(alloc: Global, bytes: &[u8]) -> Result<(Seq<Entry>, u64), RecordError>
+fn records_from(alloc: Global, bytes: &[u8]) -> Result<(Seq<Entry>, u64, u16), RecordError>
     requires whole { HEADER ≤ length bytes.now }
     requires opens { take 6 bytes.now ≡ opening }
     ensures { ReadsRecords result bytes.now }
 {
     let mut entries = Seq::new(alloc);
     let mut at = HEADER;
+    let version = JOURNAL_VERSION;
     while let Some(body) = whole_body(&bytes[at..]) {
-        match entry_in(alloc, body) {
+        match entry_in(alloc, body, version) {
             Ok(entry) => entries.push(entry)?,
             Err(RecordError::Memory) => return Err(RecordError::Memory),
             Err(RecordError::Bad { at: place }) => {
@@ -63,7 +65,7 @@ fn records_from(alloc: Global, bytes: &[u8]) -> Result<(Seq<Entry>, u64), Record
         }
         at += 4 + body.len();
     }
-    Ok((entries, at as u64))
+    Ok((entries, at as u64, version))
 }
 
 /// The body of the whole record at the front.
@@ -82,9 +84,11 @@ fn whole_body(bytes: &[u8]) -> Option<&[u8]>
     }
 }
 
-/// The entry whose body this is. A wrong place counts from the first byte of the record's length.
-fn entry_in(alloc: Global, body: &[u8]) -> Result<Entry, RecordError>
-    ensures { ReadsBody result body.now }
+/// The entry whose body in this version this is. A wrong place counts from the first byte of the
+/// record's length.
+fn entry_in(alloc: Global, body: &[u8], _version: u16) -> Result<Entry, RecordError>
+    requires { IsVersion _version }
+    ensures { ReadsBody _version result body.now }
 {
     match entry_of(alloc, body) {
         Ok((entry, rest)) => {

@@ -2,46 +2,53 @@
 
 ghost use Rattle.std.specs.Prelude.{◌≡◌, ◌++◌, OnOk, IfOk};
 ghost use Rattle.std.specs.List.{flat_map};
-ghost use Rattle.fab_base.specs.FieldSpelling.{two_bytes};
-ghost use Rattle.fab_base.specs.declared.entry.Entry.TheVariants.{Decided, Closed};
-ghost use Rattle.fab_base.specs.JournalSpelling.{body_bytes, header_bytes as header_of, record_bytes as record_of, result_bytes, stores_bytes, journal_version};
-ghost use Rattle.fab_base.specs.JournalSpelling.{AreStores, IsEntry, IsEntryBody, IsResult, KeepsEntry};
+ghost use Rattle.fab_base.specs.FieldSpelling.{four_bytes, two_bytes};
+ghost use Rattle.fab_base.specs.declared.entry.Entry.TheVariants.{Decided};
+ghost use Rattle.fab_base.specs.JournalSpelling.{body_bytes, header_bytes as header_of, record_bytes as record_of, result_bytes, stores_bytes};
+ghost use Rattle.fab_base.specs.JournalSpelling.{AreStores, IsEntry, IsEntryBody, IsResult, IsVersion, KeepsEntry};
 
 use fab_base::{Entry, NoMemory, Seq, Tid, Value};
 use fab_wire::{put_items, put_tagged_tid, put_u8, put_u16, put_u32, put_value};
 use std::alloc::Global;
 
-/// The letters FABJ and the version; a header has the node's number after them, two bytes.
+/// The version in which a new journal begins.
+pub const JOURNAL_VERSION: u16 = 1;
+
+/// The letters FABJ and that version; a header has the node's number after them, two bytes.
 pub const OPENING: [u8; 6] = [70, 65, 66, 74, 0, 1];
 
-/// A journal's header, 8 bytes.
-pub fn header_bytes(alloc: Global, node: u16) -> Result<Seq<u8>, NoMemory>
-    ensures { IfOk result (λ bytes. bytes ≡ header_of journal_version node) }
+/// The header of a journal that begins in this version, 8 bytes.
+pub fn header_bytes(alloc: Global, version: u16, node: u16) -> Result<Seq<u8>, NoMemory>
+    requires { IsVersion version }
+    ensures { IfOk result (λ bytes. bytes ≡ header_of version node) }
 {
-    let mut out = Seq::from_slice(alloc, &OPENING)?;
+    let mut out = Seq::from_slice(alloc, &[70, 65, 66, 74])?;
+    put_u16(&mut out, version)?;
     put_u16(&mut out, node)?;
     Ok(out)
 }
 
-/// An entry's record: the length of its body, four bytes, and the body.
-pub fn record_bytes(alloc: Global, entry: &Entry) -> Result<Seq<u8>, NoMemory>
-    requires { KeepsEntry entry.now }
-    ensures bytes { IfOk result (λ bytes. bytes ≡ record_of journal_version entry.now) }
+/// An entry's record in this version: the length of its body, four bytes, and the body.
+pub fn record_bytes(alloc: Global, entry: &Entry, version: u16) -> Result<Seq<u8>, NoMemory>
+    requires version { IsVersion version }
+    requires entry { KeepsEntry entry.now }
+    ensures bytes { IfOk result (λ bytes. bytes ≡ record_of version entry.now) }
     // The entry has a spelling.
-    ensures fits { OnOk result (IsEntry journal_version entry.now) }
+    ensures fits { OnOk result (IsEntry version entry.now) }
 {
     let mut body = Seq::new(alloc);
-    put_body(&mut body, entry)?;
+    put_body(&mut body, entry, version)?;
     let mut out = Seq::new(alloc);
     put_u32(&mut out, body.len() as u32)?;
     out.extend(body.as_slice())?;
     Ok(out)
 }
 
-fn put_body(out: &mut Seq<u8>, entry: &Entry) -> Result<(), NoMemory>
-    requires { KeepsEntry entry.now }
-    ensures bytes { OnOk result (out.new ≡ out.old ++ body_bytes journal_version entry.now) }
-    ensures fits { OnOk result (IsEntryBody journal_version entry.now) }
+fn put_body(out: &mut Seq<u8>, entry: &Entry, version: u16) -> Result<(), NoMemory>
+    requires version { IsVersion version }
+    requires entry { KeepsEntry entry.now }
+    ensures bytes { OnOk result (out.new ≡ out.old ++ body_bytes version entry.now) }
+    ensures fits { OnOk result (IsEntryBody version entry.now) }
 {
     match entry {
         Entry::Decided {
@@ -49,7 +56,7 @@ fn put_body(out: &mut Seq<u8>, entry: &Entry) -> Result<(), NoMemory>
             request,
             result,
             stores,
-        } => put_decided(out, *tid, *request, *result, stores.as_slice())?,
+        } => put_decided(out, *tid, *request, *result, stores.as_slice(), version)?,
         Entry::Closed {
             request,
             outcome,
@@ -81,19 +88,21 @@ fn put_decided(
     request: u32,
     value: Option<Value>,
     stores: &[u16],
+    version: u16,
 ) -> Result<(), NoMemory>
-    requires { AreStores stores.now }
-    ensures bytes { OnOk result (out.new ≡ out.old ++ body_bytes journal_version (Decided tid request value stores.now)) }
-    ensures fits { OnOk result (IsEntryBody journal_version (Decided tid request value stores.now)) }
+    requires version { IsVersion version }
+    requires stores { AreStores stores.now }
+    ensures bytes { OnOk result (out.new ≡ out.old ++ body_bytes version (Decided tid request value stores.now)) }
+    ensures fits { OnOk result (IsEntryBody version (Decided tid request value stores.now)) }
 {
     put_tagged_tid(out, 1, tid)?;
     put_u32(out, request)?;
-    put_result(out, value)?;
+    put_result(out, value, version)?;
     put_stores(out, stores)
 }
 
 fn put_closed(out: &mut Seq<u8>, request: u32, outcome: u8, node: u16) -> Result<(), NoMemory>
-    ensures { OnOk result (out.new ≡ out.old ++ body_bytes journal_version (Closed request outcome node)) }
+    ensures { OnOk result (out.new ≡ out.old ++ 2 ∷ (four_bytes request ++ outcome ∷ two_bytes node)) }
 {
     put_u8(out, 2)?;
     put_u32(out, request)?;
@@ -101,9 +110,10 @@ fn put_closed(out: &mut Seq<u8>, request: u32, outcome: u8, node: u16) -> Result
     put_u16(out, node)
 }
 
-fn put_result(out: &mut Seq<u8>, value: Option<Value>) -> Result<(), NoMemory>
+fn put_result(out: &mut Seq<u8>, value: Option<Value>, _version: u16) -> Result<(), NoMemory>
+    requires { IsVersion _version }
     ensures bytes { OnOk result (out.new ≡ out.old ++ result_bytes value) }
-    ensures fits { IsResult journal_version value }
+    ensures fits { IsResult _version value }
 {
     match value {
         None => put_u8(out, 3),

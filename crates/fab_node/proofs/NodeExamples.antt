@@ -6,13 +6,13 @@ use Rattle.fab_base.specs.JournalSpelling.{journal_bytes, record_bytes, journal_
 use Rattle.fab_net.specs.declared.event.Inner.TheVariants as i
 use Rattle.fab_world.specs.Machine.{Node}
 use Rattle.fab_world.specs.Workers.{Act, fresh, stays}
-use Rattle.fab_node.specs.Standing.{GivenModel, IsJournalOf, IsTornPart, node_at_start}
+use Rattle.fab_node.specs.Standing.{GivenModel, IsJournalOf, IsTornPart, node_at_start, version_of}
 use Rattle.fab_node.specs.Deeds.{cut_at, done_by, failed, readied, step_of, woken}
 
 -- ---- a node that has booted once more, and what is torn behind that
 
 abbrev booted : Node
-booted = record node_at_start { entries = e.Boot 2 ∷ [] }
+booted = record (node_at_start journal_version) { entries = e.Boot 2 ∷ [] }
 
 abbrev torn : Node
 torn = record booted { torn = 0 ∷ 0 ∷ []; up = false }
@@ -26,7 +26,7 @@ the_journal : journal_bytes journal_version 7 (e.Boot 2 ∷ []) ≡ 70 ∷ 65 �
 the_journal = refl
 
 -- two bytes of a record are a torn part
-two_bytes : IsTornPart (0 ∷ 0 ∷ [])
+two_bytes : IsTornPart (version_of booted) (0 ∷ 0 ∷ [])
 two_bytes = (e.Boot 2, 2, record { known = refl; body = omega arith }, omega arith, refl)
 
 -- it comes back without what was torn, and keeps its record
@@ -75,10 +75,10 @@ not_counted = refl
 
 -- ---- steps
 
-quiet : step_of (stays fresh) ≡ record { entry = None; sends = []; notes = [] }
+quiet : step_of journal_version (stays fresh) ≡ record { entry = None; sends = []; notes = [] }
 quiet = refl
 
-written : (step_of boots).entry ≡ Some (0 ∷ 0 ∷ 0 ∷ 5 ∷ 3 ∷ 0 ∷ 0 ∷ 0 ∷ 3 ∷ [])
+written : (step_of (version_of booted) boots).entry ≡ Some (0 ∷ 0 ∷ 0 ∷ 5 ∷ 3 ∷ 0 ∷ 0 ∷ 0 ∷ 3 ∷ [])
 written = refl
 
 -- ---- journals

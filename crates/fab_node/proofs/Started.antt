@@ -39,13 +39,14 @@ module _ (g : GivenModel) (is : IsGiven g) where
       (few_fields (setting_of g.program g.rights) (map_at_start g.program) given_setting.roots_fit)
 
   -- a store that has kept nothing
-  pub store_at_start : (n : ℕ) (store : stores.Stock) → IsTrue (is_node g.rights n) → is_worker g.rights n ≡ false → store.node ≡ n → store.rights ≡ g.rights
-      → store.shelf ≡ shelf_at_start g.roots n → StoreStands g n node_at_start store
+  pub store_at_start : (n version : ℕ) (store : stores.Stock) → IsTrue (is_node g.rights n) → is_worker g.rights n ≡ false → store.node ≡ n → store.version ≡ version
+      → store.rights ≡ g.rights → store.shelf ≡ shelf_at_start g.roots n → StoreStands g n (node_at_start version) store
   unfolding shelf_of
-  store_at_start n store node other same rights shelf = record {
+  store_at_start n version store node other same first rights shelf = record {
     kind = sym (ap (λ b. b || is_store g.rights n) other) ∙ node;
     no_worker = other;
     node = same;
+    version = first;
     rights = rights;
     idle = refl;
     shelf = shelf ∙ ap (λ (roots : FlatMap). shelf_at_start roots n) is.roots;

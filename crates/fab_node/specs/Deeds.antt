@@ -1,7 +1,7 @@
 -- What one node does at an event, by itself: its records, its attempt, and the bytes that reach it.
-use Rattle.std.specs.Prelude.{◌≡◌, ℕ, ◌<◌, ◌≤◌, Bool, true, false, IsTrue, List, [], ◌∷◌, ◌++◌, map, length, Option, Some, None, option_map, unwrap_or, IsSome, vec_len, vec_capacity}
+use Rattle.std.specs.Prelude.{◌≡◌, ℕ, ◌<◌, ◌≤◌, Bool, true, false, IsTrue, List, [], ◌∷◌, ◌++◌, map, length, Option, Some, None, option_map, IsSome, vec_len, vec_capacity}
 use Rattle.fab_base.specs.declared.entry.Entry.{Entry}
-use Rattle.fab_base.specs.JournalSpelling.{record_bytes, journal_bytes, AreEntries, IsEntry, journal_version}
+use Rattle.fab_base.specs.JournalSpelling.{record_bytes, journal_bytes, version_behind, AreEntries, IsEntry, IsVersion}
 use Rattle.fab_base.specs.MessageSpelling.{spelled}
 use Rattle.fab_net.specs.declared.event.Inner.{Inner}
 use Rattle.fab_net.specs.declared.event.Inner.TheVariants as i
@@ -13,13 +13,13 @@ use Rattle.fab_store.specs.Stock as stores
 use Rattle.fab_worker.specs.Models as models
 use Rattle.fab_worker.specs.Plans as workers
 use Rattle.fab_world.specs.Workers.{Act, Idle, Evaluating, fresh, begins}
-use Rattle.fab_world.specs.Machine.{World, Node, act, cut, lacks, option_list}
+use Rattle.fab_world.specs.Machine.{World, Node, act, cut, lacks, option_list, record_behind}
 use Rattle.fab_settings.specs.Settings.{setting_of}
 use Rattle.fab_node.specs.declared.role.Role.{Role}
 use Rattle.fab_node.specs.declared.role.Role.TheVariants as roles
 use Rattle.fab_node.specs.declared.plan.NodePlan.{NodePlan}
 use Rattle.fab_node.specs.declared.plan.NodePlan.TheVariants as plans
-use Rattle.fab_node.specs.Standing.{GivenModel, NodeModel, IsJournalOf, IsTornPart, RoleStands}
+use Rattle.fab_node.specs.Standing.{GivenModel, NodeModel, IsJournalOf, IsTornPart, RoleStands, version_of}
 
 -- a world in which each node is this one, and these bytes stand in front of each queue
 abbrev pub alone : Node → List ℕ → World
@@ -29,9 +29,9 @@ alone x bytes = record { node = λ n. x; queue = λ a b. bytes ∷ []; sent = λ
 abbrev pub deed : GivenModel → Node → Inner → List ℕ → Act
 deed g x e bytes = act (setting_of g.program g.rights) (alone x bytes) e
 
--- the same as bytes: the record, the messages that it sends, the notes
-abbrev pub step_of : Act → Step
-step_of act = record { entry = option_map (record_bytes journal_version) act.entry; sends = map (λ x. (x.0, spelled x.1)) act.sends; notes = act.notes }
+-- the same as bytes: the record in this version, the messages that it sends, the notes
+abbrev pub step_of : ℕ → Act → Step
+step_of version act = record { entry = option_map (record_bytes version) act.entry; sends = map (λ x. (x.0, spelled x.1)) act.sends; notes = act.notes }
 
 -- ---- when it may be done
 
@@ -95,32 +95,32 @@ pub record IsBegin (act : Act) (role : Role) (notes : List Note) (many room : �
   pub none : notes ≡ []
   pub spare : many < room
 
-pub record IsStorePlan (act : Act) (role : Role) (plan : stores.Plan) : Type 0 where
+pub record IsStorePlan (version : ℕ) (act : Act) (role : Role) (plan : stores.Plan) : Type 0 where
   pub store : stores.Stock
   pub is : role ≡ roles.Store store
   pub entry : plan.entry ≡ act.entry
-  pub step : plan.step ≡ step_of act
+  pub step : plan.step ≡ step_of version act
   pub idle : act.attempt.phase ≡ Idle
   pub can : stores.CanKeepSaid store.rights store.node plan.entry store.shelf
   pub room : stores.HasRoom plan.entry store
 
-pub record IsWorkerPlan (act : Act) (role : Role) (plan : workers.Plan) : Type 0 where
+pub record IsWorkerPlan (version : ℕ) (act : Act) (role : Role) (plan : workers.Plan) : Type 0 where
   pub worker : models.WorkerModel
   pub is : role ≡ roles.Worker worker
-  pub plan_is : workers.IsPlanOf act worker.attempt plan
+  pub plan_is : workers.IsPlanOf version act worker.attempt plan
   pub fits : workers.Fits worker plan
 
 -- what a node is when it comes back behind its whole records, which are so long, and what it does then
 pub record WakesAs (g : GivenModel) (x : Node) (act : Act) (n : ℕ) (role : Role) (keep : ℕ) (step : Step) : Type 0 where
   pub stands : RoleStands g n (done_by act (woken x)) role
-  pub whole : keep ≡ length (journal_bytes journal_version n x.entries)
-  pub step_is : step ≡ step_of act
+  pub whole : keep ≡ length (journal_bytes x.first n x.entries)
+  pub step_is : step ≡ step_of (version_of x) act
 
 -- the plan is of this act, and can be carried out by node n in this role
 abbrev pub IsPlanOf : GivenModel → Node → Act → ℕ → Role → NodePlan → Type 0
 IsPlanOf g x act n role (plans.Begins notes) = IsBegin act role notes.items (vec_len notes) (vec_capacity notes)
-IsPlanOf g x act n role (plans.Store plan) = IsStorePlan act role plan
-IsPlanOf g x act n role (plans.Worker plan) = IsWorkerPlan act role plan
+IsPlanOf g x act n role (plans.Store plan) = IsStorePlan (version_of x) act role plan
+IsPlanOf g x act n role (plans.Worker plan) = IsWorkerPlan (version_of x) act role plan
 IsPlanOf g x act n role (plans.Wakes new keep step) = WakesAs g x act n new keep step
 
 -- it does nothing that wakes a node
@@ -131,12 +131,12 @@ IsAwake _ = Unit {0}
 -- the plan of what the machine's node x, which is up, does at this event, in the role of node n, with a record that can be spelled
 pub record IsRolePlan (g : GivenModel) (x : Node) (e : Inner) (bytes : List ℕ) (n : ℕ) (role : Role) (plan : NodePlan) : Type 0 where
   pub is : IsPlanOf g x (deed g x e bytes) n role plan
-  pub spelled : (entry : Entry) → (deed g x e bytes).entry ≡ Some entry → IsEntry journal_version entry
+  pub spelled : (entry : Entry) → (deed g x e bytes).entry ≡ Some entry → IsEntry (version_of x) entry
   pub awake : IsAwake plan
 
 pub record IsPlanFor (g : GivenModel) (x : Node) (act : Act) (node : NodeModel) (plan : NodePlan) : Type 0 where
   pub is : IsPlanOf g x act node.number node.role plan
-  pub spelled : (entry : Entry) → act.entry ≡ Some entry → IsEntry journal_version entry
+  pub spelled : (entry : Entry) → act.entry ≡ Some entry → IsEntry (version_of x) entry
 
 -- how the node is when it begins to do what is planned
 abbrev pub readied_for : NodePlan → Node → Node
@@ -166,8 +166,8 @@ pub record IsPlanAt (g : GivenModel) (x : Node) (e : Inner) (bytes : List ℕ) (
 
 -- what node n is when it comes back, and what it does then, with a record that can be spelled
 pub record IsWaking (g : GivenModel) (n : ℕ) (x : Node) (role : Role) (step : Step) : Type 0 where
-  pub wakes : WakesAs g x (deed g x (i.Recover n) []) n role (length (journal_bytes journal_version n x.entries)) step
-  pub spelled : (entry : Entry) → (deed g x (i.Recover n) []).entry ≡ Some entry → IsEntry journal_version entry
+  pub wakes : WakesAs g x (deed g x (i.Recover n) []) n role (length (journal_bytes x.first n x.entries)) step
+  pub spelled : (entry : Entry) → (deed g x (i.Recover n) []).entry ≡ Some entry → IsEntry (version_of x) entry
 
 -- the record of a plan, if it writes one
 abbrev pub entry_in : NodePlan → Option (List ℕ)
@@ -203,36 +203,36 @@ keep_in _ = None
 
 -- the whole records end where the record of a plan goes: behind the journal, but for what is cut off as the node comes back
 abbrev pub EndsAt : ℕ → Node → NodePlan → Type 0
-EndsAt n x (plans.Wakes role keep step) = keep ≡ length (journal_bytes journal_version n x.entries)
+EndsAt n x (plans.Wakes role keep step) = keep ≡ length (journal_bytes x.first n x.entries)
 EndsAt n x _ = x.torn ≡ []
 
 -- the journal is that of the machine's node n, which hasn't failed
 pub record IsReady (n : ℕ) (x : Node) (content : List ℕ) (synced : ℕ) (plan : NodePlan) : Type 0 where
   pub stands : IsJournalOf n x content synced
-  pub begun : x.first ≡ journal_version
   pub unfailed : x.failed ≡ false
   pub ends : EndsAt n x plan
 
 -- and the record of the plan is that of the act
 pub record Writes (n : ℕ) (x : Node) (act : Act) (content : List ℕ) (synced : ℕ) (plan : NodePlan) : Type 0 where
   pub ready : IsReady n x content synced plan
-  pub record_is : entry_in plan ≡ option_map (record_bytes journal_version) act.entry
+  pub record_is : entry_in plan ≡ option_map (record_bytes (version_of x)) act.entry
 
 -- ---- reading
 
--- the bytes are a journal of these records, and of what is torn behind them
-pub record HoldsRecords (n : ℕ) (entries : List Entry) (torn : List ℕ) (bytes : List ℕ) : Type 0 where
-  pub spelled : AreEntries journal_version entries
-  pub cut_off : IsTornPart torn
-  pub is : bytes ≡ journal_bytes journal_version n entries ++ torn
+-- the bytes are a journal of these records, the first in this version, and of what is torn behind them
+pub record HoldsRecords (first n : ℕ) (entries : List Entry) (torn : List ℕ) (bytes : List ℕ) : Type 0 where
+  pub begun : IsVersion first
+  pub spelled : AreEntries first entries
+  pub cut_off : IsTornPart (version_behind first entries) torn
+  pub is : bytes ≡ journal_bytes first n entries ++ torn
 
 -- ---- a record that is cut
 
 -- the bytes of the record of an act, if it has one
-abbrev pub record_in : Act → List ℕ
-record_in act = unwrap_or (option_map (record_bytes journal_version) act.entry) []
+abbrev pub record_in : Node → Act → List ℕ
+record_in x act = record_behind x.first x.entries act.entry
 
--- the step of what was done in whole
-abbrev pub step_if : Bool → Act → Option Step
-step_if true act = Some (step_of act)
-step_if false act = None
+-- the step of what was done in whole, with the record in this version
+abbrev pub step_if : ℕ → Bool → Act → Option Step
+step_if version true act = Some (step_of version act)
+step_if version false act = None

@@ -2,7 +2,7 @@
 use Rattle.std.specs.Prelude.{◌≡◌, ℕ, ◌<◌, ◌≤◌, Bool, true, false, IsTrue, List, [], ◌++◌, length, take}
 use Rattle.fab_base.specs.declared.entry.Entry.{Entry}
 use Rattle.fab_base.specs.FlatMap.{FlatMap}
-use Rattle.fab_base.specs.JournalSpelling.{journal_bytes, record_bytes, AreEntries, IsEntry, journal_version}
+use Rattle.fab_base.specs.JournalSpelling.{journal_bytes, record_bytes, version_behind, AreEntries, IsEntry, IsVersion}
 use Rattle.fab_tree.specs.declared.start.Start.{Start}
 use Rattle.fab_tree.specs.declared.resolved.Resolved.{Resolved}
 use Rattle.fab_language.specs.Evaluation.{map_at_start}
@@ -49,12 +49,18 @@ pub record NodeModel : Type 0 where
   pub up : Bool
   pub failed : Bool
 
+-- the version of the node's next record
+abbrev pub version_of : Node → ℕ
+version_of x = version_behind x.first x.entries
+
 -- The role is of this kind and number, with these rights and this program; what lasts of it is what its records make, each of which the rules
--- give behind those before it; and while it is up its attempt is that of the machine. A store is at no attempt.
+-- give behind those before it; its version is that of the node's next record, down too; and while it is up its attempt is that of the machine. A
+-- store is at no attempt.
 pub record StoreStands (g : GivenModel) (n : ℕ) (x : Node) (store : stores.Stock) : Type 0 where
   pub kind : IsTrue (is_store g.rights n)
   pub no_worker : is_worker g.rights n ≡ false
   pub node : store.node ≡ n
+  pub version : store.version ≡ version_of x
   pub rights : store.rights ≡ g.rights
   pub idle : x.attempt.phase ≡ Idle
   pub shelf : store.shelf ≡ shelf_of (map_at_start g.program) n x.entries
@@ -63,6 +69,7 @@ pub record StoreStands (g : GivenModel) (n : ℕ) (x : Node) (store : stores.Sto
 pub record WorkerStands (g : GivenModel) (n : ℕ) (x : Node) (worker : models.WorkerModel) : Type 0 where
   pub kind : IsTrue (is_worker g.rights n)
   pub node : worker.node ≡ n
+  pub version : worker.version ≡ version_of x
   pub rights : worker.rights ≡ g.rights
   pub program : worker.program ≡ g.program
   pub lasts : worker.kept ≡ kept_of x.entries
@@ -73,43 +80,43 @@ abbrev pub RoleStands : GivenModel → ℕ → Node → Role → Type 0
 RoleStands g n x (roles.Store store) = StoreStands g n x store
 RoleStands g n x (roles.Worker worker) = WorkerStands g n x worker
 
--- bytes behind the whole records: a front of a record that isn't the whole of it
-abbrev pub IsTornPart : List ℕ → Type 0
-IsTornPart bytes =
-    (entry : Entry) × (n : ℕ) × IsEntry journal_version entry
-    × (n < length (record_bytes journal_version entry)) × (bytes ≡ take n (record_bytes journal_version entry))
+-- bytes behind the whole records: a front of a record in this version that isn't the whole of it
+abbrev pub IsTornPart : ℕ → List ℕ → Type 0
+IsTornPart version bytes =
+    (entry : Entry) × (n : ℕ) × IsEntry version entry
+    × (n < length (record_bytes version entry)) × (bytes ≡ take n (record_bytes version entry))
 
 -- the whole records stand at the front
-abbrev pub BeginsWith : ℕ → List Entry → List ℕ → Type 0
-BeginsWith n entries content = (more : List ℕ) × (content ≡ journal_bytes journal_version n entries ++ more)
+abbrev pub BeginsWith : ℕ → ℕ → List Entry → List ℕ → Type 0
+BeginsWith first n entries content = (more : List ℕ) × (content ≡ journal_bytes first n entries ++ more)
 
 -- and all of them are synced
-pub record Lasts (n : ℕ) (entries : List Entry) (content : List ℕ) (synced : ℕ) : Type 0 where
-  pub front : BeginsWith n entries content
-  pub durable : length (journal_bytes journal_version n entries) ≤ synced
+pub record Lasts (first n : ℕ) (entries : List Entry) (content : List ℕ) (synced : ℕ) : Type 0 where
+  pub front : BeginsWith first n entries content
+  pub durable : length (journal_bytes first n entries) ≤ synced
 
 -- The journal of a node that hasn't failed holds the header, the whole records, and what is torn, and all but what is torn is synced; that
 -- of one that has begins with the header and the whole records, and these are synced.
-pub record JournalStands (n : ℕ) (entries : List Entry) (torn : List ℕ) (failed : Bool) (content : List ℕ) (synced : ℕ) : Type 0 where
-  pub content_is : failed ≡ false → content ≡ journal_bytes journal_version n entries ++ torn
-  pub synced_is : failed ≡ false → synced ≡ length (journal_bytes journal_version n entries)
-  pub lasts : Lasts n entries content synced
+pub record JournalStands (first n : ℕ) (entries : List Entry) (torn : List ℕ) (failed : Bool) (content : List ℕ) (synced : ℕ) : Type 0 where
+  pub content_is : failed ≡ false → content ≡ journal_bytes first n entries ++ torn
+  pub synced_is : failed ≡ false → synced ≡ length (journal_bytes first n entries)
+  pub lasts : Lasts first n entries content synced
 
 -- so many bytes are synced of this content, which is that of the machine's node of this number
 abbrev pub IsJournalOf : ℕ → Node → List ℕ → ℕ → Type 0
-IsJournalOf n x content synced = JournalStands n x.entries x.torn x.failed content synced
+IsJournalOf n x content synced = JournalStands x.first n x.entries x.torn x.failed content synced
 
--- The node in code stands for this one of the machine, whose journal begins in the version that code writes; one that is up hasn't failed, and
--- nothing of it is torn.
+-- The node in code stands for this one of the machine, whose journal begins in some version; one that is up hasn't failed, and nothing of it is
+-- torn.
 pub record Stands (g : GivenModel) (x : Node) (node : NodeModel) : Type 0 where
   pub up : node.up ≡ x.up
   pub failed : node.failed ≡ x.failed
   pub role : RoleStands g node.number x node.role
-  pub begun : x.first ≡ journal_version
-  pub spelled : AreEntries journal_version x.entries
+  pub begun : IsVersion x.first
+  pub spelled : AreEntries x.first x.entries
   pub alive : x.up ≡ true → x.failed ≡ false
   pub whole : x.up ≡ true → x.torn ≡ []
-  pub torn : IsTornPart x.torn
+  pub torn : IsTornPart (version_of x) x.torn
   pub journal : IsJournalOf node.number x node.journal.content node.journal.synced
 
 -- ---- room
@@ -152,6 +159,6 @@ pub record RereadAs (old new : NodeModel) : Type 0 where
   pub up : new.up ≡ old.up
   pub failed : new.failed ≡ old.failed
 
--- the node of the machine at the start of a run
-abbrev pub node_at_start : Node
-node_at_start = record { first = journal_version; entries = []; torn = []; attempt = fresh; up = true; failed = false }
+-- the node of the machine at the start of a run, whose journal begins in this version
+abbrev pub node_at_start : ℕ → Node
+node_at_start first = record { first = first; entries = []; torn = []; attempt = fresh; up = true; failed = false }

@@ -4,7 +4,7 @@ ghost use Rattle.std.specs.Prelude.{◌≡◌, ℕ, true, false, vec_len, vec_ca
 ghost use Rattle.fab_world.specs.Machine.{Node as Standing};
 ghost use Rattle.fab_world.specs.Workers.{Act};
 ghost use Rattle.fab_node.specs.Deeds.{step_if, IsBegin, IsPlanOf, IsStorePlan, IsWorkerPlan, done_by, readied_for, step_of};
-ghost use Rattle.fab_node.specs.Standing.{GivenModel, RoleStands};
+ghost use Rattle.fab_node.specs.Standing.{GivenModel, RoleStands, version_of};
 
 use crate::plan::NodePlan;
 use crate::role::Role;
@@ -17,7 +17,7 @@ use std::alloc::Global;
 /// A worker begins its next attempt, with the note of it, for which there is room.
 pub(crate) fn begin(alloc: Global, role: &mut Role, notes: Vec<Note>) -> Step
     requires plan { (act : Act) × IsBegin act role.old notes.items (vec_len notes) (vec_capacity notes) }
-    ensures step { (act : Act) → IsBegin act role.old notes.items (vec_len notes) (vec_capacity notes) → result ≡ step_of act }
+    ensures step { (version : ℕ) (act : Act) → IsBegin act role.old notes.items (vec_len notes) (vec_capacity notes) → result ≡ step_of version act }
     ensures role { (g : GivenModel) (n : ℕ) (x : Standing) (act : Act) → RoleStands g n x role.old → IsBegin act role.old notes.items (vec_len notes) (vec_capacity notes)
         → RoleStands g n (done_by act x) role.new }
 {
@@ -41,9 +41,9 @@ pub(crate) fn begin(alloc: Global, role: &mut Role, notes: Vec<Note>) -> Step
 
 /// A store's plan is carried out.
 pub(crate) fn accept_store(role: &mut Role, plan: StorePlan) -> Step
-    requires plan { (act : Act) × IsStorePlan act role.old plan }
-    ensures step { (act : Act) → IsStorePlan act role.old plan → result ≡ step_of act }
-    ensures role { (g : GivenModel) (n : ℕ) (x : Standing) (act : Act) → RoleStands g n x role.old → IsStorePlan act role.old plan
+    requires plan { (version : ℕ) × (act : Act) × IsStorePlan version act role.old plan }
+    ensures step { (version : ℕ) (act : Act) → IsStorePlan version act role.old plan → result ≡ step_of version act }
+    ensures role { (g : GivenModel) (n : ℕ) (x : Standing) (act : Act) → RoleStands g n x role.old → IsStorePlan (version_of x) act role.old plan
         → RoleStands g n (done_by act x) role.new }
 {
     match role {
@@ -54,9 +54,9 @@ pub(crate) fn accept_store(role: &mut Role, plan: StorePlan) -> Step
 
 /// A worker's plan is carried out.
 pub(crate) fn accept_worker(role: &mut Role, plan: WorkerPlan) -> Step
-    requires plan { (act : Act) × IsWorkerPlan act role.old plan }
-    ensures step { (act : Act) → IsWorkerPlan act role.old plan → result ≡ step_of act }
-    ensures role { (g : GivenModel) (n : ℕ) (x : Standing) (act : Act) → RoleStands g n x role.old → IsWorkerPlan act role.old plan
+    requires plan { (version : ℕ) × (act : Act) × IsWorkerPlan version act role.old plan }
+    ensures step { (version : ℕ) (act : Act) → IsWorkerPlan version act role.old plan → result ≡ step_of version act }
+    ensures role { (g : GivenModel) (n : ℕ) (x : Standing) (act : Act) → RoleStands g n x role.old → IsWorkerPlan (version_of x) act role.old plan
         → RoleStands g n (done_by act x) role.new }
 {
     match role {
@@ -71,7 +71,7 @@ pub fn accept_whole(alloc: Global, role: &mut Role, plan: NodePlan, whole: bool)
     ensures whole { whole ≡ true → (g : GivenModel) (x : Standing) (act : Act) (n : ℕ) → RoleStands g n x role.old → IsPlanOf g x act n role.old plan
         → RoleStands g n (done_by act (readied_for plan x)) role.new }
     ensures part { whole ≡ false → role.new ≡ role.old }
-    ensures step { (g : GivenModel) (x : Standing) (act : Act) (n : ℕ) → IsPlanOf g x act n role.old plan → result ≡ step_if whole act }
+    ensures step { (g : GivenModel) (x : Standing) (act : Act) (n : ℕ) → IsPlanOf g x act n role.old plan → result ≡ step_if (version_of x) whole act }
 {
     if whole {
         Some(plan.accept(alloc, role))

@@ -6,7 +6,7 @@ ghost use Rattle.fab_device.specs.Devices.{KeepsSure};
 ghost use Rattle.fab_world.specs.Machine.{Node as Standing};
 ghost use Rattle.fab_world.specs.Workers.{Act};
 ghost use Rattle.fab_node.specs.Deeds.{record_in, step_if, CallsJournal, CanDo, HasRoomFor, IsPlanFor, cut_at, done_by, entry_in, failed, readied_for, step_of};
-ghost use Rattle.fab_node.specs.Standing.{GivenModel, Stands};
+ghost use Rattle.fab_node.specs.Standing.{GivenModel, Stands, version_of};
 
 use crate::accepting::accept_whole;
 use crate::node::{Node, fail};
@@ -24,7 +24,7 @@ impl<J: Journal> Node<J> {
         requires plan { (g : GivenModel) × (x : Standing) × (act : Act) × Stands g x self.old × IsPlanFor g x act self.old plan }
         requires room { HasRoomFor (entry_in plan) self.old.journal.room }
         ensures number { self.new.number ≡ self.old.number }
-        ensures step { IfOk result (λ step. (g : GivenModel) (x : Standing) (act : Act) → Stands g x self.old → IsPlanFor g x act self.old plan → step ≡ step_of act) }
+        ensures step { IfOk result (λ step. (g : GivenModel) (x : Standing) (act : Act) → Stands g x self.old → IsPlanFor g x act self.old plan → step ≡ step_of (version_of x) act) }
         ensures ok { OnOk result ((g : GivenModel) (x : Standing) (act : Act) → Stands g x self.old → IsPlanFor g x act self.old plan
             → Stands g (done_by act (readied_for plan x)) self.new) }
         ensures err { OnErr result ((g : GivenModel) (x : Standing) (act : Act) → Stands g x self.old → IsPlanFor g x act self.old plan
@@ -63,7 +63,7 @@ impl<J: Journal> Node<J> {
         ensures err { OnErr result ((g : GivenModel) (x : Standing) (act : Act) → Stands g x self.old → IsPlanFor g x act self.old plan
             → Stands g (failed x) self.new) }
         ensures step { IfOk result (λ step. (g : GivenModel) (x : Standing) (act : Act) → Stands g x self.old → IsPlanFor g x act self.old plan
-            → step ≡ step_if (keep == length (record_in act)) act) }
+            → step ≡ step_if (version_of x) (keep == length (record_in x act)) act) }
         ensures cause { HasCause self.old.journal.faults self.new.journal.faults result }
         ensures success { OnOk result (self.new.journal.faults ≡ self.old.journal.faults) }
         ensures sure { KeepsSure self.old.journal.sure self.new.journal.sure (IsErr result) }

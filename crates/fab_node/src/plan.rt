@@ -4,7 +4,7 @@ ghost use Rattle.std.specs.Prelude.{◌≡◌, ℕ};
 ghost use Rattle.fab_world.specs.Machine.{Node as Standing};
 ghost use Rattle.fab_world.specs.Workers.{Act};
 ghost use Rattle.fab_node.specs.Deeds.{IsPlanOf, done_by, readied_for, step_of};
-ghost use Rattle.fab_node.specs.Standing.{GivenModel, RoleStands};
+ghost use Rattle.fab_node.specs.Standing.{GivenModel, RoleStands, version_of};
 
 use crate::accepting::{accept_store, accept_worker, begin};
 use crate::role::Role;
@@ -44,7 +44,7 @@ impl NodePlan {
     /// Makes the change that is planned, and answers its step. It wants no memory.
     pub(crate) fn accept(self, alloc: Global, role: &mut Role) -> Step
         requires plan { (g : GivenModel) × (x : Standing) × (act : Act) × (n : ℕ) × IsPlanOf g x act n role.old self }
-        ensures step { (g : GivenModel) (x : Standing) (act : Act) (n : ℕ) → IsPlanOf g x act n role.old self → result ≡ step_of act }
+        ensures step { (g : GivenModel) (x : Standing) (act : Act) (n : ℕ) → IsPlanOf g x act n role.old self → result ≡ step_of (version_of x) act }
         ensures role { (g : GivenModel) (x : Standing) (act : Act) (n : ℕ) → RoleStands g n x role.old → IsPlanOf g x act n role.old self
             → RoleStands g n (done_by act (readied_for self x)) role.new }
     {

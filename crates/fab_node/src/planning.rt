@@ -1,11 +1,9 @@
 //! A node plans what it does at an event of its own. Nothing but room changes.
 
-ghost use Rattle.std.specs.Prelude.{◌≡◌, ℕ, [], true, IfOk, IfSome, OnOk};
-ghost use Rattle.fab_base.specs.JournalSpelling.{IsEntry, journal_version};
+ghost use Rattle.std.specs.Prelude.{◌≡◌, ℕ, [], true, IfOk, OnOk};
 ghost use Rattle.fab_net.specs.declared.event.Inner.TheVariants.{Begin, Resume, Deliver, Idle};
 ghost use Rattle.fab_world.specs.Machine.{Node as Standing};
 ghost use Rattle.fab_node.specs.Deeds.{HasRoomFor, IsPlanAt, IsRolePlan, MayBegin, MayGiveUp, MayResume, entry_in};
-ghost use Rattle.fab_node.specs.declared.plan.NodePlan.TheVariants as plans;
 ghost use Rattle.fab_node.specs.Standing.{GivenModel, JournalGainsRoom, OnlyGainsRoom, RoleGainsRoom, RoleStands, Stands};
 
 use crate::node::Node;
@@ -14,16 +12,6 @@ use crate::role::Role;
 use fab_base::NoMemory;
 use fab_device::Journal;
 use fab_eval::Done;
-use fab_worker::WorkerPlan;
-
-/// A worker's plan, of a record that has a spelling.
-fn of_worker(plan: WorkerPlan) -> NodePlan
-    ensures plan { result ≡ plans.Worker plan }
-    ensures spelled { IfSome plan.entry (IsEntry journal_version) }
-{
-    let _ = plan.step();
-    NodePlan::Worker(plan)
-}
 
 /// The evaluation of the job at work is over.
 fn resumed(role: &mut Role, done: &Done) -> Result<NodePlan, NoMemory>
@@ -33,7 +21,7 @@ fn resumed(role: &mut Role, done: &Done) -> Result<NodePlan, NoMemory>
     ensures kept { RoleGainsRoom role.old role.new }
 {
     match role {
-        Role::Worker(worker) => Ok(of_worker(worker.plan_resume(done)?)),
+        Role::Worker(worker) => Ok(NodePlan::Worker(worker.plan_resume(done)?)),
         Role::Store(_) => unreachable!(),
     }
 }
@@ -47,7 +35,7 @@ fn heard(role: &mut Role, sender: u16, bytes: &[u8]) -> Result<NodePlan, NoMemor
     match role {
         Role::Worker(worker) => {
             let _ = worker.state();
-            Ok(of_worker(worker.plan_handle(sender, bytes)?))
+            Ok(NodePlan::Worker(worker.plan_handle(sender, bytes)?))
         }
         Role::Store(store) => Ok(NodePlan::Store(store.plan(sender, bytes)?)),
     }
@@ -63,7 +51,7 @@ fn given_up(role: &mut Role, store: u16) -> Result<NodePlan, NoMemory>
     match role {
         Role::Worker(worker) => {
             let _ = worker.state();
-            Ok(of_worker(worker.plan_silent(store)?))
+            Ok(NodePlan::Worker(worker.plan_silent(store)?))
         }
         Role::Store(_) => unreachable!(),
     }

@@ -2,14 +2,14 @@
 
 ghost use Rattle.std.specs.Prelude.{◌≡◌, ℕ, ◌<◌, List, [], false, length, IfOk, IsErrOf};
 ghost use Rattle.fab_base.specs.declared.entry.Entry.{Entry as AnyEntry};
-ghost use Rattle.fab_base.specs.JournalSpelling.{journal_bytes, journal_version};
+ghost use Rattle.fab_base.specs.JournalSpelling.{IsVersion, journal_bytes, version_behind};
 ghost use Rattle.fab_device.specs.Devices.{JournalCause, KeepsSure};
 ghost use Rattle.fab_device.specs.declared.traits.JournalError.TheVariants.{Failed};
 ghost use Rattle.fab_net.specs.declared.event.Inner.TheVariants.{Recover};
 ghost use Rattle.fab_worker.specs.Records.{boots_in};
 ghost use Rattle.fab_world.specs.Machine.{Node as Standing};
 ghost use Rattle.fab_node.specs.Deeds.{HasRoomFor, HoldsRecords, IsPlanAt, IsWaking, entry_in, failed};
-ghost use Rattle.fab_node.specs.Standing.{GivenModel, RereadAs, RoleStands, Stands};
+ghost use Rattle.fab_node.specs.Standing.{GivenModel, RereadAs, RoleStands, Stands, version_of};
 
 use crate::given::Given;
 use crate::node::{Node, fail};
@@ -23,11 +23,16 @@ use fab_store::Store;
 use fab_worker::Worker;
 use std::alloc::{AllocError, Global};
 
-/// The whole records of the journal of the node of this number, and how long they and the header are.
-fn whole_records(alloc: Global, _number: u16, bytes: &[u8]) -> Result<(Seq<Entry>, u64), NoMemory>
-    requires { (entries : List AnyEntry) × (torn : List ℕ) × HoldsRecords _number entries torn bytes.now }
-    ensures { IfOk result (λ both. (entries : List AnyEntry) (torn : List ℕ) → HoldsRecords _number entries torn bytes.now
-        → (both.0 ≡ entries) × (both.1 ≡ length (journal_bytes journal_version _number entries))) }
+/// The whole records of the journal of the node of this number, how long they and the header are, and
+/// the version of the next record.
+fn whole_records(
+    alloc: Global,
+    _number: u16,
+    bytes: &[u8],
+) -> Result<(Seq<Entry>, u64, u16), NoMemory>
+    requires { (first : ℕ) × (entries : List AnyEntry) × (torn : List ℕ) × HoldsRecords first _number entries torn bytes.now }
+    ensures { IfOk result (λ read. (first : ℕ) (entries : List AnyEntry) (torn : List ℕ) → HoldsRecords first _number entries torn bytes.now
+        → (read.0 ≡ entries) × (read.1 ≡ length (journal_bytes first _number entries)) × (read.2 ≡ version_behind first entries)) }
 {
     match read_records(alloc, bytes) {
         Ok(read) => Ok(read),
@@ -36,22 +41,32 @@ fn whole_records(alloc: Global, _number: u16, bytes: &[u8]) -> Result<(Seq<Entry
     }
 }
 
-/// What these records make of this role, and what it does as it comes back.
+/// What these records make of this role, and what it does as it comes back. The next record is in this
+/// version.
 fn woken(
     alloc: Global,
     given: &Given,
     number: u16,
     role: &Role,
     entries: &[Entry],
+    version: u16,
 ) -> Result<(Role, Step), NoMemory>
-    requires { (x : Standing) × RoleStands given.now number x role.now × (x.entries ≡ entries.now) × (boots_in x.entries < 4000000000) }
-    ensures { IfOk result (λ both. (x : Standing) → RoleStands given.now number x role.now → x.entries ≡ entries.now
+    requires version { IsVersion version }
+    requires kept { (x : Standing) × RoleStands given.now number x role.now × (x.entries ≡ entries.now) × (boots_in x.entries < 4000000000) }
+    ensures { IfOk result (λ both. (x : Standing) → RoleStands given.now number x role.now → x.entries ≡ entries.now → version ≡ version_of x
         → IsWaking given.now number x both.0 both.1) }
 {
     match role {
         Role::Worker(_) => {
             let program = given.program.clone()?;
-            let (worker, step) = Worker::recover(alloc, number, program, &given.rights, entries)?;
+            let (worker, step) = Worker::recover(
+                alloc,
+                number,
+                program,
+                &given.rights,
+                entries,
+                version,
+            )?;
             Ok((Role::Worker(worker), step))
         }
         Role::Store(_) => {
@@ -61,6 +76,7 @@ fn woken(
                 &given.rights,
                 given.roots.rows(),
                 entries,
+                version,
             )?;
             Ok((Role::Store(store), step))
         }
@@ -80,13 +96,14 @@ impl<J: Journal> Node<J> {
         ensures sure { KeepsSure self.old.journal.sure self.new.journal.sure (IsErrOf result Failed) }
     {
         let bytes = self.journal.read()?;
-        let (entries, keep) = whole_records(self.alloc, self.number, bytes.as_slice())?;
+        let (entries, keep, version) = whole_records(self.alloc, self.number, bytes.as_slice())?;
         let (role, step) = woken(
             self.alloc,
             given,
             self.number,
             &self.role,
             entries.as_slice(),
+            version,
         )?;
         let plan = NodePlan::Wakes { role, keep, step };
         self.make_room_for(&plan)?;

@@ -67,7 +67,7 @@ fn ready<J: Journal>(journal: &mut J, plan: &NodePlan) -> Result<(), Failed>
     ensures ok { OnOk result ((n : ℕ) (x : Standing) → IsReady n x (J.content journal.old) (J.synced journal.old) plan.now
         → IsJournalOf n (readied_for plan.now x) (J.content journal.new) (J.synced journal.new)) }
     ensures err { OnErr result ((n : ℕ) (x : Standing) → IsReady n x (J.content journal.old) (J.synced journal.old) plan.now
-        → Lasts n x.entries (J.content journal.new) (J.synced journal.new)) }
+        → Lasts x.first n x.entries (J.content journal.new) (J.synced journal.new)) }
     ensures called { OnErr result (CallsJournal plan.now) }
     ensures room { J.room journal.old ≤ J.room journal.new }
     ensures cause { HasCause (J.faults journal.old) (J.faults journal.new) result }
@@ -87,7 +87,7 @@ pub fn write<J: Journal>(journal: &mut J, plan: &NodePlan) -> Result<(), Failed>
     ensures ok { OnOk result ((n : ℕ) (x : Standing) (act : Act) → Writes n x act (J.content journal.old) (J.synced journal.old) plan.now
         → IsJournalOf n (done_by act (readied_for plan.now x)) (J.content journal.new) (J.synced journal.new)) }
     ensures err { OnErr result ((n : ℕ) (x : Standing) (act : Act) → Writes n x act (J.content journal.old) (J.synced journal.old) plan.now
-        → Lasts n x.entries (J.content journal.new) (J.synced journal.new)) }
+        → Lasts x.first n x.entries (J.content journal.new) (J.synced journal.new)) }
     ensures called { OnErr result (CallsJournal plan.now) }
     ensures cause { HasCause (J.faults journal.old) (J.faults journal.new) result }
     ensures success { OnOk result (J.faults journal.new ≡ J.faults journal.old) }
@@ -115,7 +115,7 @@ pub fn write_front<J: Journal>(
     ensures ok { OnOk result ((g : GivenModel) (n : ℕ) (x : Standing) (act : Act) → Writes n x act (J.content journal.old) (J.synced journal.old) plan.now
         → IsJournalOf n (cut_at g keep act (readied_for plan.now x)) (J.content journal.new) (J.synced journal.new)) }
     ensures err { OnErr result ((n : ℕ) (x : Standing) (act : Act) → Writes n x act (J.content journal.old) (J.synced journal.old) plan.now
-        → Lasts n x.entries (J.content journal.new) (J.synced journal.new)) }
+        → Lasts x.first n x.entries (J.content journal.new) (J.synced journal.new)) }
     ensures cause { HasCause (J.faults journal.old) (J.faults journal.new) result }
     ensures success { OnOk result (J.faults journal.new ≡ J.faults journal.old) }
     ensures sure { KeepsSure (J.sure journal.old) (J.sure journal.new) (IsErr result) }

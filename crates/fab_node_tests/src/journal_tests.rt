@@ -11,7 +11,7 @@ type Gives = Result<(usize, u64), u64>;
 
 fn given(alloc: Global, bytes: &[u8]) -> Result<Gives, RecordError> {
     match read_records(alloc, bytes) {
-        Ok((entries, len)) => Ok(Ok((entries.len(), len))),
+        Ok((entries, len, _)) => Ok(Ok((entries.len(), len))),
         Err(RecordError::Bad { at }) => Ok(Err(at)),
         Err(RecordError::Memory) => Err(RecordError::Memory),
     }
@@ -108,7 +108,7 @@ fn decided_record(alloc: Global) -> Result<Seq<u8>, AllocError> {
         result: None,
         stores: Seq::from_slice(alloc, &[1])?,
     };
-    record_bytes(alloc, &decided)
+    record_bytes(alloc, &decided, JOURNAL_VERSION)
 }
 
 fn prepared_record(alloc: Global) -> Result<Seq<u8>, AllocError> {
@@ -121,7 +121,11 @@ fn prepared_record(alloc: Global) -> Result<Seq<u8>, AllocError> {
         writes,
         creates: Seq::new(alloc),
     };
-    record_bytes(alloc, &Entry::Prepared { tid: FIRST, items })
+    record_bytes(
+        alloc,
+        &Entry::Prepared { tid: FIRST, items },
+        JOURNAL_VERSION,
+    )
 }
 
 fn closed_record(alloc: Global) -> Result<Seq<u8>, AllocError> {
@@ -130,13 +134,14 @@ fn closed_record(alloc: Global) -> Result<Seq<u8>, AllocError> {
         outcome: 3,
         node: 1,
     };
-    record_bytes(alloc, &closed)
+    record_bytes(alloc, &closed, JOURNAL_VERSION)
 }
 
 /// A journal of these three.
 fn three_records(alloc: Global) -> Result<MemJournal, JournalError> {
     let mut journal = MemJournal::with_fails(alloc, Seq::new(alloc))?;
-    append_synced(&mut journal, header_bytes(alloc, 0)?.as_slice())?;
+    let header = header_bytes(alloc, JOURNAL_VERSION, 0)?;
+    append_synced(&mut journal, header.as_slice())?;
     append_synced(&mut journal, decided_record(alloc)?.as_slice())?;
     append_synced(&mut journal, prepared_record(alloc)?.as_slice())?;
     append_synced(&mut journal, closed_record(alloc)?.as_slice())?;
@@ -159,9 +164,10 @@ fn entries_come_back(rt: HostRuntime) -> Result<(), Fail> {
     let alloc = rt.alloc();
     assert_eq!(rt; decided_record(alloc)?.as_slice(), DECIDED);
     let bytes = three_records(alloc)?.read()?;
-    let (entries, len) = read_records(alloc, bytes.as_slice())?;
+    let (entries, len, version) = read_records(alloc, bytes.as_slice())?;
     assert_eq!(rt; len, 8 + 24 + 51 + 12);
     assert_eq!(rt; entries.len(), 3);
+    assert_eq!(rt; version, JOURNAL_VERSION);
     for (place, entry) in entries.as_slice().iter().enumerate() {
         assert!(rt; is_that(place, entry), "entry {place}");
     }

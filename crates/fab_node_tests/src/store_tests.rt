@@ -4,6 +4,7 @@
 ghost use Rattle.std.specs.Prelude.{◌≤◌, length, IfOk};
 
 use fab_base::{Answer, Message, NoMemory, Object, Oid, Seq, Tid, Value, Width};
+use fab_journal::JOURNAL_VERSION;
 use fab_net::Step;
 use fab_rights::{ClassRights, Rights, Shape};
 use fab_store::Store;
@@ -106,7 +107,7 @@ fn store(alloc: Global) -> Result<Store, NoMemory> {
         (SECOND, holding(alloc, 0, 0)?),
         (BOX, holding(alloc, 1, 5)?),
     ];
-    Store::make(alloc, 1, &rights(alloc)?, &roots)
+    Store::make(alloc, 1, &rights(alloc)?, &roots, JOURNAL_VERSION)
 }
 
 /// The bytes of the one message that was sent.
@@ -202,7 +203,8 @@ fn a_hostile_worker_posts(rt: HostRuntime) -> Result<(), Fail> {
         fields: Seq::from_slice(rt.alloc(), &[Shape::Number(Width::Int)])?,
     })?;
     let roots = [(FIRST, holding(rt.alloc(), 0, 100)?)];
-    let mut store = Store::make(rt.alloc(), 1, &Rights::make(1, 2, classes), &roots)?;
+    let rights = Rights::make(1, 2, classes);
+    let mut store = Store::make(rt.alloc(), 1, &rights, &roots, JOURNAL_VERSION)?;
     let post =
         b"\x01\x04\x00\x00\x00\x00\x00\x01\x00\x00\x00\x01\x00\x00\x00\x01\x00\x01\x00\x00\xff\xff\x00\x00\x00\x00\x00\x00\x00\x00\xff\xff\x00\x00\x00\x00\x00\x01\x00\x00\x01\x00\x00\x00\x03\xe7\x00\x00";
     assert!(rt;
@@ -427,7 +429,7 @@ fn boots_and_last_tids(rt: HostRuntime) -> Result<(), Fail> {
 fn recovery(rt: HostRuntime) -> Result<(), Fail> {
     let alloc = rt.alloc();
     let rights = rights(alloc)?;
-    let (store, step) = Store::recover(alloc, 1, &rights, &[], &[])?;
+    let (store, step) = Store::recover(alloc, 1, &rights, &[], &[], JOURNAL_VERSION)?;
     assert_eq!(rt; store.objects(alloc)?.into_rows(alloc)?.len(), 0);
     assert!(rt; sent(&step).is_empty());
     Ok(())
@@ -436,7 +438,7 @@ fn recovery(rt: HostRuntime) -> Result<(), Fail> {
 /// What a store with an object of this name from the start votes on worker 0's attempt that makes it.
 fn voted_on_another(alloc: Global, oid: Oid) -> Result<Option<Answer>, NoMemory> {
     let roots = [(oid, holding(alloc, 0, 100)?)];
-    let mut store = Store::make(alloc, 1, &rights(alloc)?, &roots)?;
+    let mut store = Store::make(alloc, 1, &rights(alloc)?, &roots, JOURNAL_VERSION)?;
     let bytes = prepare(alloc, tid(0, 1), &[], &[], &[(oid, 0)])?;
     let step = store.handle(0, bytes.as_slice())?;
     Ok(match decode(alloc, sent(&step)) {

@@ -9,7 +9,7 @@ use Rattle.fab_queues.specs.Channels.{Network, queue_of}
 use Rattle.fab_world.specs.Workers.{Act}
 use Rattle.fab_world.specs.Machine.{Node, front_of, rest_of, with_at}
 use Rattle.fab_worker.specs.Records.{boots_in}
-use Rattle.fab_node.specs.Standing.{GivenModel, NodeModel, Stands}
+use Rattle.fab_node.specs.Standing.{GivenModel, NodeModel, Stands, version_of}
 use Rattle.fab_node.specs.Deeds.{MayBegin, MayGiveUp, MayResume, cut_at, deed, done_by, failed, readied, record_in, step_if, step_of}
 
 -- ---- when it may be done
@@ -42,17 +42,17 @@ calls _ act = is_some act.entry
 -- it was done in whole, and this is its step
 pub record IsDone (g : GivenModel) (e : Inner) (bytes : List ℕ) (x : Node) (new : NodeModel) (step : Step) : Type 0 where
   pub stands : Stands g (done_by (deed g x e bytes) (readied e x)) new
-  pub step_is : step ≡ step_of (deed g x e bytes)
+  pub step_is : step ≡ step_of (version_of x) (deed g x e bytes)
 
 -- its record is of so many bytes at least
 pub record HasRecord (g : GivenModel) (e : Inner) (bytes : List ℕ) (keep : ℕ) (x : Node) : Type 0 where
   pub there : is_some (deed g x e bytes).entry ≡ true
-  pub long : keep ≤ length (record_in (deed g x e bytes))
+  pub long : keep ≤ length (record_in x (deed g x e bytes))
 
 -- it was cut with so many bytes of its record kept, and its step counts where they are all
 pub record IsCutTo (g : GivenModel) (e : Inner) (bytes : List ℕ) (keep : ℕ) (x : Node) (new : NodeModel) (step : Option Step) : Type 0 where
   pub stands : Stands g (cut_at g keep (deed g x e bytes) (readied e x)) new
-  pub step_is : step ≡ step_if (keep == length (record_in (deed g x e bytes))) (deed g x e bytes)
+  pub step_is : step ≡ step_if (version_of x) (keep == length (record_in x (deed g x e bytes))) (deed g x e bytes)
 
 -- a call of the journal failed
 pub record IsFailed (g : GivenModel) (e : Inner) (bytes : List ℕ) (x : Node) (new : NodeModel) : Type 0 where

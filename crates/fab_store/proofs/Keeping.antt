@@ -13,9 +13,10 @@ use Rattle.fab_protocol.specs.Versions.{is_tid}
 use Rattle.fab_protocol.proofs.ShelfKept.{shelf_keeps}
 use Rattle.fab_store.specs.Stock.{HasRoomFor, IsNew, IsStore, Stock}
 
-pub kept_store : (rights : Rights) (s : ℕ) (entry : Entry) (old new : Shelf) → CanKeep rights s entry old → IsStore rights s old
-    → new ≡ keeps entry old → IsStore rights s new
-kept_store rights s entry old new can is same = record {
+pub kept_store : (rights : Rights) (version s : ℕ) (entry : Entry) (old new : Shelf) → CanKeep rights s entry old → IsStore rights version s old
+    → new ≡ keeps entry old → IsStore rights version s new
+kept_store rights version s entry old new can is same = record {
+  known = is.known;
   mask = is.mask;
   shelf = subst (λ (x : Shelf). IsShelf rights s x) (sym same) (shelf_keeps rights s entry old is.mask can is.shelf);
 }
@@ -32,16 +33,16 @@ apart_end : (ps : List Prepared) (q : Prepared) → AreApart (ps ++ q ∷ []) �
 apart_end [] q h = refl
 apart_end (p ∷ ps) q h = rw ((all_split (IsApart p) ps (q ∷ []) h.0).1.0.0, apart_end ps q h.1) refl
 
-not_held : (rights : Rights) (s : ℕ) (t : Tid) (items : Items) (old : Shelf) → CanKeep rights s (e.Prepared t items) old → IsStore rights s old
+not_held : (rights : Rights) (version s : ℕ) (t : Tid) (items : Items) (old : Shelf) → CanKeep rights s (e.Prepared t items) old → IsStore rights version s old
     → IsFalse (list_any (λ p. is_tid p.0 t) old.prepared)
-not_held rights s t items old can is = apart_end old.prepared (t, items) (shelf_keeps rights s (e.Prepared t items) old is.mask can is.shelf).apart
+not_held rights version s t items old can is = apart_end old.prepared (t, items) (shelf_keeps rights s (e.Prepared t items) old is.mask can is.shelf).apart
 
-pub is_new : (rights : Rights) (s : ℕ) (entry : Entry) (old : Shelf) → CanKeep rights s entry old → IsStore rights s old → IsNew entry old.prepared
-is_new rights s (e.Prepared t items) old can is = not_held rights s t items old can is
-is_new rights s (e.Refused t) old can is = tt
-is_new rights s (e.Applied t) old can is = tt
-is_new rights s (e.Released t) old can is = tt
-is_new rights s (e.BootSeen w b) old can is = tt
-is_new rights s (e.Decided t request result stores) old can is = tt
-is_new rights s (e.Closed request outcome node) old can is = tt
-is_new rights s (e.Boot b) old can is = tt
+pub is_new : (rights : Rights) (version s : ℕ) (entry : Entry) (old : Shelf) → CanKeep rights s entry old → IsStore rights version s old → IsNew entry old.prepared
+is_new rights version s (e.Prepared t items) old can is = not_held rights version s t items old can is
+is_new rights version s (e.Refused t) old can is = tt
+is_new rights version s (e.Applied t) old can is = tt
+is_new rights version s (e.Released t) old can is = tt
+is_new rights version s (e.BootSeen w b) old can is = tt
+is_new rights version s (e.Decided t request result stores) old can is = tt
+is_new rights version s (e.Closed request outcome node) old can is = tt
+is_new rights version s (e.Boot b) old can is = tt

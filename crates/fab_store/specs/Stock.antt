@@ -3,7 +3,7 @@ use Rattle.std.specs.Prelude.{◌≡◌, ℕ, ◌≤◌, ◌<◌, ◌^◌, IsFal
 use Rattle.std.specs.List.{AllByRecursion}
 use Rattle.fab_base.specs.declared.entry.Entry.{Entry}
 use Rattle.fab_base.specs.declared.entry.Entry.TheVariants as e
-use Rattle.fab_base.specs.JournalSpelling.{KeepsEntry}
+use Rattle.fab_base.specs.JournalSpelling.{IsVersion, KeepsEntry}
 use Rattle.fab_base.specs.MessageSpelling.{KeepsCounts}
 use Rattle.fab_net.specs.declared.note.Step.{Step}
 use Rattle.fab_rights.specs.declared.rights.Rights.{Rights}
@@ -14,10 +14,11 @@ use Rattle.fab_protocol.specs.Stores.{Prepared, Shelf, step_of, keeps}
 use Rattle.fab_protocol.specs.Shelves.{CanKeep, IsShelf}
 use Rattle.fab_locks.specs.Conflicts.{holds_tid}
 
--- The store's number, what it knows of nodes and classes, its shelf, for how many objects more there is room, and
--- for how many prepared transactions.
+-- The store's number, the version in which it writes records, what it knows of nodes and classes, its shelf, for how
+-- many objects more there is room, and for how many prepared transactions.
 pub record Stock : Type 0 where
   pub node : ℕ
+  pub version : ℕ
   pub rights : Rights
   pub shelf : Shelf
   pub spare_rows : ℕ
@@ -27,8 +28,9 @@ pub record Stock : Type 0 where
 abbrev pub shelf_in : Rows → List Prepared → List Sender → Shelf
 shelf_in rows held senders = record { rows = rows; prepared = held; senders = senders }
 
--- what holds of every store: its shelf is one, over a mask of workers that has 64 bits
-pub record IsStore (rights : Rights) (s : ℕ) (x : Shelf) : Type 0 where
+-- what holds of every store: its version is one, and its shelf, over a mask of workers that has 64 bits
+pub record IsStore (rights : Rights) (version s : ℕ) (x : Shelf) : Type 0 where
+  pub known : IsVersion version
   pub mask : rights.workers < 2 ^ 64
   pub shelf : IsShelf rights s x
 
@@ -37,8 +39,8 @@ pub record Plan : Type 0 where
   pub entry : Option Entry
   pub step : Step
 
-abbrev pub plan_of : Said → Plan
-plan_of said = record { entry = said.entry; step = step_of 1 said }
+abbrev pub plan_of : ℕ → Said → Plan
+plan_of version said = record { entry = said.entry; step = step_of version said }
 
 -- ---- what a record needs
 
@@ -65,9 +67,10 @@ abbrev pub HasRoom : Option Entry → Stock → Type 0
 HasRoom None x = Unit {0}
 HasRoom (Some entry) x = HasRoomFor entry x
 
--- the node, the rights and the shelf are as before, and there is no less room
+-- the node, its version, the rights and the shelf are as before, and there is no less room
 pub record OnlyGainsRoom (old new : Stock) : Type 0 where
   pub node : new.node ≡ old.node
+  pub version : new.version ≡ old.version
   pub rights : new.rights ≡ old.rights
   pub shelf : new.shelf ≡ old.shelf
   pub rows : old.spare_rows ≤ new.spare_rows

@@ -3,7 +3,7 @@
 ghost use Rattle.std.specs.Prelude.{◌≡◌, ◌≤◌, ◌<◌, ◌^◌, Option, None, Some, MatchOption, IfOk, IfSome, OnOk, OnErr, IsTrue, length};
 ghost use Rattle.std.specs.List.{AllByRecursion};
 ghost use Rattle.fab_base.specs.FlatMap.{ascends as roots_ascend};
-ghost use Rattle.fab_base.specs.JournalSpelling.{IsEntry, journal_version};
+ghost use Rattle.fab_base.specs.JournalSpelling.{IsEntry, IsVersion};
 ghost use Rattle.fab_wire.specs.Reading.{read_message};
 ghost use Rattle.fab_protocol.specs.Tables.{row_of};
 ghost use Rattle.fab_protocol.specs.Versions.{name_of};
@@ -29,11 +29,13 @@ use std::marker::Model;
 /// The most objects that one transaction writes and makes here: 256 each.
 const MOST_CHANGED: u32 = 512;
 
-/// A store: its objects, the transactions that it has prepared, and what it remembers of each sender.
+/// A store: its objects, the transactions that it has prepared, and what it remembers of each sender; its
+/// records are written in its version.
 #[derive(Debug)]
 pub struct Store {
     pub(crate) alloc: Global,
     pub(crate) node: u16,
+    pub(crate) version: u16,
     pub(crate) rights: Rights,
     pub(crate) table: Table,
     pub(crate) locks: Locks,
@@ -45,6 +47,7 @@ impl Drop for Store {
         let Store {
             alloc,
             node,
+            version,
             rights,
             table,
             locks,
@@ -60,13 +63,14 @@ impl Model for Store {
 
     ghost view = { λ s. record {
       node = s.node;
+      version = s.version;
       rights = s.rights;
       shelf = record { rows = s.table.rows; prepared = s.locks.held; senders = s.senders.items };
       spare_rows = s.table.spare;
       spare_locks = s.locks.spare;
     } };
 
-    ghost invariant = { λ s. IsStore s.rights s.node (record { rows = s.table.rows; prepared = s.locks.held; senders = s.senders.items }) };
+    ghost invariant = { λ s. IsStore s.rights s.version s.node (record { rows = s.table.rows; prepared = s.locks.held; senders = s.senders.items }) };
 }
 
 /// Does nothing: it is there for what its contract says of a mask.
@@ -75,16 +79,20 @@ fn has_64_bits(_mask: u64)
 {}
 
 impl Store {
-    /// A store of these objects, each at version 1, of which nobody has asked anything.
+    /// A store of these objects, each at version 1, of which nobody has asked anything. It writes records
+    /// in the journal's version that is given.
     pub fn make(
         alloc: Global,
         node: u16,
         rights: &Rights,
         roots: &[(Oid, Object)],
+        version: u16,
     ) -> Result<Store, NoMemory>
+        requires version { IsVersion version }
         requires ascending { IsTrue (roots_ascend roots.now) }
         requires fields { AllByRecursion (λ root. length root.1.fields ≤ 16) roots.now }
         ensures node { IfOk result (λ store. store.node ≡ node) }
+        ensures version { IfOk result (λ store. store.version ≡ version) }
         ensures rights { IfOk result (λ store. store.rights ≡ rights.now) }
         ensures shelf { IfOk result (λ store. store.shelf ≡ shelf_at_start roots.now node) }
     {
@@ -93,6 +101,7 @@ impl Store {
         Ok(Store {
             alloc,
             node,
+            version,
             rights: rights.copy(alloc)?,
             table,
             locks: Locks::new(alloc),
@@ -137,8 +146,8 @@ impl Store {
     /// What the store will do at these bytes of a sender, whoever that is, with the room that it
     /// needs. Nothing but room changes. What it writes can be read back.
     pub fn plan(&mut self, sender: u16, bytes: &[u8]) -> Result<StorePlan, NoMemory>
-        ensures plan { IfOk result (λ plan. plan ≡ plan_of (hears self.old.rights self.old.node sender (read_message bytes.now) self.old.shelf)) }
-        ensures fits { IfOk result (λ plan. IfSome plan.entry (IsEntry journal_version)) }
+        ensures plan { IfOk result (λ plan. plan ≡ plan_of self.old.version (hears self.old.rights self.old.node sender (read_message bytes.now) self.old.shelf)) }
+        ensures fits { IfOk result (λ plan. IfSome plan.entry (IsEntry self.old.version)) }
         ensures room { IfOk result (λ plan. HasRoom plan.entry self.new) }
         ensures can { IfOk result (λ plan. CanKeepSaid self.new.rights self.new.node plan.entry self.new.shelf) }
         ensures kept { OnlyGainsRoom self.old self.new }
@@ -148,7 +157,7 @@ impl Store {
         if let Some(entry) = &said.entry {
             self.make_room_for(entry)?;
         }
-        plan_of(self.alloc, said)
+        plan_of(self.alloc, said, self.version)
     }
 
     /// Keeps what a record says. It wants no memory.
@@ -156,6 +165,7 @@ impl Store {
         requires can { CanKeep self.old.rights self.old.node entry self.old.shelf }
         requires room { HasRoomFor entry self.old }
         ensures node { self.new.node ≡ self.old.node }
+        ensures version { self.new.version ≡ self.old.version }
         ensures rights { self.new.rights ≡ self.old.rights }
         ensures shelf { self.new.shelf ≡ keeps entry self.old.shelf }
     {
@@ -168,6 +178,7 @@ impl Store {
         requires room { HasRoom plan.entry self.old }
         ensures step { result ≡ plan.step }
         ensures node { self.new.node ≡ self.old.node }
+        ensures version { self.new.version ≡ self.old.version }
         ensures rights { self.new.rights ≡ self.old.rights }
         ensures shelf { self.new.shelf ≡ keeps_said plan.entry self.old.shelf }
     {
@@ -181,9 +192,10 @@ impl Store {
     /// What the store does at these bytes of a sender: its record and what it sends. Without memory
     /// it stays as it was.
     pub fn handle(&mut self, sender: u16, bytes: &[u8]) -> Result<Step, NoMemory>
-        ensures step { IfOk result (λ step. step ≡ step_of 1 (hears self.old.rights self.old.node sender (read_message bytes.now) self.old.shelf)) }
-        ensures fits { OnOk result (IfSome (hears self.old.rights self.old.node sender (read_message bytes.now) self.old.shelf).entry (IsEntry journal_version)) }
+        ensures step { IfOk result (λ step. step ≡ step_of self.old.version (hears self.old.rights self.old.node sender (read_message bytes.now) self.old.shelf)) }
+        ensures fits { OnOk result (IfSome (hears self.old.rights self.old.node sender (read_message bytes.now) self.old.shelf).entry (IsEntry self.old.version)) }
         ensures node { self.new.node ≡ self.old.node }
+        ensures version { self.new.version ≡ self.old.version }
         ensures rights { self.new.rights ≡ self.old.rights }
         ensures ok { OnOk result (self.new.shelf ≡ keeps_said (hears self.old.rights self.old.node sender (read_message bytes.now) self.old.shelf).entry self.old.shelf) }
         ensures err { OnErr result (self.new.shelf ≡ self.old.shelf) }

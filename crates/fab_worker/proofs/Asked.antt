@@ -33,29 +33,29 @@ spelled_each : (to : ℕ → Message) (ss : List ℕ) → map {B = ℕ × List �
 spelled_each to [] = refl
 spelled_each to (s ∷ ss) = ap (λ rest. (s, spelled (to s)) ∷ rest) (spelled_each to ss)
 
-module _ (rights : Rights) (k n : ℕ) (kept : Kept) where
+module _ (version : ℕ) (rights : Rights) (k n : ℕ) (kept : Kept) where
   -- ---- each participant is asked, or without one it is decided
   module _ (a : Attempt) (told : ℕ × ℕ) (parts : Parts) (notes : List Note) where
     abbrev asked : List ℕ → Act
     asked ss = noting notes (asks_all rights k n kept ss (record a { told = told }) parts)
 
     pub decided_plan : {E : Type 0} (r : Result Plan E) (ss its : List ℕ) → its ≡ ss → (length its == 0) ≡ true
-        → IfOk r (λ p. IsPlanOf (noting notes (decides rights k n kept a parts)) a p) → IfOk r (λ p. IsPlanOf (asked ss) a p)
+        → IfOk r (λ p. IsPlanOf version (noting notes (decides rights k n kept a parts)) a p) → IfOk r (λ p. IsPlanOf version (asked ss) a p)
     decided_plan r ss its same none = decided r ss (ap (λ (l : List ℕ). length l == 0) (sym same) ∙ none)
       where
-        decided : {E : Type 0} (r : Result Plan E) (ss : List ℕ) → (length ss == 0) ≡ true → IfOk r (λ p. IsPlanOf (noting notes (decides rights k n kept a parts)) a p)
-            → IfOk r (λ p. IsPlanOf (asked ss) a p)
+        decided : {E : Type 0} (r : Result Plan E) (ss : List ℕ) → (length ss == 0) ≡ true → IfOk r (λ p. IsPlanOf version (noting notes (decides rights k n kept a parts)) a p)
+            → IfOk r (λ p. IsPlanOf version (asked ss) a p)
         decided r [] e h = h
         decided r (s ∷ ss) e h = absurd (grind (arith, nat_tests, e))
 
     some_asked : (ss : List ℕ) (who : Coordination) (sends : List (ℕ × List ℕ)) (p : Plan) → (length ss == 0) ≡ false → who ≡ begun (tid_of n kept a) ss
         → sends ≡ map (λ s. (s, spelled (m.Prepare (tid_of n kept a) (items_at parts s)))) ss
-        → p ≡ record { entry = None; change = c.Prepares who parts told; step = record { entry = None; sends = sends; notes = notes } } → IsPlanOf (asked ss) a p
+        → p ≡ record { entry = None; change = c.Prepares who parts told; step = record { entry = None; sends = sends; notes = notes } } → IsPlanOf version (asked ss) a p
     some_asked [] who sends p some begins sent planned = absurd (true≢false some)
     some_asked (s ∷ ss) who sends p some begins sent planned =
         let spells = sent ∙ spelled_each (λ s. m.Prepare (tid_of n kept a) (items_at parts s)) (s ∷ ss) in
         let noted : notes ≡ notes ++ [] = sym (append-nil notes) in
-        subst (IsPlanOf (asked (s ∷ ss)) a) (sym planned) (record {
+        subst (IsPlanOf version (asked (s ∷ ss)) a) (sym planned) (record {
           entry = refl;
           attempt = ap (λ (w : Coordination). record a { phase = phases.Preparing w.waiting; told = told }) begins;
           step = λ i. record { entry = None; sends = spells i; notes = noted i };
@@ -63,7 +63,7 @@ module _ (rights : Rights) (k n : ℕ) (kept : Kept) where
 
     pub asked_plan : (ss its : List ℕ) (t : Tid) (who : Coordination) (sends : List (ℕ × List ℕ)) (p : Plan) → its ≡ ss → (length its == 0) ≡ false → t ≡ tid_of n kept a
         → who ≡ begun t ss → sends ≡ map (λ s. (s, spelled (m.Prepare t (items_at parts s)))) ss
-        → p ≡ record { entry = None; change = c.Prepares who parts told; step = record { entry = None; sends = sends; notes = notes } } → IsPlanOf (asked ss) a p
+        → p ≡ record { entry = None; change = c.Prepares who parts told; step = record { entry = None; sends = sends; notes = notes } } → IsPlanOf version (asked ss) a p
     asked_plan ss its t who sends p same some now begins sent planned =
         some_asked ss who sends p (ap (λ (l : List ℕ). length l == 0) (sym same) ∙ some) (begins ∙ ap (λ (u : Tid). begun u ss) now)
         (sent ∙ ap (λ (u : Tid). map {B = ℕ × List ℕ} (λ s. (s, spelled (m.Prepare u (items_at parts s)))) ss) now) planned
@@ -73,17 +73,17 @@ module _ (rights : Rights) (k n : ℕ) (kept : Kept) where
       (downs : List (ℕ × Value)) (notes : List Note) (told : ℕ × ℕ)
       → notes ≡ note.Ended (tid_of n kept a) value touches downs parts.writes parts.creates ∷ []
       → touches ≡ new_touches a meant → downs ≡ new_downs a meant → told ≡ (length meant.touches, length meant.downs) → parts ≡ its
-      → IfOk r (λ p. IsPlanOf (noting notes (asks_all rights k n kept (stores_of parts) (record a { told = told }) parts)) a p)
-      → IfOk r (λ p. IsPlanOf (ends rights k n kept value a meant its) a p)
+      → IfOk r (λ p. IsPlanOf version (noting notes (asks_all rights k n kept (stores_of parts) (record a { told = told }) parts)) a p)
+      → IfOk r (λ p. IsPlanOf version (ends rights k n kept value a meant its) a p)
   ends_plan r value a meant parts its touches downs notes told noted touched downed counted same h =
       let all_noted = noted ∙ (λ i. note.Ended (tid_of n kept a) value (touched i) (downed i) (same i).writes (same i).creates ∷ []) in
-      subst (λ (act : Act). IfOk r (λ p. IsPlanOf act a p))
+      subst (λ (act : Act). IfOk r (λ p. IsPlanOf version act a p))
       (λ i. noting (all_noted i) (asks_all rights k n kept (stores_of (same i)) (record a { told = counted i }) (same i))) h
 
   -- ---- by how it ended
   pub resumes_by : {E : Type 0} (r : Result Plan E) (ending : Ending) (a : Attempt) (meant : Meant) → meant.ending ≡ ending
-      → IfOk r (λ p. IsPlanOf (resumes_at rights k n kept ending a meant) a p) → IfOk r (λ p. IsPlanOf (resumes rights k n kept a meant) a p)
-  resumes_by r ending a meant ended h = subst (λ (e : Ending). IfOk r (λ p. IsPlanOf (resumes_at rights k n kept e a meant) a p)) (sym ended) h
+      → IfOk r (λ p. IsPlanOf version (resumes_at rights k n kept ending a meant) a p) → IfOk r (λ p. IsPlanOf version (resumes rights k n kept a meant) a p)
+  resumes_by r ending a meant ended h = subst (λ (e : Ending). IfOk r (λ p. IsPlanOf version (resumes_at rights k n kept e a meant) a p)) (sym ended) h
 
 -- ---- a worker can go on to prepare
 

@@ -39,16 +39,17 @@ all_later program t rows known = all_along (IsKnown program t) (IsKnown program 
 
 -- ---- a worker that begins an attempt
 
-pub begun : (node : ℕ) (rights : Rights) (program : Resolved) (session : Sitting) (decided : List Decision) (caches : Caching) (at : Stage) (answers : Rows) (told : ℕ × ℕ)
-    (room more : ℕ) → Works node rights program session decided caches at answers told
-    → (x : WorkerModel) → model_of node rights program session decided caches at answers told room more ≡ x → length x.kept.outcomes < length (requests_of x.program x.node)
+pub begun : (node version : ℕ) (rights : Rights) (program : Resolved) (session : Sitting) (decided : List Decision) (caches : Caching) (at : Stage) (answers : Rows) (told : ℕ × ℕ)
+    (room more : ℕ) → Works node version rights program session decided caches at answers told
+    → (x : WorkerModel) → model_of node version rights program session decided caches at answers told room more ≡ x → length x.kept.outcomes < length (requests_of x.program x.node)
     → (new : Sitting) (rows : Rows) → new ≡ record session { number = session.number + 1 } → rows ≡ []
-    → Works node rights program new decided caches stages.Evaluating rows (0, 0)
+    → Works node version rights program new decided caches stages.Evaluating rows (0, 0)
 unfolding IsDistinct
-begun node rights program session decided caches at answers told room more is x view left new rows next none =
+begun node version rights program session decided caches at answers told room more is x view left new rows next none =
     let t : Tid = record { worker = node; boot = session.boot; number = session.number } in
     let some : length session.outcomes < length (requests_of program node) = subst (λ (y : WorkerModel). length y.kept.outcomes < length (requests_of y.program y.node)) (sym view) left in
-    let whole : Works node rights program (record session { number = session.number + 1 }) decided caches stages.Evaluating [] (0, 0) = record {
+    let whole : Works node version rights program (record session { number = session.number + 1 }) decided caches stages.Evaluating [] (0, 0) = record {
+      known = is.known;
       program = is.program;
       worker = is.worker;
       requests = is.requests;
@@ -62,8 +63,8 @@ begun node rights program session decided caches at answers told room more is x 
       last = is.last;
       stage = tt;
     } in
-    subst (λ (s : Sitting). Works node rights program s decided caches stages.Evaluating rows (0, 0)) (sym next)
-    (subst (λ (rs : Rows). Works node rights program (record session { number = session.number + 1 }) decided caches stages.Evaluating rs (0, 0)) (sym none) whole)
+    subst (λ (s : Sitting). Works node version rights program s decided caches stages.Evaluating rows (0, 0)) (sym next)
+    (subst (λ (rs : Rows). Works node version rights program (record session { number = session.number + 1 }) decided caches stages.Evaluating rs (0, 0)) (sym none) whole)
 
 -- ---- objects that are known weren't made in the attempt
 

@@ -30,9 +30,9 @@ use Rattle.fab_worker.specs.Plans.{Fits, IsAtWork, IsNewAnswer, IsPreparing, Pla
 use Rattle.fab_worker.specs.Changes.{answers_behind, caches_behind, session_changed, session_kept, stage_behind, stage_voted, told_behind}
 
 -- a worker by its fields is one
-abbrev pub Works : ℕ → Rights → Resolved → Sitting → List Decision → Caching → Stage → Rows → ℕ × ℕ → Type 0
-Works node rights program session decided caches at answers told =
-    IsWorker (model_of node rights program session decided caches at answers told 0 0) session caches.k at
+abbrev pub Works : ℕ → ℕ → Rights → Resolved → Sitting → List Decision → Caching → Stage → Rows → ℕ × ℕ → Type 0
+Works node version rights program session decided caches at answers told =
+    IsWorker (model_of node version rights program session decided caches at answers told 0 0) session caches.k at
 
 at_work : (at : Stage) (ended all : ℕ) → IsBusyWith (phase_of at) ended all → IsAtWork (phase_of at) → ended < all
 at_work stages.Idle ended all busy work = absurd work
@@ -60,16 +60,17 @@ names_push : (rows : Rows) (row : Row) → names_of (rows ++ row ∷ []) ≡ nam
 names_push [] row = refl
 names_push (r ∷ rows) row = ap (λ (os : List Oid). r.0 ∷ os) (names_push rows row)
 
-module _ (node : ℕ) (rights : Rights) (program : Resolved) (session : Sitting) (decided : List Decision) (caches : Caching) (at : Stage) (answers : Rows) (told : ℕ × ℕ) (is : Works node rights program session decided caches at answers told) where
+module _ (node version : ℕ) (rights : Rights) (program : Resolved) (session : Sitting) (decided : List Decision) (caches : Caching) (at : Stage) (answers : Rows) (told : ℕ × ℕ) (is : Works node version rights program session decided caches at answers told) where
   abbrev old : ℕ → ℕ → WorkerModel
-  old room more = model_of node rights program session decided caches at answers told room more
+  old room more = model_of node version rights program session decided caches at answers told room more
 
   -- the attempt is over
   ended : (outcomes : List ReqOutcome) (tries : ℕ) (lists : List Rows) (later : List Decision) → tries < 8 → length lists ≡ 64 → AreLast program.cache lists
       → AllByRecursion (AreKnown program (tid_at (old 0 0))) lists
-      → Works node rights program (record session { tries = tries; outcomes = outcomes }) later (record caches { caches = lists }) stages.Idle [] (0, 0)
+      → Works node version rights program (record session { tries = tries; outcomes = outcomes }) later (record caches { caches = lists }) stages.Idle [] (0, 0)
   unfolding IsDistinct
   ended outcomes tries lists later less many own known = record {
+    known = is.known;
     program = is.program;
     worker = is.worker;
     requests = is.requests;
@@ -86,7 +87,7 @@ module _ (node : ℕ) (rights : Rights) (program : Resolved) (session : Sitting)
 
   -- without a commit
   dropped : (outcomes : List ReqOutcome) (tries : ℕ) (later : List Decision) → tries < 8
-      → Works node rights program (record session { tries = tries; outcomes = outcomes }) later (record caches { caches = map (λ cache. []) caches.caches }) stages.Idle [] (0, 0)
+      → Works node version rights program (record session { tries = tries; outcomes = outcomes }) later (record caches { caches = map (λ cache. []) caches.caches }) stages.Idle [] (0, 0)
   dropped outcomes tries later less =
       ended outcomes tries (map (λ cache. []) caches.caches) later less
       (length-map caches.caches (λ (cache : Rows). []) ∙ is.lists)
@@ -95,8 +96,9 @@ module _ (node : ℕ) (rights : Rights) (program : Resolved) (session : Sitting)
 
   -- an answer more
   answered : (row : Row) (room more : ℕ) (later : List Decision) (new : ℕ × ℕ) → IsNewAnswer (old room more) row → length session.outcomes < session.requests
-      → Works node rights program session later caches stages.Evaluating (answers ++ row ∷ []) new
+      → Works node version rights program session later caches stages.Evaluating (answers ++ row ∷ []) new
   answered row room more later new one left = record {
+    known = is.known;
     program = is.program;
     worker = is.worker;
     requests = is.requests;
@@ -114,8 +116,9 @@ module _ (node : ℕ) (rights : Rights) (program : Resolved) (session : Sitting)
 
   -- the attempt goes on over the same answers
   goes_on : (next : Stage) (later : List Decision) (new : ℕ × ℕ) → IsBusyWith (phase_of next) (length session.outcomes) session.requests
-      → IsStage program (tid_at (old 0 0)) answers (request_in program node (length session.outcomes)) next → Works node rights program session later caches next answers new
+      → IsStage program (tid_at (old 0 0)) answers (request_in program node (length session.outcomes)) next → Works node version rights program session later caches next answers new
   goes_on next later new busy stage = record {
+    known = is.known;
     program = is.program;
     worker = is.worker;
     requests = is.requests;
@@ -131,22 +134,22 @@ module _ (node : ℕ) (rights : Rights) (program : Resolved) (session : Sitting)
   }
 
 -- a participant voted
-voted : (node : ℕ) (rights : Rights) (program : Resolved) (session : Sitting) (decided : List Decision) (caches : Caching) (at : Stage) (answers : Rows) (told : ℕ × ℕ)
-    → Works node rights program session decided caches at answers told → (store : ℕ) (later : List Decision) → IsPreparing (phase_of at)
-    → Works node rights program session later caches (stage_voted store at) answers told
-voted node rights program session decided caches stages.Idle answers told is store later can = absurd can
-voted node rights program session decided caches stages.Evaluating answers told is store later can = absurd can
-voted node rights program session decided caches (stages.Fetching o) answers told is store later can = absurd can
-voted node rights program session decided caches (stages.Preparing coordinator parts) answers told is store later can =
-    goes_on node rights program session decided caches (stages.Preparing coordinator parts) answers told is
+voted : (node version : ℕ) (rights : Rights) (program : Resolved) (session : Sitting) (decided : List Decision) (caches : Caching) (at : Stage) (answers : Rows) (told : ℕ × ℕ)
+    → Works node version rights program session decided caches at answers told → (store : ℕ) (later : List Decision) → IsPreparing (phase_of at)
+    → Works node version rights program session later caches (stage_voted store at) answers told
+voted node version rights program session decided caches stages.Idle answers told is store later can = absurd can
+voted node version rights program session decided caches stages.Evaluating answers told is store later can = absurd can
+voted node version rights program session decided caches (stages.Fetching o) answers told is store later can = absurd can
+voted node version rights program session decided caches (stages.Preparing coordinator parts) answers told is store later can =
+    goes_on node version rights program session decided caches (stages.Preparing coordinator parts) answers told is
     (stage_voted store (stages.Preparing coordinator parts)) later told is.busy is.stage
 
-module _ (node : ℕ) (rights : Rights) (program : Resolved) (session : Sitting) (decided : List Decision) (caches : Caching) (at : Stage) (answers : Rows) (told : ℕ × ℕ) (room more : ℕ) (step : Step) (later : List Decision) (is : Works node rights program session decided caches at answers told) where
+module _ (node version : ℕ) (rights : Rights) (program : Resolved) (session : Sitting) (decided : List Decision) (caches : Caching) (at : Stage) (answers : Rows) (told : ℕ × ℕ) (room more : ℕ) (step : Step) (later : List Decision) (is : Works node version rights program session decided caches at answers told) where
   abbrev IsLeft : Option Entry → Change → Type 0
-  IsLeft entry change = Works node rights program (session_changed change (session_kept entry session)) later (caches_behind change caches) (stage_behind change at) (answers_behind change answers) (told_behind change told)
+  IsLeft entry change = Works node version rights program (session_changed change (session_kept entry session)) later (caches_behind change caches) (stage_behind change at) (answers_behind change answers) (told_behind change told)
 
   abbrev IsFit : Option Entry → Change → Type 0
-  IsFit entry change = Fits (model_of node rights program session decided caches at answers told room more) (record { entry = entry; change = change; step = step })
+  IsFit entry change = Fits (model_of node version rights program session decided caches at answers told room more) (record { entry = entry; change = change; step = step })
 
   left : phase_of at ≡ phases.Evaluating → length session.outcomes < session.requests
   left is_evaluating = at_work at (length session.outcomes) session.requests is.busy (subst IsAtWork (sym is_evaluating) tt)
@@ -154,7 +157,7 @@ module _ (node : ℕ) (rights : Rights) (program : Resolved) (session : Sitting)
   commits : (new : List (Option Rows)) (entry : Option Entry) → IsFit entry (c.Commits new) → IsLeft entry (c.Commits new)
   commits new None fits = absurd fits.ends
   commits new (Some (e.Decided t request value stores)) fits =
-      ended node rights program session decided caches at answers told is _ 0 (laid new caches.caches) later (omega arith)
+      ended node version rights program session decided caches at answers told is _ 0 (laid new caches.caches) later (omega arith)
       (laid_as_many new caches.caches (fits.change.0 ∙ sym is.lists) ∙ is.lists) fits.change.1 fits.change.2
   commits new (Some (e.Closed request outcome n)) fits = absurd fits.ends
   commits new (Some (e.Boot b)) fits = absurd fits.ends
@@ -167,7 +170,7 @@ module _ (node : ℕ) (rights : Rights) (program : Resolved) (session : Sitting)
   closes : (entry : Option Entry) → IsFit entry c.Closes → IsLeft entry c.Closes
   closes None fits = absurd fits.ends
   closes (Some (e.Decided t request value stores)) fits = absurd fits.ends
-  closes (Some (e.Closed request outcome n)) fits = dropped node rights program session decided caches at answers told is _ 0 later (omega arith)
+  closes (Some (e.Closed request outcome n)) fits = dropped node version rights program session decided caches at answers told is _ 0 later (omega arith)
   closes (Some (e.Boot b)) fits = absurd fits.ends
   closes (Some (e.Prepared t items)) fits = absurd fits.ends
   closes (Some (e.Refused t)) fits = absurd fits.ends
@@ -176,21 +179,21 @@ module _ (node : ℕ) (rights : Rights) (program : Resolved) (session : Sitting)
   closes (Some (e.BootSeen n b)) fits = absurd fits.ends
 
   pub accepted : (entry : Option Entry) (change : Change) → IsFit entry change → IsLeft entry change
-  accepted None c.Nothing fits = goes_on node rights program session decided caches at answers told is at later told is.busy is.stage
+  accepted None c.Nothing fits = goes_on node version rights program session decided caches at answers told is at later told is.busy is.stage
   accepted None (c.Answered row) fits =
-      answered node rights program session decided caches at answers told is row room more later told fits.change.0
+      answered node version rights program session decided caches at answers told is row room more later told fits.change.0
       (at_work at (length session.outcomes) session.requests is.busy fits.change.1)
   accepted None (c.Found row new) fits =
-      subst (λ (st : Stage). Works node rights program session later caches st (answers ++ row ∷ []) new) (sym (evaluating at fits.change.1))
-      (answered node rights program session decided caches at answers told is row room more later new fits.change.0 (left fits.change.1))
+      subst (λ (st : Stage). Works node version rights program session later caches st (answers ++ row ∷ []) new) (sym (evaluating at fits.change.1))
+      (answered node version rights program session decided caches at answers told is row room more later new fits.change.0 (left fits.change.1))
   accepted None (c.Fetches o new) fits =
-      goes_on node rights program session decided caches at answers told is (stages.Fetching o) later new (left fits.change.1) fits.change.0
+      goes_on node version rights program session decided caches at answers told is (stages.Fetching o) later new (left fits.change.1) fits.change.0
   accepted None (c.Prepares coordinator parts new) fits =
-      goes_on node rights program session decided caches at answers told is (stages.Preparing coordinator parts) later new (left fits.change.5)
+      goes_on node version rights program session decided caches at answers told is (stages.Preparing coordinator parts) later new (left fits.change.5)
       (fits.change.0, fits.change.1, fits.change.2, fits.change.3, fits.change.4)
-  accepted None (c.Voted store) fits = voted node rights program session decided caches at answers told is store later fits.change
+  accepted None (c.Voted store) fits = voted node version rights program session decided caches at answers told is store later fits.change
   accepted None c.TryEnds fits =
-      dropped node rights program session decided caches at answers told is session.outcomes (session.tries + 1) later (omega (arith, fits.change))
+      dropped node version rights program session decided caches at answers told is session.outcomes (session.tries + 1) later (omega (arith, fits.change))
   accepted entry (c.Commits new) fits = commits new entry fits
   accepted entry c.Closes fits = closes entry fits
   accepted (Some entry) c.Nothing fits = absurd fits.ends
@@ -202,18 +205,18 @@ module _ (node : ℕ) (rights : Rights) (program : Resolved) (session : Sitting)
   accepted (Some entry) c.TryEnds fits = absurd fits.ends
 
   -- a worker whose fields are these
-  pub left_worker : (x : WorkerModel) (p : Plan) → model_of node rights program session decided caches at answers told room more ≡ x
+  pub left_worker : (x : WorkerModel) (p : Plan) → model_of node version rights program session decided caches at answers told room more ≡ x
       → (entry : Option Entry) (change : Change) → record { entry = entry; change = change; step = step } ≡ p → Fits x p
       → (kept new : Sitting) (cached : Caching) (next : Stage) (rows : Rows) (notes : ℕ × ℕ)
       → kept ≡ session_kept entry session → new ≡ session_changed change kept → cached ≡ caches_behind change caches → next ≡ stage_behind change at
-      → rows ≡ answers_behind change answers → notes ≡ told_behind change told → Works node rights program new later cached next rows notes
+      → rows ≡ answers_behind change answers → notes ≡ told_behind change told → Works node version rights program new later cached next rows notes
   left_worker x p view entry change plan fits kept new cached next rows notes a b d f g h =
-      let fit : IsFit entry change = subst (λ (q : Plan). Fits (model_of node rights program session decided caches at answers told room more) q) (sym plan)
+      let fit : IsFit entry change = subst (λ (q : Plan). Fits (model_of node version rights program session decided caches at answers told room more) q) (sym plan)
       (subst (λ (y : WorkerModel). Fits y p) (sym view) fits) in
       let whole : new ≡ session_changed change (session_kept entry session) = b ∙ ap (session_changed change) a in
-      subst (λ (s : Sitting). Works node rights program s later cached next rows notes) (sym whole)
-      (subst (λ (cs : Caching). Works node rights program (session_changed change (session_kept entry session)) later cs next rows notes) (sym d)
-      (subst (λ (st : Stage). Works node rights program (session_changed change (session_kept entry session)) later (caches_behind change caches) st rows notes) (sym f)
-      (subst (λ (rs : Rows). Works node rights program (session_changed change (session_kept entry session)) later (caches_behind change caches) (stage_behind change at) rs notes) (sym g)
-      (subst (λ (n : ℕ × ℕ). Works node rights program (session_changed change (session_kept entry session)) later (caches_behind change caches) (stage_behind change at) (answers_behind change answers) n) (sym h)
+      subst (λ (s : Sitting). Works node version rights program s later cached next rows notes) (sym whole)
+      (subst (λ (cs : Caching). Works node version rights program (session_changed change (session_kept entry session)) later cs next rows notes) (sym d)
+      (subst (λ (st : Stage). Works node version rights program (session_changed change (session_kept entry session)) later (caches_behind change caches) st rows notes) (sym f)
+      (subst (λ (rs : Rows). Works node version rights program (session_changed change (session_kept entry session)) later (caches_behind change caches) (stage_behind change at) rs notes) (sym g)
+      (subst (λ (n : ℕ × ℕ). Works node version rights program (session_changed change (session_kept entry session)) later (caches_behind change caches) (stage_behind change at) (answers_behind change answers) n) (sym h)
       (accepted entry change fit)))))

@@ -18,22 +18,22 @@ job_carries job old new g j = record {
 }
 
 -- of two acts that are the same in all they are made of
-same_plan : (act other : Act) (old new : WorkerModel) (p : Plan) → act ≡ other → OnlyGainsRoom old new → IsPlanOf act new.attempt p → IsPlanOf other old.attempt p
+same_plan : (act other : Act) (old new : WorkerModel) (p : Plan) → act ≡ other → OnlyGainsRoom old new → IsPlanOf new.version act new.attempt p → IsPlanOf old.version other old.attempt p
 same_plan act other old new p e g h = record {
   entry = h.entry ∙ ap (λ a. a.entry) e;
   attempt = sym (ap (changed p.change) g.attempt) ∙ h.attempt ∙ ap (λ a. a.attempt) e;
-  step = h.step ∙ ap step_of e;
+  step = h.step ∙ (λ i. step_of (g.version i) (e i));
 }
 
 pub resumes_carry : (meant : Meant) (old new : WorkerModel) (p : Plan) → OnlyGainsRoom old new
-    → IsPlanOf (resumes new.rights new.program.cache new.node new.kept new.attempt meant) new.attempt p
-    → IsPlanOf (resumes old.rights old.program.cache old.node old.kept old.attempt meant) old.attempt p
+    → IsPlanOf new.version (resumes new.rights new.program.cache new.node new.kept new.attempt meant) new.attempt p
+    → IsPlanOf old.version (resumes old.rights old.program.cache old.node old.kept old.attempt meant) old.attempt p
 resumes_carry meant old new p g h =
     same_plan (resumes new.rights new.program.cache new.node new.kept new.attempt meant) (resumes old.rights old.program.cache old.node old.kept old.attempt meant) old new p
     (λ i. resumes (g.rights i) (g.program i).cache (g.node i) (g.kept i) (g.attempt i) meant) g h
 
 pub hears_carry : (s : ℕ) (heard : Option Message) (old new : WorkerModel) (p : Plan) → OnlyGainsRoom old new
-    → IsPlanOf (hears new s heard) new.attempt p → IsPlanOf (hears old s heard) old.attempt p
+    → IsPlanOf new.version (hears new s heard) new.attempt p → IsPlanOf old.version (hears old s heard) old.attempt p
 hears_carry s heard old new p g h = same_plan (hears new s heard) (hears old s heard) old new p (by_message heard) g h
   where
     by_message : (heard : Option Message) → hears new s heard ≡ hears old s heard
@@ -41,11 +41,12 @@ hears_carry s heard old new p g h = same_plan (hears new s heard) (hears old s h
     by_message (Some message) = λ i. takes (g.rights i) (g.program i).cache (g.node i) (g.kept i) s message (g.attempt i) (g.parts i)
 
 -- a plan that is carried out leaves what the act says
-pub carried_out : (act : Act) (old mid new : WorkerModel) (p : Plan) → OnlyGainsRoom old mid → IsPlanOf act old.attempt p
-    → new.node ≡ mid.node → new.rights ≡ mid.rights → new.program ≡ mid.program
+pub carried_out : (act : Act) (old mid new : WorkerModel) (p : Plan) → OnlyGainsRoom old mid → IsPlanOf old.version act old.attempt p
+    → new.node ≡ mid.node → new.version ≡ mid.version → new.rights ≡ mid.rights → new.program ≡ mid.program
     → new.kept ≡ kept_behind p.entry mid.kept → new.attempt ≡ changed p.change mid.attempt → IsBehind act old new
-carried_out act old mid new p g h node rights program kept attempt = record {
+carried_out act old mid new p g h node version rights program kept attempt = record {
   node = node ∙ g.node;
+  version = version ∙ g.version;
   rights = rights ∙ g.rights;
   program = program ∙ g.program;
   kept = kept ∙ (λ i. kept_behind (h.entry i) (g.kept i));

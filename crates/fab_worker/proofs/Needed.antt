@@ -20,7 +20,7 @@ use Rattle.fab_worker.specs.Plans.{Plan, Fits, CanChange, EndsWith}
 -- a plan without a record
 pub unrecorded_fits : (x : WorkerModel) (p : Plan) (change : Change) (step : Step) → p ≡ record { entry = None; change = change; step = step }
     → CanChange x change → EndsWith change None → Fits x p
-unrecorded_fits x p change step h can ends = subst (Fits x) (sym h) (record { can = tt; change = can; ends = ends; room = tt })
+unrecorded_fits x p change step h can ends = subst (Fits x) (sym h) (record { can = tt; spelled = tt; change = can; ends = ends; room = tt })
 
 -- ---- what a cache has is known
 

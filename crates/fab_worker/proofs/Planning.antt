@@ -1,5 +1,5 @@
 -- What a worker plans, by what it has.
-use Rattle.std.proofs.Common.{◌≡◌, ◌≤◌, ◌++◌, length, IsTrue, ◌||◌, if◌then◌else◌, ℕ, List, [], ◌∷◌, map, Option, Some, None, Bool, true, false, not, Result, Ok, Err, IfOk, refl, sym, ap, subst, ◌∙◌}
+use Rattle.std.proofs.Common.{◌≡◌, ◌≤◌, ◌++◌, length, IsTrue, ◌||◌, if◌then◌else◌, ℕ, List, [], ◌∷◌, map, Option, Some, None, Bool, true, false, not, Result, Ok, Err, IfOk, IfSome, refl, sym, ap, subst, ◌∙◌}
 use Rattle.std.specs.Prelude.{◌==◌}
 use Rattle.std.specs.List.{filter, list_any, AllByRecursion}
 use Rattle.std.proofs.lemmas.List.{append_assoc}
@@ -15,7 +15,7 @@ use Rattle.fab_protocol.specs.Parts.{stores_of, puts_of}
 use Rattle.fab_protocol.specs.Versions.{Rows}
 use Rattle.fab_base.specs.declared.entry.Entry.{Entry}
 use Rattle.fab_base.specs.declared.entry.Entry.TheVariants as e
-use Rattle.fab_base.specs.JournalSpelling.{AreStores, record_bytes, journal_version}
+use Rattle.fab_base.specs.JournalSpelling.{AreStores, IsEntry, record_bytes}
 use Rattle.fab_net.specs.declared.note.Note.TheVariants as note
 use Rattle.fab_net.specs.declared.note.Step.{Step}
 use Rattle.fab_net.specs.declared.outcome.ReqOutcome.TheVariants.{Committed}
@@ -98,19 +98,19 @@ module _ (x : WorkerModel) (who : Coordination) (what : Parts) (are : ArePrepare
   same_left = ap (λ phase. filter (λ l. not (l == s)) (not_voted phase)) are.phase
 
   pub last_yes : {E : Type 0} (r : Result Plan E) (notes : List Note) → notes ≡ [] → not (list_any (λ l. not (l == s)) who.waiting) ≡ true
-      → IfOk r (λ p. IsPlanOf (noting notes (decides x.rights x.program.cache x.node x.kept x.attempt what)) x.attempt p)
-      → IfOk r (λ p. IsPlanOf (yes_from x.rights x.program.cache x.node x.kept s x.attempt x.parts) x.attempt p)
+      → IfOk r (λ p. IsPlanOf x.version (noting notes (decides x.rights x.program.cache x.node x.kept x.attempt what)) x.attempt p)
+      → IfOk r (λ p. IsPlanOf x.version (yes_from x.rights x.program.cache x.node x.kept s x.attempt x.parts) x.attempt p)
   last_yes (Ok p) notes none last h =
       let same_parts : what ≡ x.parts = sym are.parts in
       let act : noting notes (decides x.rights x.program.cache x.node x.kept x.attempt what) ≡ yes_from x.rights x.program.cache x.node x.kept s x.attempt x.parts =
       (λ i. noting (none i) (decides x.rights x.program.cache x.node x.kept x.attempt (same_parts i)))
       ∙ ap (λ ls. waits_for x.rights x.program.cache x.node x.kept ls x.attempt x.parts)
       (sym (same_left ∙ none_passes (λ l. not (l == s)) who.waiting (opposite (list_any (λ l. not (l == s)) who.waiting) true last))) in
-      subst (λ act. IsPlanOf act x.attempt p) act h
+      subst (λ act. IsPlanOf x.version act x.attempt p) act h
   last_yes (Err bad) notes none last h = tt
 
   others : (ls : List ℕ) → (ls ≡ [] → ⊥) → filter (λ l. not (l == s)) (not_voted x.attempt.phase) ≡ ls
-      → IsPlanOf (waits_for x.rights x.program.cache x.node x.kept ls x.attempt x.parts) x.attempt
+      → IsPlanOf x.version (waits_for x.rights x.program.cache x.node x.kept ls x.attempt x.parts) x.attempt
       (record { entry = None; change = c.Voted s; step = record { entry = None; sends = []; notes = [] } })
   others [] h same = absurd (h refl)
   others (l ∷ ls) h same = record {
@@ -121,10 +121,10 @@ module _ (x : WorkerModel) (who : Coordination) (what : Parts) (are : ArePrepare
 
   pub other_yes : (p : Plan) → not (list_any (λ l. not (l == s)) who.waiting) ≡ false
       → p ≡ record { entry = None; change = c.Voted s; step = record { entry = None; sends = []; notes = [] } }
-      → IsPlanOf (yes_from x.rights x.program.cache x.node x.kept s x.attempt x.parts) x.attempt p
+      → IsPlanOf x.version (yes_from x.rights x.program.cache x.node x.kept s x.attempt x.parts) x.attempt p
   other_yes p more same =
       let some = one_passes (λ l. not (l == s)) who.waiting (opposite (list_any (λ l. not (l == s)) who.waiting) false more) in
-      subst (IsPlanOf (yes_from x.rights x.program.cache x.node x.kept s x.attempt x.parts) x.attempt) (sym same)
+      subst (IsPlanOf x.version (yes_from x.rights x.program.cache x.node x.kept s x.attempt x.parts) x.attempt) (sym same)
       (others (filter (λ l. not (l == s)) (not_voted x.attempt.phase)) (λ e. some (sym same_left ∙ e)) refl)
 
 -- ---- a commit
@@ -157,8 +157,8 @@ module _ (x : WorkerModel) (parts : Parts) (new : List (Option Rows)) (behind : 
   pub decided : {E : Type 0} (r : Result Plan E) (sends : List (ℕ × List ℕ)) (answers : Rows) (notes told : List Note) → answers ≡ x.attempt.answers
       → sends ≡ map {B = ℕ × List ℕ} (λ s. (s, spelled (m.Commit t))) stores
       → told ≡ (notes ++ note.Decided t request true answers ∷ []) ++ note.Closed request (Committed t parts.value) ∷ []
-      → IfOk r (λ p. p ≡ record { entry = Some entry; change = c.Commits new; step = record { entry = Some (record_bytes journal_version entry); sends = sends; notes = told } })
-      → IfOk r (λ p. IsPlanOf (noting notes (decides x.rights x.program.cache x.node x.kept x.attempt parts)) x.attempt p)
+      → IfOk r (λ p. p ≡ record { entry = Some entry; change = c.Commits new; step = record { entry = Some (record_bytes x.version entry); sends = sends; notes = told } })
+      → IfOk r (λ p. IsPlanOf x.version (noting notes (decides x.rights x.program.cache x.node x.kept x.attempt parts)) x.attempt p)
   decided (Ok p) sends answers notes told same_answers sent noted h =
       let all_sent : sends ≡ map {B = ℕ × List ℕ} (λ (y : ℕ × Message). (y.0, spelled y.1)) (to_all (stores_of parts) (m.Commit (tid_at x))) =
       sent ∙ (λ i. map {B = ℕ × List ℕ} (λ s. (s, spelled (m.Commit (same_tid i)))) (same_stores i)) ∙ sym (all_spelled (stores_of parts) (m.Commit (tid_at x))) in
@@ -172,18 +172,20 @@ module _ (x : WorkerModel) (parts : Parts) (new : List (Option Rows)) (behind : 
             ∙ (λ i. record (over (behind.laid i) x.attempt) { tries = 0 });
         step =
             ap (λ (q : Plan). q.step) h
-            ∙ (λ i. record { entry = Some (record_bytes journal_version (e.Decided (same_tid i) (same_request i) parts.value (same_stores i))); sends = all_sent i; notes = all_noted i });
+            ∙ (λ i. record { entry = Some (record_bytes x.version (e.Decided (same_tid i) (same_request i) parts.value (same_stores i))); sends = all_sent i; notes = all_noted i });
       }
   decided (Err bad) sends answers notes told same_answers sent noted h = tt
 
   pub decided_fits : {E : Type 0} (r : Result Plan E) (step : Step) → request ≤ length (requests_of x.program x.node)
       → AreStores stores
       → IfOk r (λ p. p ≡ record { entry = Some entry; change = c.Commits new; step = step })
+      → IfOk r (λ p. IfSome p.entry (IsEntry x.version))
       → IfOk r (λ p. 1 ≤ x.spare_decisions → Fits x p)
-  decided_fits (Ok p) step within few h = λ room. subst (Fits x) (sym h) (record {
+  decided_fits (Ok p) step within few h one = λ room. subst (Fits x) (sym h) (record {
     can = (same_request, within, few);
+    spelled = subst (λ (q : Plan). IfSome q.entry (IsEntry x.version)) h one;
     change = behind.fits;
     ends = tt;
     room = room;
   })
-  decided_fits (Err bad) step within few h = tt
+  decided_fits (Err bad) step within few h one = tt

@@ -4,6 +4,7 @@ use Rattle.std.specs.List.{AllByRecursion, IsDistinct}
 use Rattle.std.proofs.lemmas.List.{length-map}
 use Rattle.fab_base.specs.declared.entry.Entry.{Entry}
 use Rattle.fab_base.specs.declared.object.Tid.{Tid}
+use Rattle.fab_base.specs.JournalSpelling.{IsVersion}
 use Rattle.fab_base.proofs.Lists.{all_always, all_map}
 use Rattle.fab_tree.specs.declared.resolved.Resolved.{Resolved}
 use Rattle.fab_rights.specs.declared.rights.Rights.{Rights}
@@ -40,14 +41,15 @@ module _ (node boot n : ℕ) (entries : List Entry) (first new : Sitting) (begun
       (folded entries (made node boot n) start refl refl)
 
   -- the worker
-  pub woken : (rights copy : Rights) (program : Resolved) (decided : List Decision) (caches : Caching) (stores : List ℕ) (rows : Rows)
+  pub woken : (version : ℕ) → IsVersion version → (rights copy : Rights) (program : Resolved) (decided : List Decision) (caches : Caching) (stores : List ℕ) (rows : Rows)
       → IsProgramOf program node rights → copy ≡ rights → n ≡ length (requests_of program node)
       → caches ≡ record { k = program.cache; caches = map (λ s. []) stores } → length stores ≡ 64 → rows ≡ []
-      → Works node copy program new decided caches stages.Idle rows (0, 0)
+      → Works node version copy program new decided caches stages.Idle rows (0, 0)
   unfolding IsDistinct
-  woken rights copy program decided caches stores rows is same few empty many none =
+  woken version known rights copy program decided caches stores rows is same few empty many none =
       let t : Tid = record { worker = node; boot = new.boot; number = new.number } in
-      let bare : Works node copy program new decided (record { k = program.cache; caches = map (λ s. []) stores }) stages.Idle [] (0, 0) = record {
+      let bare : Works node version copy program new decided (record { k = program.cache; caches = map (λ s. []) stores }) stages.Idle [] (0, 0) = record {
+        known = known;
         program = subst (λ (r : Rights). IsProgramOf program node r) (sym same) is;
         worker = whole.worker;
         requests = whole.requests ∙ few;
@@ -61,8 +63,8 @@ module _ (node boot n : ℕ) (entries : List Entry) (first new : Sitting) (begun
         last = empty_last program.cache stores;
         stage = tt;
       } in
-      subst (λ (cs : Caching). Works node copy program new decided cs stages.Idle rows (0, 0)) (sym empty)
-      (subst (λ (rs : Rows). Works node copy program new decided (record { k = program.cache; caches = map (λ s. []) stores }) stages.Idle rs (0, 0)) (sym none) bare)
+      subst (λ (cs : Caching). Works node version copy program new decided cs stages.Idle rows (0, 0)) (sym empty)
+      (subst (λ (rs : Rows). Works node version copy program new decided (record { k = program.cache; caches = map (λ s. []) stores }) stages.Idle rs (0, 0)) (sym none) bare)
 
   -- what lasts of it
   pub woken_kept : (decided fresh : List Decision) → fresh ≡ [] → decided ≡ decisions_all fresh entries

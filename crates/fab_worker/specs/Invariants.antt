@@ -3,7 +3,7 @@ use Rattle.std.specs.Prelude.{◌≡◌, ◌≢◌, ℕ, ◌≤◌, ◌<◌, ◌
 use Rattle.std.specs.List.{AllByRecursion, IsDistinct}
 use Rattle.fab_base.specs.declared.object.Tid.{Tid}
 use Rattle.fab_base.specs.FlatMap.{is_among, is_same}
-use Rattle.fab_base.specs.JournalSpelling.{AreStores}
+use Rattle.fab_base.specs.JournalSpelling.{AreStores, IsVersion}
 use Rattle.fab_tree.specs.declared.resolved.Request.{Request}
 use Rattle.fab_tree.specs.declared.resolved.Resolved.{Resolved}
 use Rattle.fab_protocol.specs.Parts.{stores_of}
@@ -34,6 +34,7 @@ IsBusyWith phases.Idle outcomes requests = Unit {0}
 IsBusyWith _ outcomes requests = outcomes < requests
 
 pub record IsWorker (x : WorkerModel) (session : Sitting) (k : ℕ) (at : Stage) : Type 0 where
+  pub known : IsVersion x.version
   pub program : IsProgramOf x.program x.node x.rights
   pub worker : session.worker ≡ x.node
   pub requests : session.requests ≡ length (requests_of x.program x.node)

@@ -23,10 +23,11 @@ use Rattle.fab_worker.specs.declared.stage.WorkerState.{WorkerState}
 use Rattle.fab_worker.specs.declared.stage.WorkerState.TheVariants as states
 use Rattle.fab_attempts.specs.Sessions.{requests_of}
 
--- The worker's number, what it knows of nodes and classes, its program, what lasts of it, its attempt, the parts of an
--- attempt that it prepares, and for how many answers and decisions more there is room.
+-- The worker's number, the version in which it writes records, what it knows of nodes and classes, its program, what lasts
+-- of it, its attempt, the parts of an attempt that it prepares, and for how many answers and decisions more there is room.
 pub record WorkerModel : Type 0 where
   pub node : ℕ
+  pub version : ℕ
   pub rights : Rights
   pub program : Resolved
   pub kept : Kept
@@ -101,9 +102,10 @@ IsAnswerBehind job x (Some a) = IsJobIn (answered a.0 a.1 a.2 job) x
 IsAnswerBehind job x None = (a : Row) → IsJobIn (answered a.0 a.1 a.2 job) x → ⊥
 
 -- a worker by its fields
-abbrev pub model_of : ℕ → Rights → Resolved → Sitting → List Decision → Caching → Stage → Rows → ℕ × ℕ → ℕ → ℕ → WorkerModel
-model_of node rights program session decided caches stage answers told spare_answers spare_decisions = record {
+abbrev pub model_of : ℕ → ℕ → Rights → Resolved → Sitting → List Decision → Caching → Stage → Rows → ℕ × ℕ → ℕ → ℕ → WorkerModel
+model_of node version rights program session decided caches stage answers told spare_answers spare_decisions = record {
   node = node;
+  version = version;
   rights = rights;
   program = program;
   kept = record { boot = session.boot; decided = decided; outcomes = session.outcomes };
@@ -123,6 +125,7 @@ model_of node rights program session decided caches stage answers told spare_ans
 -- but for more room it is as before
 pub record OnlyGainsRoom (old new : WorkerModel) : Type 0 where
   pub node : new.node ≡ old.node
+  pub version : new.version ≡ old.version
   pub rights : new.rights ≡ old.rights
   pub program : new.program ≡ old.program
   pub kept : new.kept ≡ old.kept

@@ -1,11 +1,11 @@
 -- What a worker plans: its record, what becomes of its attempt, and its step.
-use Rattle.std.specs.Prelude.{◌≡◌, ℕ, suc, ◌≤◌, ◌<◌, not, ◌==◌, IsFalse, List, [], ◌∷◌, ◌++◌, map, length, Option, Some, None, option_map}
+use Rattle.std.specs.Prelude.{◌≡◌, ℕ, suc, ◌≤◌, ◌<◌, not, ◌==◌, IsFalse, List, [], ◌∷◌, ◌++◌, map, length, Option, Some, None, IfSome, option_map}
 use Rattle.std.specs.List.{filter, AllByRecursion}
 use Rattle.fab_base.specs.declared.entry.Entry.{Entry}
 use Rattle.fab_base.specs.declared.entry.Entry.TheVariants as e
 use Rattle.fab_base.specs.declared.message.Message.{Message}
 use Rattle.fab_base.specs.FlatMap.{is_among}
-use Rattle.fab_base.specs.JournalSpelling.{AreStores, record_bytes, journal_version}
+use Rattle.fab_base.specs.JournalSpelling.{AreStores, IsEntry, record_bytes}
 use Rattle.fab_base.specs.MessageSpelling.{spelled}
 use Rattle.fab_base.specs.declared.object.Stop.{Stop}
 use Rattle.fab_language.specs.Meaning.{Meant}
@@ -54,14 +54,14 @@ parts_behind _ parts = no_parts
 
 -- ---- what a plan is of
 
-abbrev pub step_of : Act → Step
-step_of act = record { entry = option_map (record_bytes journal_version) act.entry; sends = map (λ x. (x.0, spelled x.1)) act.sends; notes = act.notes }
+abbrev pub step_of : ℕ → Act → Step
+step_of version act = record { entry = option_map (record_bytes version) act.entry; sends = map (λ x. (x.0, spelled x.1)) act.sends; notes = act.notes }
 
--- the plan of what a worker does in this attempt
-pub record IsPlanOf (act : Act) (a : Attempt) (p : Plan) : Type 0 where
+-- the plan of what a worker does in this attempt, with its record in this version
+pub record IsPlanOf (version : ℕ) (act : Act) (a : Attempt) (p : Plan) : Type 0 where
   pub entry : p.entry ≡ act.entry
   pub attempt : changed p.change a ≡ act.attempt
-  pub step : p.step ≡ step_of act
+  pub step : p.step ≡ step_of version act
 
 abbrev pub fails : WorkerModel → Meant → Act
 fails x meant =
@@ -153,6 +153,7 @@ HasRoom x _ = Unit {0}
 
 pub record Fits (x : WorkerModel) (p : Plan) : Type 0 where
   pub can : CanKeep x p.entry
+  pub spelled : IfSome p.entry (IsEntry x.version)
   pub change : CanChange x p.change
   pub ends : EndsWith p.change p.entry
   pub room : HasRoom x p.entry
@@ -166,6 +167,7 @@ pub record HasAllRoom (x : WorkerModel) : Type 0 where
 
 pub record IsBehind (act : Act) (old new : WorkerModel) : Type 0 where
   pub node : new.node ≡ old.node
+  pub version : new.version ≡ old.version
   pub rights : new.rights ≡ old.rights
   pub program : new.program ≡ old.program
   pub kept : new.kept ≡ kept_behind act.entry old.kept

@@ -162,6 +162,7 @@ impl Worker {
         requires fits { Fits self.old plan }
         ensures step { result ≡ plan.step }
         ensures node { self.new.node ≡ self.old.node }
+        ensures version { self.new.version ≡ self.old.version }
         ensures rights { self.new.rights ≡ self.old.rights }
         ensures program { self.new.program ≡ self.old.program }
         ensures kept { self.new.kept ≡ kept_behind plan.entry self.old.kept }

@@ -9,7 +9,7 @@ ghost use Rattle.fab_worker.specs.Models.{tid_at};
 ghost use Rattle.fab_worker.specs.Plans.{AreBehind, Fits, IsAtWork, IsPlanOf};
 
 use crate::change::Change;
-use crate::plan::{WorkerPlan, recorded};
+use crate::plan::WorkerPlan;
 use crate::worker::Worker;
 use fab_base::{Entry, Message, NoMemory, Seq, copies};
 use fab_cache::NewCaches;
@@ -39,7 +39,7 @@ impl Worker {
         requires parts { ArePartsOver self.now.program (tid_at self.now) self.now.attempt.answers parts.now }
         requires stores { stores.now ≡ stores_of parts.now }
         requires few { AreStores stores.now }
-        ensures plan { IfOk result (λ p. IsPlanOf (noting notes (decides self.now.rights self.now.program.cache self.now.node self.now.kept
+        ensures plan { IfOk result (λ p. IsPlanOf self.now.version (noting notes (decides self.now.rights self.now.program.cache self.now.node self.now.kept
             self.now.attempt parts.now)) self.now.attempt p) }
         ensures fits { IfOk result (λ p. 1 ≤ self.now.spare_decisions → Fits self.now p) }
     {
@@ -63,6 +63,6 @@ impl Worker {
             result: parts.value,
             stores: Seq::from_slice(self.alloc, stores)?,
         };
-        recorded(self.alloc, entry, Change::Commits(caches), sends, notes)
+        self.recorded(entry, Change::Commits(caches), sends, notes)
     }
 }

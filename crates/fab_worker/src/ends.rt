@@ -2,7 +2,7 @@
 
 ghost use Rattle.std.specs.Prelude.{◌≡◌, ◌≤◌, ◌++◌, ◌∷◌, [], ℕ, List, IfOk, Some, length, map};
 ghost use Rattle.fab_base.specs.declared.message.Message.{Message};
-ghost use Rattle.fab_base.specs.JournalSpelling.{record_bytes as record_of, journal_version};
+ghost use Rattle.fab_base.specs.JournalSpelling.{record_bytes as record_of};
 ghost use Rattle.fab_base.specs.MessageSpelling.{spelled};
 ghost use Rattle.fab_net.specs.declared.note.Note.TheVariants.{Closed};
 ghost use Rattle.fab_world.specs.Workers.{closed, gives, request_of, sending, try_ends, undecided};
@@ -12,7 +12,7 @@ ghost use Rattle.fab_worker.specs.Outcomes.{HasRecord};
 ghost use Rattle.fab_worker.specs.declared.change.Change.TheVariants.{Closes};
 
 use crate::change::Change;
-use crate::plan::{WorkerPlan, recorded, unrecorded};
+use crate::plan::{WorkerPlan, unrecorded};
 use crate::worker::Worker;
 use fab_base::{Entry, NoMemory, Seq, Stop, copies};
 use fab_commit::Sends;
@@ -66,7 +66,7 @@ impl Worker {
         ensures entry { IfOk result (λ p. p.entry ≡ Some (closed (request_of self.now.kept) outcome)) }
         ensures change { IfOk result (λ p. p.change ≡ Closes) }
         ensures step { IfOk result (λ p. p.step ≡ record {
-          entry = Some (record_of journal_version (closed (request_of self.now.kept) outcome));
+          entry = Some (record_of self.now.version (closed (request_of self.now.kept) outcome));
           sends = sends;
           notes = notes ++ Closed (request_of self.now.kept) outcome ∷ [];
         }) }
@@ -74,13 +74,7 @@ impl Worker {
     {
         let request = self.request_number();
         notes.push(Note::Closed { request, outcome })?;
-        recorded(
-            self.alloc,
-            closed(request, outcome),
-            Change::Closes,
-            sends,
-            notes,
-        )
+        self.recorded(closed(request, outcome), Change::Closes, sends, notes)
     }
 
     /// That the attempt ended without a commit.
@@ -103,7 +97,7 @@ impl Worker {
         requires work { IsAtWork self.now.attempt.phase }
         requires record { HasRecord outcome }
         ensures plan { IfOk result (λ p. (messages : List (ℕ × Message)) → sends ≡ map (λ x. (x.0, spelled x.1)) messages →
-            IsPlanOf (sending messages (gives self.now.rights self.now.program.cache self.now.node self.now.kept outcome self.now.attempt)) self.now.attempt p) }
+            IsPlanOf self.now.version (sending messages (gives self.now.rights self.now.program.cache self.now.node self.now.kept outcome self.now.attempt)) self.now.attempt p) }
         ensures fits { IfOk result (Fits self.now) }
     {
         self.closes(outcome, sends, self.undecided()?)
@@ -113,7 +107,7 @@ impl Worker {
     pub(crate) fn try_ends(&self, sends: Sends) -> Result<WorkerPlan, NoMemory>
         requires work { IsAtWork self.now.attempt.phase }
         ensures plan { IfOk result (λ p. (messages : List (ℕ × Message)) → sends ≡ map (λ x. (x.0, spelled x.1)) messages →
-            IsPlanOf (sending messages (try_ends self.now.rights self.now.program.cache self.now.node self.now.kept self.now.attempt)) self.now.attempt p) }
+            IsPlanOf self.now.version (sending messages (try_ends self.now.rights self.now.program.cache self.now.node self.now.kept self.now.attempt)) self.now.attempt p) }
         ensures fits { IfOk result (Fits self.now) }
     {
         if self.session.tries() + 1 == MOST_TRIES {

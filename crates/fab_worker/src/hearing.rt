@@ -34,7 +34,7 @@ impl Worker {
     /// What the worker will do at these bytes of a sender, whoever that is, with the room that it needs.
     /// Nothing but room changes.
     pub fn plan_handle(&mut self, sender: u16, bytes: &[u8]) -> Result<WorkerPlan, NoMemory>
-        ensures plan { IfOk result (λ p. IsPlanOf (hears self.old sender (read_message bytes.now)) self.old.attempt p) }
+        ensures plan { IfOk result (λ p. IsPlanOf self.old.version (hears self.old sender (read_message bytes.now)) self.old.attempt p) }
         ensures fits { IfOk result (Fits self.new) }
         ensures kept { OnlyGainsRoom self.old self.new }
     {
@@ -48,7 +48,7 @@ impl Worker {
 
     /// Carries out the plan of it.
     pub fn handle(&mut self, sender: u16, bytes: &[u8]) -> Result<Step, NoMemory>
-        ensures step { IfOk result (λ step. step ≡ step_of (hears self.old sender (read_message bytes.now))) }
+        ensures step { IfOk result (λ step. step ≡ step_of self.old.version (hears self.old sender (read_message bytes.now))) }
         ensures ok { OnOk result (IsBehind (hears self.old sender (read_message bytes.now)) self.old self.new) }
         ensures err { OnErr result (OnlyGainsRoom self.old self.new) }
     {
@@ -58,7 +58,7 @@ impl Worker {
 
     /// Nothing is done.
     fn nothing(&self) -> WorkerPlan
-        ensures plan { IsPlanOf (stays self.now.attempt) self.now.attempt result }
+        ensures plan { IsPlanOf self.now.version (stays self.now.attempt) self.now.attempt result }
         ensures fits { Fits self.now result }
     {
         unrecorded(Change::Nothing, Seq::new(self.alloc), Seq::new(self.alloc))
@@ -66,7 +66,7 @@ impl Worker {
 
     fn takes(&self, sender: u16, message: Message) -> Result<WorkerPlan, NoMemory>
         requires room { HasAllRoom self.now }
-        ensures plan { IfOk result (λ p. IsPlanOf (takes self.now.rights self.now.program.cache self.now.node self.now.kept
+        ensures plan { IfOk result (λ p. IsPlanOf self.now.version (takes self.now.rights self.now.program.cache self.now.node self.now.kept
             sender message self.now.attempt self.now.parts) self.now.attempt p) }
         ensures fits { IfOk result (Fits self.now) }
     {
@@ -139,7 +139,7 @@ impl Worker {
         requires room { HasAllRoom self.now }
         requires sender { IsTrue (is_store self.now.rights sender) }
         requires store { oid.store ≡ sender }
-        ensures plan { IfOk result (λ p. IsPlanOf (got self.now.rights self.now.program.cache self.now.node self.now.kept
+        ensures plan { IfOk result (λ p. IsPlanOf self.now.version (got self.now.rights self.now.program.cache self.now.node self.now.kept
             sender oid version object self.now.attempt) self.now.attempt p) }
         ensures fits { IfOk result (Fits self.now) }
     {
@@ -163,7 +163,7 @@ impl Worker {
     /// The object that was asked for was denied.
     fn denied(&self, sender: u16, why: Why) -> Result<WorkerPlan, NoMemory>
         requires work { IsAtWork self.now.attempt.phase }
-        ensures plan { IfOk result (λ p. IsPlanOf (denied self.now.rights self.now.program.cache self.now.node self.now.kept
+        ensures plan { IfOk result (λ p. IsPlanOf self.now.version (denied self.now.rights self.now.program.cache self.now.node self.now.kept
             sender why self.now.attempt) self.now.attempt p) }
         ensures fits { IfOk result (Fits self.now) }
     {
@@ -180,7 +180,7 @@ impl Worker {
     fn voted_by(&self, sender: u16, answer: Answer) -> Result<WorkerPlan, NoMemory>
         requires preparing { IsPreparing self.now.attempt.phase }
         requires room { HasAllRoom self.now }
-        ensures plan { IfOk result (λ p. IsPlanOf (voted_by self.now.rights self.now.program.cache self.now.node self.now.kept
+        ensures plan { IfOk result (λ p. IsPlanOf self.now.version (voted_by self.now.rights self.now.program.cache self.now.node self.now.kept
             sender answer self.now.attempt self.now.parts) self.now.attempt p) }
         ensures fits { IfOk result (Fits self.now) }
     {
@@ -222,7 +222,7 @@ impl Worker {
     fn yes_from(&self, sender: u16) -> Result<WorkerPlan, NoMemory>
         requires preparing { IsPreparing self.now.attempt.phase }
         requires room { HasAllRoom self.now }
-        ensures plan { IfOk result (λ p. IsPlanOf (yes_from self.now.rights self.now.program.cache self.now.node self.now.kept
+        ensures plan { IfOk result (λ p. IsPlanOf self.now.version (yes_from self.now.rights self.now.program.cache self.now.node self.now.kept
             sender self.now.attempt self.now.parts) self.now.attempt p) }
         ensures fits { IfOk result (Fits self.now) }
     {
@@ -252,7 +252,7 @@ impl Worker {
     /// A store asks what became of an attempt.
     fn inquired(&self, sender: u16, tid: Tid) -> Result<WorkerPlan, NoMemory>
         requires room { HasAllRoom self.now }
-        ensures plan { IfOk result (λ p. IsPlanOf (inquired self.now.rights self.now.program.cache self.now.node self.now.kept
+        ensures plan { IfOk result (λ p. IsPlanOf self.now.version (inquired self.now.rights self.now.program.cache self.now.node self.now.kept
             sender tid self.now.attempt self.now.parts) self.now.attempt p) }
         ensures fits { IfOk result (Fits self.now) }
     {

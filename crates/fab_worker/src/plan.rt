@@ -1,14 +1,14 @@
 //! What a worker is about to do.
 
 ghost use Rattle.std.specs.Prelude.{◌≡◌, IfOk, IfSome, Some, None};
-ghost use Rattle.fab_base.specs.JournalSpelling.{IsEntry, KeepsEntry, record_bytes as record_of, journal_version};
+ghost use Rattle.fab_base.specs.JournalSpelling.{IsEntry, KeepsEntry, record_bytes as record_of};
 
 use crate::change::Change;
+use crate::worker::Worker;
 use fab_base::{Entry, NoMemory, Seq};
 use fab_commit::Sends;
 use fab_journal::record_bytes;
 use fab_net::{Note, Step};
-use std::alloc::Global;
 use std::marker::Model;
 
 /// What a worker will keep and say: the record, what becomes of the attempt, and the step in bytes.
@@ -29,22 +29,17 @@ impl Drop for WorkerPlan {
 }
 
 impl Model for WorkerPlan {
-    ghost use Rattle.std.specs.Prelude.{IfSome};
-    ghost use Rattle.fab_base.specs.JournalSpelling.{IsEntry, journal_version};
     ghost use Rattle.fab_worker.specs.Plans.{Plan};
 
     ghost Value = { Plan };
 
     ghost view = { λ p. record { entry = p.entry; change = p.change; step = p.step } };
-
-    ghost invariant = { λ p. IfSome p.entry (IsEntry journal_version) };
 }
 
 impl WorkerPlan {
-    /// What is to be written and sent. What each plan writes can be read back.
+    /// What is to be written and sent.
     pub fn step(&self) -> &Step
-        ensures step { result.now ≡ self.now.step }
-        ensures fits { IfSome self.now.entry (IsEntry journal_version) }
+        ensures { result.now ≡ self.now.step }
     {
         &self.step
     }
@@ -77,25 +72,32 @@ pub(crate) fn unrecorded(change: Change, sends: Sends, notes: Seq<Note>) -> Work
     }
 }
 
-/// A plan with a record.
-pub(crate) fn recorded(
-    alloc: Global,
-    entry: Entry,
-    change: Change,
-    sends: Sends,
-    notes: Seq<Note>,
-) -> Result<WorkerPlan, NoMemory>
-    requires { KeepsEntry entry }
-    ensures { IfOk result (λ p. p ≡ record { entry = Some entry; change = change; step = record { entry = Some (record_of journal_version entry); sends = sends; notes = notes } }) }
-{
-    let bytes = record_bytes(alloc, &entry)?;
-    Ok(WorkerPlan {
-        entry: Some(entry),
-        change,
-        step: Step {
-            entry: Some(bytes),
-            sends,
-            notes,
-        },
-    })
+impl Worker {
+    /// A plan with a record, which is written in the worker's version and can be read back.
+    pub(crate) fn recorded(
+        &self,
+        entry: Entry,
+        change: Change,
+        sends: Sends,
+        notes: Seq<Note>,
+    ) -> Result<WorkerPlan, NoMemory>
+        requires { KeepsEntry entry }
+        ensures plan { IfOk result (λ p. p ≡ record {
+          entry = Some entry;
+          change = change;
+          step = record { entry = Some (record_of self.now.version entry); sends = sends; notes = notes };
+        }) }
+        ensures fits { IfOk result (λ p. IfSome p.entry (IsEntry self.now.version)) }
+    {
+        let bytes = record_bytes(self.alloc, &entry, self.version)?;
+        Ok(WorkerPlan {
+            entry: Some(entry),
+            change,
+            step: Step {
+                entry: Some(bytes),
+                sends,
+                notes,
+            },
+        })
+    }
 }

@@ -4,6 +4,7 @@ ghost use Rattle.std.specs.Prelude.{◌≡◌, ◌<◌, ◌++◌, suc, [], lengt
 ghost use Rattle.std.specs.List.{filter, flat_map, range_with_len};
 ghost use Rattle.fab_base.specs.declared.entry.Entry.TheVariants.{Boot};
 ghost use Rattle.fab_base.specs.declared.message.Message.TheVariants.{Commit, Boot as BootMessage};
+ghost use Rattle.fab_base.specs.JournalSpelling.{IsVersion};
 ghost use Rattle.fab_base.specs.MessageSpelling.{spelled};
 ghost use Rattle.fab_world.specs.Workers.{fresh, kept_of, to_all, wakes, worker_keeps};
 ghost use Rattle.fab_rights.specs.Computed.{is_store};
@@ -104,50 +105,58 @@ fn wake_sends(
 }
 
 impl Worker {
-    /// A worker of this program's session which has done nothing.
+    /// A worker of this program's session which has done nothing. It writes records in the journal's
+    /// version that is given.
     pub fn make(
         alloc: Global,
         node: u16,
         program: Arc<Resolved>,
         rights: &Rights,
+        version: u16,
     ) -> Result<Worker, NoMemory>
+        requires version { IsVersion version }
         requires program { IsProgramOf program.value node rights.now }
         ensures node { IfOk result (λ w. w.node ≡ node) }
+        ensures version { IfOk result (λ w. w.version ≡ version) }
         ensures rights { IfOk result (λ w. w.rights ≡ rights.now) }
         ensures program { IfOk result (λ w. w.program ≡ program.value) }
         ensures kept { IfOk result (λ w. w.kept ≡ kept_of []) }
         ensures attempt { IfOk result (λ w. w.attempt ≡ fresh) }
         ensures parts { IfOk result (λ w. w.parts ≡ no_parts) }
     {
-        Worker::behind(alloc, node, program, rights, 1, &[])
+        Worker::behind(alloc, node, program, rights, version, 1, &[])
     }
 
     /// The worker that these records of its journal make, in a boot more; the record of that boot; each
-    /// Commit again, in order of decision; and then the boot to every store.
+    /// Commit again, in order of decision; and then the boot to every store. It writes records, that of
+    /// the boot first, in the version behind these.
     pub fn recover(
         alloc: Global,
         node: u16,
         program: Arc<Resolved>,
         rights: &Rights,
         entries: &[Entry],
+        version: u16,
     ) -> Result<(Worker, Step), NoMemory>
+        requires version { IsVersion version }
         requires program { IsProgramOf program.value node rights.now }
         requires kept { AreKept (length (requests_of program.value node)) entries.now (kept_of []) }
         requires boots { boots_in entries.now < 4000000000 }
         ensures node { IfOk result (λ both. both.0.node ≡ node) }
+        ensures version { IfOk result (λ both. both.0.version ≡ version) }
         ensures rights { IfOk result (λ both. both.0.rights ≡ rights.now) }
         ensures program { IfOk result (λ both. both.0.program ≡ program.value) }
         ensures kept { IfOk result (λ both. both.0.kept ≡ worker_keeps (Boot (suc (kept_of entries.now).boot)) (kept_of entries.now)) }
         ensures attempt { IfOk result (λ both. both.0.attempt ≡ fresh) }
         ensures parts { IfOk result (λ both. both.0.parts ≡ no_parts) }
-        ensures step { IfOk result (λ both. both.1 ≡ step_of (wakes rights.now program.value.cache node (kept_of entries.now))) }
+        ensures step { IfOk result (λ both. both.1 ≡ step_of version (wakes rights.now program.value.cache node (kept_of entries.now))) }
     {
         let boot = boots_in(entries) as u32 + 2;
-        let worker = Worker::behind(alloc, node, program, rights, boot, entries)?;
+        let worker = Worker::behind(alloc, node, program, rights, version, boot, entries)?;
         let stores = stores_below(alloc, rights, 64)?;
         let decided = worker.decided.as_slice();
         let step = Step {
-            entry: Some(record_bytes(alloc, &Entry::Boot { boot })?),
+            entry: Some(record_bytes(alloc, &Entry::Boot { boot }, version)?),
             sends: wake_sends(alloc, stores.as_slice(), decided, boot)?,
             notes: Seq::new(alloc),
         };
@@ -160,12 +169,15 @@ impl Worker {
         node: u16,
         program: Arc<Resolved>,
         rights: &Rights,
+        version: u16,
         boot: u32,
         entries: &[Entry],
     ) -> Result<Worker, NoMemory>
+        requires version { IsVersion version }
         requires program { IsProgramOf program.value node rights.now }
         requires kept { AreKept (length (requests_of program.value node)) entries.now (kept_of []) }
         ensures node { IfOk result (λ w. w.node ≡ node) }
+        ensures version { IfOk result (λ w. w.version ≡ version) }
         ensures rights { IfOk result (λ w. w.rights ≡ rights.now) }
         ensures program { IfOk result (λ w. w.program ≡ program.value) }
         ensures kept { IfOk result (λ w. w.kept ≡ record (kept_of entries.now) { boot = boot }) }
@@ -180,6 +192,7 @@ impl Worker {
         Ok(Worker {
             alloc,
             node,
+            version,
             program,
             rights: rights.copy(alloc)?,
             session,

@@ -30,7 +30,7 @@ impl Worker {
     pub fn plan_resume(&mut self, done: &Done) -> Result<WorkerPlan, NoMemory>
         requires evaluating { self.old.attempt.phase ≡ Evaluating }
         requires job { IsJobOf done.now.job self.old }
-        ensures plan { IfOk result (λ p. IsPlanOf (resumes self.old.rights self.old.program.cache self.old.node self.old.kept
+        ensures plan { IfOk result (λ p. IsPlanOf self.old.version (resumes self.old.rights self.old.program.cache self.old.node self.old.kept
             self.old.attempt (meant_of done.now.job)) self.old.attempt p) }
         ensures fits { IfOk result (Fits self.new) }
         ensures kept { OnlyGainsRoom self.old self.new }
@@ -43,7 +43,7 @@ impl Worker {
     pub fn resume(&mut self, done: &Done) -> Result<Step, NoMemory>
         requires evaluating { self.old.attempt.phase ≡ Evaluating }
         requires job { IsJobOf done.now.job self.old }
-        ensures step { IfOk result (λ step. step ≡ step_of (resumes self.old.rights self.old.program.cache self.old.node self.old.kept
+        ensures step { IfOk result (λ step. step ≡ step_of self.old.version (resumes self.old.rights self.old.program.cache self.old.node self.old.kept
             self.old.attempt (meant_of done.now.job))) }
         ensures ok { OnOk result (IsBehind (resumes self.old.rights self.old.program.cache self.old.node self.old.kept
             self.old.attempt (meant_of done.now.job)) self.old self.new) }
@@ -57,7 +57,7 @@ impl Worker {
         requires evaluating { self.now.attempt.phase ≡ Evaluating }
         requires job { IsJobOf done.now.job self.now }
         requires room { HasAllRoom self.now }
-        ensures plan { IfOk result (λ p. IsPlanOf (resumes self.now.rights self.now.program.cache self.now.node self.now.kept
+        ensures plan { IfOk result (λ p. IsPlanOf self.now.version (resumes self.now.rights self.now.program.cache self.now.node self.now.kept
             self.now.attempt (meant_of done.now.job)) self.now.attempt p) }
         ensures fits { IfOk result (Fits self.now) }
     {
@@ -93,7 +93,7 @@ impl Worker {
     fn fails(&self, done: &Done) -> Result<WorkerPlan, NoMemory>
         requires evaluating { self.now.attempt.phase ≡ Evaluating }
         requires job { IsJobOf done.now.job self.now }
-        ensures plan { IfOk result (λ p. IsPlanOf (fails self.now (meant_of done.now.job)) self.now.attempt p) }
+        ensures plan { IfOk result (λ p. IsPlanOf self.now.version (fails self.now (meant_of done.now.job)) self.now.attempt p) }
         ensures fits { IfOk result (Fits self.now) }
     {
         let Telling { touches, downs, .. } = self.tells(done)?;
@@ -109,7 +109,7 @@ impl Worker {
     fn stops(&self, done: &Done, stop: Stop) -> Result<WorkerPlan, NoMemory>
         requires evaluating { self.now.attempt.phase ≡ Evaluating }
         requires job { IsJobOf done.now.job self.now }
-        ensures plan { IfOk result (λ p. IsPlanOf (stops stop self.now (meant_of done.now.job)) self.now.attempt p) }
+        ensures plan { IfOk result (λ p. IsPlanOf self.now.version (stops stop self.now (meant_of done.now.job)) self.now.attempt p) }
         ensures fits { IfOk result (Fits self.now) }
     {
         let Telling { touches, downs, .. } = self.tells(done)?;
@@ -128,7 +128,7 @@ impl Worker {
         requires job { IsJobOf done.now.job self.now }
         requires room { HasAllRoom self.now }
         requires outcome { done.now.outcome ≡ outcomes.Need site oid }
-        ensures plan { IfOk result (λ p. IsPlanOf (needs self.now.rights self.now.program.cache self.now.node self.now.kept
+        ensures plan { IfOk result (λ p. IsPlanOf self.now.version (needs self.now.rights self.now.program.cache self.now.node self.now.kept
             site oid (cached_row self.now.attempt.caches oid) self.now.attempt (meant_of done.now.job)) self.now.attempt p) }
         ensures fits { IfOk result (Fits self.now) }
     {
@@ -176,7 +176,7 @@ impl Worker {
         requires job { IsJobOf done.now.job self.now }
         requires room { HasAllRoom self.now }
         requires outcome { done.now.outcome ≡ outcomes.Ended value writes.now creates.now }
-        ensures plan { IfOk result (λ p. IsPlanOf (ends self.now.rights self.now.program.cache self.now.node self.now.kept
+        ensures plan { IfOk result (λ p. IsPlanOf self.now.version (ends self.now.rights self.now.program.cache self.now.node self.now.kept
             value self.now.attempt (meant_of done.now.job) (parts_of self.now.attempt.answers (meant_of done.now.job))) self.now.attempt p) }
         ensures fits { IfOk result (Fits self.now) }
     {
@@ -213,7 +213,7 @@ impl Worker {
         requires room { HasAllRoom self.now }
         requires parts { ArePartsOver self.now.program (tid_at self.now) self.now.attempt.answers parts }
         requires its { parts ≡ parts_at_work self.now.program (tid_at self.now) self.now.attempt.answers (request_at self.now) }
-        ensures plan { IfOk result (λ p. IsPlanOf (noting notes (asks_all self.now.rights self.now.program.cache self.now.node self.now.kept
+        ensures plan { IfOk result (λ p. IsPlanOf self.now.version (noting notes (asks_all self.now.rights self.now.program.cache self.now.node self.now.kept
             (stores_of parts) (record self.now.attempt { told = told }) parts)) self.now.attempt p) }
         ensures fits { IfOk result (Fits self.now) }
     {

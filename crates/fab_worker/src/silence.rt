@@ -16,7 +16,7 @@ impl Worker {
     /// changes.
     pub fn plan_silent(&mut self, node: u16) -> Result<WorkerPlan, NoMemory>
         requires awaited { IsTrue (lacks node self.old.attempt.phase) }
-        ensures plan { IfOk result (λ p. IsPlanOf (gives_up self.old.rights self.old.program.cache self.old.node self.old.kept
+        ensures plan { IfOk result (λ p. IsPlanOf self.old.version (gives_up self.old.rights self.old.program.cache self.old.node self.old.kept
             node self.old.attempt self.old.parts) self.old.attempt p) }
         ensures fits { IfOk result (Fits self.new) }
         ensures kept { OnlyGainsRoom self.old self.new }
@@ -27,7 +27,7 @@ impl Worker {
     /// Carries out the plan of it.
     pub fn silent(&mut self, node: u16) -> Result<Step, NoMemory>
         requires awaited { IsTrue (lacks node self.old.attempt.phase) }
-        ensures step { IfOk result (λ step. step ≡ step_of (gives_up self.old.rights self.old.program.cache self.old.node self.old.kept
+        ensures step { IfOk result (λ step. step ≡ step_of self.old.version (gives_up self.old.rights self.old.program.cache self.old.node self.old.kept
             node self.old.attempt self.old.parts)) }
         ensures ok { OnOk result (IsBehind (gives_up self.old.rights self.old.program.cache self.old.node self.old.kept
             node self.old.attempt self.old.parts) self.old self.new) }

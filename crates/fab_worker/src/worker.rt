@@ -25,10 +25,12 @@ use std::alloc::Global;
 use std::marker::Model;
 use std::sync::Arc;
 
-/// A worker: its session, its decisions, its caches, and the attempt that it is at.
+/// A worker: its session, its decisions, its caches, and the attempt that it is at; its records are written in
+/// its version.
 pub struct Worker {
     pub(crate) alloc: Global,
     pub(crate) node: u16,
+    pub(crate) version: u16,
     pub(crate) program: Arc<Resolved>,
     pub(crate) rights: Rights,
     pub(crate) session: Session,
@@ -44,6 +46,7 @@ impl Drop for Worker {
         let Worker {
             alloc,
             node,
+            version,
             program,
             rights,
             session,
@@ -68,11 +71,11 @@ impl Model for Worker {
 
     ghost coded = { Prim.hlevel (codes, statements.the_row.coded, expressions.the_row.coded) };
 
-    ghost view = { λ w. model_of w.node w.rights w.program.value w.session w.decided.items w.caches w.stage w.answers.items w.told
+    ghost view = { λ w. model_of w.node w.version w.rights w.program.value w.session w.decided.items w.caches w.stage w.answers.items w.told
         (vec_capacity w.answers - vec_len w.answers) (vec_capacity w.decided - vec_len w.decided) };
 
     ghost invariant = { λ w. IsWorker
-        (model_of w.node w.rights w.program.value w.session w.decided.items w.caches w.stage w.answers.items w.told 0 0) w.session w.caches.k w.stage };
+        (model_of w.node w.version w.rights w.program.value w.session w.decided.items w.caches w.stage w.answers.items w.told 0 0) w.session w.caches.k w.stage };
 }
 
 impl Worker {
@@ -134,6 +137,7 @@ impl Worker {
         ensures parts { self.new.parts ≡ no_parts }
         ensures kept { self.new.kept ≡ self.old.kept }
         ensures node { self.new.node ≡ self.old.node }
+        ensures version { self.new.version ≡ self.old.version }
         ensures rights { self.new.rights ≡ self.old.rights }
         ensures program { self.new.program ≡ self.old.program }
     {

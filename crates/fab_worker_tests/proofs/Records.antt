@@ -4,7 +4,8 @@ use Rattle.fab_base.specs.declared.entry.Entry.{Entry}
 use Rattle.fab_base.specs.declared.entry.Entry.TheVariants as e
 use Rattle.fab_base.specs.declared.object.Tid.{Tid}
 use Rattle.fab_base.specs.declared.object.Value.{Value}
-use Rattle.fab_base.specs.JournalSpelling.{AreEntries, IsEntry, IsReadAs, journal_version}
+use Rattle.fab_base.specs.JournalSpelling.{AreEntries, IsEntry, IsReadAs, IsVersion, journal_version}
+use Rattle.fab_journal.proofs.Journals.{known_behind}
 use Rattle.fab_world.specs.Workers.{Kept, WorkerCanKeep, kept_of, worker_keeps}
 use Rattle.fab_worker.specs.Plans.{AreKept}
 use Rattle.fab_worker.specs.Records.{boots_in}
@@ -43,9 +44,16 @@ one_more requests entry entries ended next one others fits kept so_many =
     (both.0, others fits.1 (worker_keeps entry kept) both.1)
 
 -- what is read are entries
-pub read_entries : (bytes : List ℕ) (entries : List Entry) (len : ℕ) → IsReadAs bytes entries len → AreEntries journal_version entries
-read_entries bytes entries len (inl torn) = subst (AreEntries journal_version) (sym torn.1) tt
-read_entries bytes entries len (inr whole) = whole.front.entries_fit
+pub read_entries : (bytes : List ℕ) (entries : List Entry) (len next : ℕ) → IsReadAs bytes entries len next → AreEntries journal_version entries
+read_entries bytes entries len next (inl torn) = subst (AreEntries journal_version) (sym torn.1) tt
+read_entries bytes entries len next (inr whole) = subst (λ version. AreEntries version entries) whole.front.known whole.front.entries_fit
+
+-- and the version behind them is one
+pub read_version : (bytes : List ℕ) (entries : List Entry) (len next : ℕ) → IsReadAs bytes entries len next → IsVersion next
+read_version bytes entries len next (inl torn) = torn.3
+read_version bytes entries len next (inr whole) =
+    let front = whole.front in
+    subst IsVersion (sym front.behind) (known_behind front.first entries front.known front.entries_fit)
 
 pub none_ended : length (kept_of []).outcomes ≡ 0
 unfolding kept_of

@@ -10,7 +10,7 @@ ghost use Rattle.fab_worker.specs.Plans.{AreKept};
 
 use fab_base::{Entry, NoMemory};
 use fab_bundle::{BundleError, bundle};
-use fab_journal::read_records;
+use fab_journal::{JOURNAL_VERSION, read_records};
 use fab_lexer::{LexError, tokens};
 use fab_net::Step;
 use fab_setup::{Setup, setup_of};
@@ -47,7 +47,7 @@ pub(crate) fn worker_of(alloc: Global, text: &[u8], node: u16) -> Result<Worker,
     ensures { IfOk result (λ w. w.attempt ≡ fresh) }
 {
     let Setup { program, rights } = setup_in(alloc, text)?;
-    Ok(Worker::make(alloc, node, program, &rights)?)
+    Ok(Worker::make(alloc, node, program, &rights, JOURNAL_VERSION)?)
 }
 
 /// The session of a worker, if it has one.
@@ -126,13 +126,13 @@ pub(crate) fn come_back(
     ensures { IfOk result (λ r. r.worker.attempt ≡ fresh) }
 {
     let Setup { program, rights } = setup_in(alloc, text)?;
-    let (entries, len) = read_records(alloc, journal)?;
+    let (entries, len, version) = read_records(alloc, journal)?;
     let entries = entries.as_slice();
     let requests = requests_in(&program, node);
     if entries.len() >= 4_000_000_000 || !are_kept(entries, 0, requests) {
         return Err(Fail::new("records that aren't kept"));
     }
-    let (worker, step) = Worker::recover(alloc, node, program, &rights, entries)?;
+    let (worker, step) = Worker::recover(alloc, node, program, &rights, entries, version)?;
     let len = (len as usize).min(journal.len());
     Ok(Returned { worker, step, len })
 }

@@ -6,7 +6,7 @@ ghost use Rattle.fab_world.specs.Workers.{Evaluating};
 use crate::bundles::{Returned, come_back, worker_of};
 use fab_base::{NoMemory, Seq, Tid};
 use fab_eval::evaluate;
-use fab_journal::header_bytes;
+use fab_journal::{JOURNAL_VERSION, header_bytes};
 use fab_net::{ReqOutcome, Step};
 use fab_worker::{Worker, WorkerState};
 use std::alloc::{AllocError, Global};
@@ -31,7 +31,7 @@ impl<'a> Trial<'a> {
             alloc,
             text,
             node,
-            journal: header_bytes(alloc, node)?,
+            journal: header_bytes(alloc, JOURNAL_VERSION, node)?,
             worker: worker_of(alloc, text, node)?,
             begun: 0,
         })

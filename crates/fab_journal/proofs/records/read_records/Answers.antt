@@ -1,4 +1,5 @@
 use Rattle.std.proofs.Common.{arith, refl, inl}
+use Rattle.fab_base.specs.JournalSpelling.{journal_version}
 use Rattle.fab_wire.proofs.ReaderLaws.{IsBytes}
 use Rattle.fab_journal.proofs.Journals.{torn_header}
 use Rattle.fab_journal.proofs.OneReading.{is_bad, is_unread, one_way, answers_only}
@@ -13,12 +14,12 @@ returns-in-Some-clause-only c = is_unread c.args.bytes.now c.in-Some.at (inl c.i
 pub returns-then-bytes-lt-HEADER-clause-read : goal.returns-then-bytes-lt-HEADER-clause-read
 returns-then-bytes-lt-HEADER-clause-read c =
     let isb : IsBytes c.args.bytes.now = λ i. omega (arith, c.type_inv.bytes i) in
-    inl (torn_header c.args.bytes.now isb c.if-bytes-lt-HEADER.true c.in_default.ensures, c.new.ensures, refl)
+    inl (torn_header c.args.bytes.now isb c.if-bytes-lt-HEADER.true c.in_default.ensures, c.new.ensures, refl, refl)
 
 pub returns-then-bytes-lt-HEADER-clause-only : goal.returns-then-bytes-lt-HEADER-clause-only
 returns-then-bytes-lt-HEADER-clause-only c =
     let isb : IsBytes c.args.bytes.now = λ i. omega (arith, c.type_inv.bytes i) in
-    λ entries len is. one_way c.args.bytes.now c.new.result entries 0 len (inl (torn_header c.args.bytes.now isb c.if-bytes-lt-HEADER.true c.in_default.ensures, c.new.ensures, refl)) is
+    λ entries len next is. one_way c.args.bytes.now c.new.result entries 0 len journal_version next (inl (torn_header c.args.bytes.now isb c.if-bytes-lt-HEADER.true c.in_default.ensures, c.new.ensures, refl, refl)) is
 
 pub returns-clause-only : goal.returns-clause-only
 returns-clause-only c = answers_only c.records_from.result c.args.bytes.now c.records_from.ensures

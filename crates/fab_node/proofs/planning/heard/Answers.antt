@@ -3,8 +3,8 @@ use Rattle.fab_node.proofs.planning.heard.Goals as goal
 
 pub returns-in_ok-plan_handle-in-Worker-clause-plan : goal.returns-in_ok-plan_handle-in-Worker-clause-plan
 returns-in_ok-plan_handle-in-Worker-clause-plan c = λ g n x s up.
-    heard_plan g n x c.args.role.now c.in-Worker.worker c.plan_handle.new.self c.in-Worker.is s up c.in_ok-plan_handle-in-Worker.field-0 c.of_worker.result
-    c.in_ok-plan_handle-in-Worker.ensures.kept c.in_ok-plan_handle-in-Worker.ensures.fits c.of_worker.ensures.plan c.of_worker.ensures.spelled
+    heard_plan g n x c.args.role.now c.in-Worker.worker c.plan_handle.new.self c.in-Worker.is s up c.in_ok-plan_handle-in-Worker.field-0
+    c.in_ok-plan_handle-in-Worker.ensures.kept c.in_ok-plan_handle-in-Worker.ensures.fits
     c.args.sender c.args.bytes.now c.state.ensures.parts c.in_ok-plan_handle-in-Worker.ensures.plan
 
 pub returns-in_ok-plan-in-Store-clause-plan : goal.returns-in_ok-plan-in-Store-clause-plan

@@ -15,7 +15,7 @@ invariant_of-self c =
     let x = c.self.inside in
     let n = c.carry_out.new in
     let parts = c.into_parts-entry.result in
-    left_worker x.node x.rights x.program.value x.session x.decided.items x.caches x.stage x.answers.items x.told
+    left_worker x.node x.version x.rights x.program.value x.session x.decided.items x.caches x.stage x.answers.items x.told
     (vec_capacity x.answers - vec_len x.answers) (vec_capacity x.decided - vec_len x.decided) parts.2 c.keep_any.new.decided.items c.self.invariant
     _ _ c.self.view_is parts.0 parts.1 (of_parts c.args.plan parts c.into_parts-entry.ensures) c.requires.fits
     c.keep_any.new.session n.session n.caches n.stage n.answers.items n.told

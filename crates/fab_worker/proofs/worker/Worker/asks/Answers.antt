@@ -10,7 +10,7 @@ pub returns-then-is_empty-clause-plan : goal.returns-then-is_empty-clause-plan
 returns-then-is_empty-clause-plan c =
     let x = c.args.self.now in
     let same = c.stores.ensures.stores ∙ ap (λ (w : Coordination). w.stores) c.in_ok-coordinator.ensures.coordinator in
-    decided_plan x.rights x.program.cache x.node x.kept x.attempt c.args.told c.args.parts c.args.notes c.decides.result (stores_of c.args.parts) c.stores.result.now same
+    decided_plan x.version x.rights x.program.cache x.node x.kept x.attempt c.args.told c.args.parts c.args.notes c.decides.result (stores_of c.args.parts) c.stores.result.now same
     (sym c.is_empty.ensures ∙ c.if-is_empty.true) c.decides.ensures.plan
 
 pub returns-then-is_empty-clause-fits : goal.returns-then-is_empty-clause-fits
@@ -20,7 +20,7 @@ pub returns-clause-plan : goal.returns-clause-plan
 returns-clause-plan c =
     let x = c.args.self.now in
     let same = c.stores.ensures.stores ∙ ap (λ (w : Coordination). w.stores) c.in_ok-coordinator.ensures.coordinator in
-    asked_plan x.rights x.program.cache x.node x.kept x.attempt c.args.told c.args.parts c.args.notes (stores_of c.args.parts) c.stores.result.now
+    asked_plan x.version x.rights x.program.cache x.node x.kept x.attempt c.args.told c.args.parts c.args.notes (stores_of c.args.parts) c.stores.result.now
     c.tid.result c.in_ok-coordinator.coordinator c.in_ok-coordinator.sends c.unrecorded.result same (sym c.is_empty.ensures ∙ c.if-is_empty.false)
     c.tid.ensures c.in_ok-coordinator.ensures.coordinator c.in_ok-coordinator.ensures.sends c.unrecorded.ensures
 

@@ -15,7 +15,7 @@ keep_all-requires c = record {
 pub invariant_of-result : goal.invariant_of-result
 invariant_of-result c =
     woken c.args.node c.args.boot _ c.args.entries.now c.in_ok-session.session c.keep_all.new.session c.in_ok-session.ensures.session c.in_ok-keep_all.ensures.session
-    c.args.rights.now c.in_ok-copy.field-0 c.args.program.value c.keep_all.new.decided.items c.in_ok-caches.caches (range_with_len 0 64) c.new.result.items
+    c.args.version c.requires.version c.args.rights.now c.in_ok-copy.field-0 c.args.program.value c.keep_all.new.decided.items c.in_ok-caches.caches (range_with_len 0 64) c.new.result.items
     c.requires.program c.in_ok-copy.ensures
     (c.requests_in-requests.ensures ∙ ap (λ (p : Resolved). length (requests_of p c.args.node)) c.deref.ensures)
     (c.in_ok-caches.ensures ∙ ap (λ (p : Resolved). record { k = p.cache; caches = map (λ s. []) (range_with_len 0 64) }) c.deref-2.ensures)

@@ -8,7 +8,7 @@ use Rattle.fab_worker.proofs.worker.Worker.caches_behind.Goals as goal
 pub returns : goal.returns
 returns c =
     let w = c.self.inside in
-    let x : WorkerModel = model_of w.node w.rights w.program.value w.session w.decided.items w.caches w.stage w.answers.items w.told 0 0 in
+    let x : WorkerModel = model_of w.node w.version w.rights w.program.value w.session w.decided.items w.caches w.stage w.answers.items w.told 0 0 in
     let those = rw (← c.self.view_is) at c.requires in
     let same = c.as_slice.ensures ∙ c.in_ok-puts.ensures ∙ ap (λ (rows : Rows). puts_of rows c.args.parts.now) c.deref.ensures.value in
     rw (← c.self.view_is)

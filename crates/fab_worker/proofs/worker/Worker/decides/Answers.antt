@@ -18,13 +18,13 @@ returns-clause-plan c =
     let sent = c.in_ok-sends.ensures.sends ∙ ap (map {A = ℕ} {B = ℕ × List ℕ} (λ s. (s, spelled (Commit t)))) (sym c.in_ok-from_slice.ensures) in
     let told = c.in_ok-push-2.ensures.ok ∙ ap (λ (notes : List Note). notes ++ Closed q (Committed t c.args.parts.now.value) ∷ []) c.in_ok-push.ensures.ok in
     decided c.args.self.now c.args.parts.now c.in_ok-caches.caches c.in_ok-caches.ensures t q c.in_ok-from_slice.field-0 same_tid c.request_number-request.ensures.number
-    (c.in_ok-from_slice.ensures ∙ c.requires.stores) c.recorded.result c.in_ok-sends.sends c.in_ok-copies.field-0 c.args.notes c.push-2.new.self same_answers sent told c.recorded.ensures
+    (c.in_ok-from_slice.ensures ∙ c.requires.stores) c.recorded.result c.in_ok-sends.sends c.in_ok-copies.field-0 c.args.notes c.push-2.new.self same_answers sent told c.recorded.ensures.plan
 
 pub returns-clause-fits : goal.returns-clause-fits
 returns-clause-fits c =
     decided_fits c.args.self.now c.args.parts.now c.in_ok-caches.caches c.in_ok-caches.ensures c.tid-tid.result c.request_number-request.result c.in_ok-from_slice.field-0
     (c.tid-tid.ensures.tid ∙ (λ i. record { worker = c.self.invariant.worker i; boot = c.self.inside.session.boot; number = c.self.inside.session.number }) ∙ ap tid_at c.self.view_is) c.request_number-request.ensures.number (c.in_ok-from_slice.ensures ∙ c.requires.stores) c.recorded.result _ c.request_number-request.ensures.left
-    (subst AreStores (sym c.in_ok-from_slice.ensures) c.requires.few) c.recorded.ensures
+    (subst AreStores (sym c.in_ok-from_slice.ensures) c.requires.few) c.recorded.ensures.plan c.recorded.ensures.fits
 
 pub recorded-requires : goal.recorded-requires
 recorded-requires c = subst AreStores (sym c.in_ok-from_slice.ensures) c.requires.few

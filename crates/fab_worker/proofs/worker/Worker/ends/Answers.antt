@@ -8,7 +8,7 @@ returns-clause-plan c =
     let x = c.args.self.now in
     let meant = meant_of c.args.done.now.job in
     let telling = c.in_ok-telling.telling in
-    ends_plan x.rights x.program.cache x.node x.kept c.asks.result c.args.value x.attempt meant c.in_ok-parts.parts (parts_of x.attempt.answers meant)
+    ends_plan x.version x.rights x.program.cache x.node x.kept c.asks.result c.args.value x.attempt meant c.in_ok-parts.parts (parts_of x.attempt.answers meant)
     telling.touches telling.downs c.in_ok-notes.notes telling.told c.in_ok-notes.ensures c.in_ok-telling.ensures.touches c.in_ok-telling.ensures.downs
     c.in_ok-telling.ensures.told c.in_ok-parts.ensures.parts c.asks.ensures.plan
 
