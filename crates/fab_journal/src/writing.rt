@@ -1,6 +1,6 @@
 //! Journal records, written.
 
-ghost use Rattle.std.specs.Prelude.{◌≡◌, ◌++◌, OnOk, IfOk};
+ghost use Rattle.std.specs.Prelude.{◌≡◌, ◌++◌, ◌∷◌, OnOk, IfOk};
 ghost use Rattle.std.specs.List.{flat_map};
 ghost use Rattle.fab_base.specs.FieldSpelling.{four_bytes, two_bytes};
 ghost use Rattle.fab_base.specs.declared.entry.Entry.TheVariants.{Decided};
