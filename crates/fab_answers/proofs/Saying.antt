@@ -22,7 +22,8 @@ use Rattle.fab_front.specs.declared.texts.Outcome.TheVariants as outcome
 use Rattle.fab_front.specs.declared.status.Status.{Status}
 use Rattle.fab_front.specs.declared.status.Status.TheVariants.{Ok, Syntax, Name, Label as Labelled, Limit}
 use Rattle.fab_front.specs.Front.{Front, IsFront}
-use Rattle.fab_front.specs.Lines.{label_line, line, name_line, what_word}
+use Rattle.fab_language.specs.Words.{line}
+use Rattle.fab_front.specs.Lines.{label_line, name_line, what_word}
 use Rattle.fab_front.specs.Refused.{AsksBundle, AsksLabels, AsksNames, LacksName, syntax, limit, misnamed, unknown, mislabelled, label_of}
 use Rattle.fab_front.proofs.Faults.{none_first, one_first}
 use Rattle.fab_front.proofs.Outcomes.{no_limit, not_bundle, not_limit, same_at, same_bundle, same_what}

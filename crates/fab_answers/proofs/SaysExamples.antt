@@ -8,7 +8,8 @@ use Rattle.fab_command.specs.declared.command.Command.TheVariants.{Check, Flows,
 use Rattle.fab_front.specs.declared.texts.Outcome.TheVariants as outcome
 use Rattle.fab_front.specs.declared.status.Status.TheVariants.{Ok, Syntax, Name}
 use Rattle.fab_front.specs.Front.{Front, IsFront}
-use Rattle.fab_front.specs.Lines.{line, name_line}
+use Rattle.fab_language.specs.Words.{line}
+use Rattle.fab_front.specs.Lines.{name_line}
 use Rattle.fab_front.specs.Refused.{AsksLabels, LacksName, label_of, syntax, unknown}
 use Rattle.fab_answers.specs.declared.said.Said.TheVariants.{Bundle}
 use Rattle.fab_answers.specs.Says.{IsAnsweredBy, Says, refused, formatted}

@@ -15,7 +15,7 @@ use Rattle.fab_front.specs.declared.texts.Outcome.TheVariants.{Bundle}
 use Rattle.fab_front.specs.declared.status.Status.{Status}
 use Rattle.fab_front.specs.declared.status.Status.TheVariants.{Ok}
 use Rattle.fab_front.specs.Front.{Front, IsFront}
-use Rattle.fab_front.specs.Lines.{line}
+use Rattle.fab_language.specs.Words.{line}
 use Rattle.fab_front.specs.Refused.{Refuses, label_of}
 use Rattle.fab_answers.specs.declared.said.Said.{Said}
 use Rattle.fab_answers.specs.declared.said.Said.TheVariants.{Bundle as More, Reply}

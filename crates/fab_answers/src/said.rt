@@ -8,7 +8,7 @@ ghost use Rattle.fab_answers.specs.Says.{IsAnsweredBy};
 use crate::bundles::{checked, evaluate, flows, format};
 use fab_base::{NoMemory, Seq};
 use fab_command::Command;
-use fab_front::{Outcome, Status, front, limit_line, syntax_line};
+use fab_front::{Outcome, Status, front, limit_line, number_line};
 use fab_tree::Start;
 use std::alloc::Global;
 
@@ -28,7 +28,7 @@ pub fn said_of(alloc: Global, command: &Command, text: &[u8]) -> Result<Said, No
 {
     match front(alloc, text)? {
         Outcome::Syntax { at } => {
-            let reply = syntax_line(alloc, at)?;
+            let reply = number_line(alloc, b"syntax at ", at)?;
             let status = Status::Syntax { at };
             Ok(Said::Reply { status, reply })
         }

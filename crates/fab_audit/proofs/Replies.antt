@@ -13,7 +13,8 @@ use Rattle.fab_front.specs.declared.texts.Outcome.TheVariants as outcome
 use Rattle.fab_front.specs.declared.status.Status.{Status}
 use Rattle.fab_front.specs.declared.status.Status.TheVariants.{Ok, Trace, Wrong}
 use Rattle.fab_front.specs.Front.{Front, IsFront, whole}
-use Rattle.fab_front.specs.Lines.{line, trace_line, wrong_lines}
+use Rattle.fab_language.specs.Words.{line}
+use Rattle.fab_front.specs.Lines.{trace_line, wrong_lines}
 use Rattle.fab_front.specs.Refused.{Refuses, limit, mislabelled, misnamed, syntax, unknown}
 use Rattle.fab_front.proofs.Outcomes.{same_bundle}
 use Rattle.fab_answers.specs.Says.{IsSaid, refused as said_refused}

@@ -8,7 +8,8 @@ use Rattle.fab_labelling.specs.declared.rule.Side.{Side}
 use Rattle.fab_front.specs.declared.status.Status.{Status}
 use Rattle.fab_front.specs.declared.status.Status.TheVariants as status
 use Rattle.fab_front.specs.Front.{IsTooLong}
-use Rattle.fab_front.specs.Lines.{line, what_word}
+use Rattle.fab_language.specs.Words.{line}
+use Rattle.fab_front.specs.Lines.{what_word}
 use Rattle.fab_command.specs.declared.command.Command.TheVariants.{Check}
 use Rattle.fab_front.specs.Refused.{Refuses, limit, mislabelled, misnamed, syntax, unknown}
 use Rattle.fab_audit.specs.Audits.{Audits, IsAudited, refused, right, too_long, traced, unreported, wrong}

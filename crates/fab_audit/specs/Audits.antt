@@ -11,7 +11,8 @@ use Rattle.fab_front.specs.declared.texts.Outcome.TheVariants as outcome
 use Rattle.fab_front.specs.declared.status.Status.{Status}
 use Rattle.fab_front.specs.declared.status.Status.TheVariants.{Limit, Ok, Trace, Wrong}
 use Rattle.fab_front.specs.Front.{Front, IsTooLong}
-use Rattle.fab_front.specs.Lines.{line, trace_line, what_word, wrong_lines}
+use Rattle.fab_language.specs.Words.{line}
+use Rattle.fab_front.specs.Lines.{trace_line, what_word, wrong_lines}
 use Rattle.fab_front.specs.Refused.{Refuses}
 use Rattle.fab_evidence.specs.Parts.{HasNoReport, IsParted}
 use Rattle.fab_evidence.specs.Texts.{IsBadAudit}

@@ -12,7 +12,7 @@ use crate::verdict::{AuditError, Verdict};
 use fab_base::{NoMemory, Seq, What};
 use fab_evidence::report_place;
 use fab_front::{
-    Accepted, Outcome, Status, accept, front, limit_line, mislabelled, refused, syntax_line, trace,
+    Accepted, Outcome, Status, accept, front, limit_line, mislabelled, number_line, refused, trace,
     wrong,
 };
 use fab_setup::{Setup, accepted_setup};
@@ -54,7 +54,7 @@ fn read_part(alloc: Global, part: &[u8]) -> Result<Read, NoMemory>
 {
     match front(alloc, part)? {
         Outcome::Syntax { at } => {
-            let reply = syntax_line(alloc, at)?;
+            let reply = number_line(alloc, b"syntax at ", at)?;
             let status = Status::Syntax { at };
             Ok(Read::Refused { status, reply })
         }

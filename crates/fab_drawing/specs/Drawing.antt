@@ -13,7 +13,8 @@ use Rattle.fab_language.specs.Numbers.{resolved}
 use Rattle.fab_front.specs.declared.texts.Outcome.TheVariants as outcome
 use Rattle.fab_front.specs.declared.status.Status.TheVariants.{Ok, Syntax, Name, Limit}
 use Rattle.fab_front.specs.Front.{IsFront}
-use Rattle.fab_front.specs.Lines.{line, name_line, what_word}
+use Rattle.fab_language.specs.Words.{line}
+use Rattle.fab_front.specs.Lines.{name_line, trace_line, what_word}
 use Rattle.fab_reports.specs.declared.line.Line.{Line}
 use Rattle.fab_reports.specs.Reports.{IsReport, IsBadPlace}
 use Rattle.fab_picture.specs.Fitting.{first_unfit, place_behind}
@@ -24,9 +25,6 @@ use Rattle.fab_drawing.specs.declared.asked.Asked.{Asked}
 use Rattle.fab_drawing.specs.declared.ending.Ending.{Ending}
 use Rattle.fab_drawing.specs.declared.ending.Ending.TheVariants.{Plain, Trace}
 use Rattle.fab_drawing.specs.Parts.{bundle_part, report_part}
-
-abbrev pub trace_line : ℕ → List ℕ
-trace_line at = line (codes "trace at " ++ decimal at)
 
 -- Traces r asked bundle report ending reply: of what stands behind a bundle whose names are right the place at which it is no report is told, or
 -- that of its first line that names a node that the bundle doesn't have. Else the picture is drawn; labels play no part. Places are counted from

@@ -2,7 +2,7 @@
 use Rattle.std.specs.Prelude.{◌≡◌, ◌≢◌, ◌⊎◌, ℕ, List, [], codes, Option, Some, None}
 use Rattle.std.specs.Io.KnownBytes.{Appends, Keeps}
 use Rattle.fab_front.specs.declared.status.Status.TheVariants as s
-use Rattle.fab_front.specs.Lines.{line}
+use Rattle.fab_language.specs.Words.{line}
 use Rattle.fab_front.specs.Reading.{ReadsText, WritesFront}
 use Rattle.fab_drawing.specs.declared.asked.Asked.{Asked}
 use Rattle.fab_drawing.specs.declared.ending.Ending.{Ending}

@@ -2,20 +2,21 @@
 ghost use Rattle.std.specs.Prelude.{◌≡◌, ◌+◌, ◌++◌, ◌≤◌, IfOk, None as Nothing, codes, length};
 ghost use Rattle.fab_tree.specs.Limits.{first_passed};
 ghost use Rattle.fab_front.specs.declared.status.Status.TheVariants.{Limit, Name, Ok as Done, Syntax};
-ghost use Rattle.fab_front.specs.Lines.{line, name_line, what_word};
+ghost use Rattle.fab_language.specs.Words.{line};
+ghost use Rattle.fab_front.specs.Lines.{name_line, trace_line, what_word};
 ghost use Rattle.fab_language.specs.declared.rule.NameRule.TheVariants.{Unknown};
 ghost use Rattle.fab_reports.specs.Reports.{IsReport};
 ghost use Rattle.std.specs.Fmt.{decimal};
 ghost use Rattle.fab_picture.specs.Picture.{picture as picture_of};
 ghost use Rattle.fab_svg.specs.Svg.{svg as svg_of};
 ghost use Rattle.fab_drawing.specs.declared.ending.Ending.TheVariants.{Plain, Trace};
-ghost use Rattle.fab_drawing.specs.Drawing.{Draws, Says, Traces, trace_line as trace_line_of};
+ghost use Rattle.fab_drawing.specs.Drawing.{Draws, Says, Traces};
 
 use crate::asked::Asked;
 use crate::ending::Ending;
 use crate::parts::{parted, place_behind};
 use fab_base::{NoMemory, Seq, What};
-use fab_front::{Outcome, Status, front, limit_line, named, refused, syntax_line, unknown};
+use fab_front::{Outcome, Status, front, limit_line, named, number_line, refused, unknown};
 use fab_language::Fault;
 use fab_marks::are_nodes;
 use fab_picture::{first_unfit, picture};
@@ -28,22 +29,11 @@ use std::alloc::{AllocError, Global};
 /// The most bytes that a text has.
 const BYTES: usize = 4_194_304;
 
-/// `trace at` and the place.
-fn trace_line(alloc: Global, at: u32) -> Result<Seq<u8>, NoMemory>
-    ensures { IfOk result (λ out. out ≡ trace_line_of at) }
-{
-    let mut out = Seq::from_slice(alloc, b"trace at ")?;
-    let digits = format!(in alloc; "{at}")?;
-    out.extend(digits.as_str().as_bytes())?;
-    out.push(b'\n')?;
-    Ok(out)
-}
-
 /// The reply to a report that goes wrong at a place.
 fn untraced(alloc: Global, at: u32) -> Result<(Ending, Seq<u8>), NoMemory>
-    ensures { IfOk result (λ r. (r.0 ≡ Trace at) × (r.1 ≡ trace_line_of at)) }
+    ensures { IfOk result (λ r. (r.0 ≡ Trace at) × (r.1 ≡ trace_line at)) }
 {
-    let reply = trace_line(alloc, at)?;
+    let reply = number_line(alloc, b"trace at ", at)?;
     Ok((Ending::Trace { at }, reply))
 }
 
@@ -160,7 +150,7 @@ fn limited(alloc: Global, what: What) -> Result<(Ending, Seq<u8>), NoMemory>
 fn unspelled(alloc: Global, at: u32) -> Result<(Ending, Seq<u8>), NoMemory>
     ensures { IfOk result (λ r. (r.0 ≡ Plain (Syntax at)) × (r.1 ≡ line (codes "syntax at " ++ decimal at))) }
 {
-    let reply = syntax_line(alloc, at)?;
+    let reply = number_line(alloc, b"syntax at ", at)?;
     Ok((Ending::Plain(Status::Syntax { at }), reply))
 }
 

@@ -14,7 +14,8 @@ use Rattle.fab_front.specs.declared.texts.Outcome.TheVariants as outcome
 use Rattle.fab_front.specs.declared.status.Status.{Status}
 use Rattle.fab_front.specs.declared.status.Status.TheVariants.{Ok, Limit, Name, Syntax}
 use Rattle.fab_front.specs.Front.{Front}
-use Rattle.fab_front.specs.Lines.{line, name_line}
+use Rattle.fab_language.specs.Words.{line}
+use Rattle.fab_front.specs.Lines.{name_line}
 use Rattle.fab_front.specs.Named.{are_node_names}
 use Rattle.fab_front.specs.Readable.{IsReadable, is_declared_hostile}
 use Rattle.fab_front.specs.Refused.{AsksLabels, AsksNames, LacksName, Refuses, limit, mislabelled, misnamed, syntax, unknown}

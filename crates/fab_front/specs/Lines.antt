@@ -1,22 +1,18 @@
 -- The lines of refusals.
-use Rattle.std.specs.Prelude.{ℕ, List, [], ◌∷◌, ◌++◌, option_map, slice_get, codes}
+use Rattle.std.specs.Prelude.{ℕ, List, [], ◌++◌, option_map, slice_get, codes}
 use Rattle.std.specs.Fmt.{decimal}
 use Rattle.fab_base.specs.declared.limit.What.{What}
 use Rattle.fab_base.specs.declared.limit.What.TheVariants as w
 use Rattle.fab_language.specs.declared.rule.NameRule.{NameRule}
 use Rattle.fab_language.specs.declared.rule.NameRule.TheVariants as rule
 use Rattle.fab_language.specs.Flows.{principal_text}
-use Rattle.fab_language.specs.Words.{text_or}
+use Rattle.fab_language.specs.Words.{line, text_or}
 use Rattle.fab_tree.specs.declared.resolved.Resolved.{Resolved}
 use Rattle.fab_labelling.specs.declared.rule.LabelRule.{LabelRule}
 use Rattle.fab_labelling.specs.declared.rule.LabelRule.TheVariants as labels
 use Rattle.fab_labelling.specs.declared.rule.Refusal.{Refusal}
 use Rattle.fab_labelling.specs.declared.rule.Side.{Side}
 use Rattle.fab_labelling.specs.declared.rule.Side.TheVariants as side
-
--- a line of a text
-abbrev pub line : List ℕ → List ℕ
-line letters = letters ++ 10 ∷ []
 
 abbrev pub what_word : What → List ℕ
 what_word w.Bytes = codes "bytes"

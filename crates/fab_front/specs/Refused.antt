@@ -19,7 +19,8 @@ use Rattle.fab_front.specs.declared.texts.Outcome.TheVariants as outcome
 use Rattle.fab_front.specs.declared.status.Status.{Status}
 use Rattle.fab_front.specs.declared.status.Status.TheVariants.{Syntax, Name, Label as Labelled, Limit}
 use Rattle.fab_front.specs.Front.{Front}
-use Rattle.fab_front.specs.Lines.{label_line, line, name_line, what_word}
+use Rattle.fab_language.specs.Words.{line}
+use Rattle.fab_front.specs.Lines.{label_line, name_line, what_word}
 use Rattle.fab_front.specs.Named.{are_node_names}
 use Rattle.fab_front.specs.Readable.{IsReadable}
 

@@ -10,9 +10,7 @@ mod texts;
 mod writing;
 
 pub use accepted::{Accepted, accept, named};
-pub use lines::{
-    barred_line, label_line, limit_line, name_line, no_least_line, robust_line, syntax_line,
-};
+pub use lines::{label_line, limit_line, name_line, number_line, robust_line};
 pub use reading::{ReadError, read_all};
 pub use replies::{mislabelled, no_least, refused, trace, unknown, unrobust, usage, wrong};
 pub use status::Status;

@@ -1,7 +1,8 @@
 //! The lines of refusals.
 ghost use Rattle.std.specs.Prelude.{◌≡◌, ◌++◌, IfOk, OnOk, codes};
 ghost use Rattle.std.specs.Fmt.{decimal};
-ghost use Rattle.fab_front.specs.Lines.{label_line, label_rule_word as label_word_of, line, line as line_of, name_line, no_least_line, robust_line, rule_word as rule_word_of, side_text, trace_line, what_word as word_of, wrong_lines};
+ghost use Rattle.fab_front.specs.Lines.{label_line, label_rule_word as label_word_of, name_line, robust_line, rule_word as rule_word_of, side_text, what_word as word_of, wrong_lines};
+ghost use Rattle.fab_language.specs.Words.{line as line_of};
 
 use fab_base::{NoMemory, Seq, What};
 use fab_labelling::{LabelRule, Refusal, Side};
@@ -36,7 +37,7 @@ fn what_word(what: What) -> &'static str
 
 /// `limit` and what there is too much of.
 pub fn limit_line(alloc: Global, what: What) -> Result<Seq<u8>, NoMemory>
-    ensures { IfOk result (λ out. out ≡ line (codes "limit " ++ word_of what)) }
+    ensures { IfOk result (λ out. out ≡ line_of (codes "limit " ++ word_of what)) }
 {
     let mut out = Seq::from_slice(alloc, b"limit ")?;
     out.extend(what_word(what).as_bytes())?;
@@ -44,34 +45,12 @@ pub fn limit_line(alloc: Global, what: What) -> Result<Seq<u8>, NoMemory>
     Ok(out)
 }
 
-/// `syntax at` and the place.
-pub fn syntax_line(alloc: Global, at: u32) -> Result<Seq<u8>, NoMemory>
-    ensures { IfOk result (λ out. out ≡ line (codes "syntax at " ++ decimal at)) }
+/// Words with their blank, and a number behind them: `syntax at` and the place, `not enabled` and the number of the event.
+pub fn number_line(alloc: Global, words: &[u8], number: u32) -> Result<Seq<u8>, NoMemory>
+    ensures { IfOk result (λ out. out ≡ line_of (words.now ++ decimal number)) }
 {
-    let mut out = Seq::from_slice(alloc, b"syntax at ")?;
-    let digits = format!(in alloc; "{at}")?;
-    out.extend(digits.as_str().as_bytes())?;
-    out.push(b'\n')?;
-    Ok(out)
-}
-
-/// `not enabled` and the number of the event.
-pub fn barred_line(alloc: Global, event: u32) -> Result<Seq<u8>, NoMemory>
-    ensures { IfOk result (λ out. out ≡ line (codes "not enabled " ++ decimal event)) }
-{
-    let mut out = Seq::from_slice(alloc, b"not enabled ")?;
-    let digits = format!(in alloc; "{event}")?;
-    out.extend(digits.as_str().as_bytes())?;
-    out.push(b'\n')?;
-    Ok(out)
-}
-
-/// `no least at` and the place.
-pub fn no_least_line(alloc: Global, at: u32) -> Result<Seq<u8>, NoMemory>
-    ensures { IfOk result (λ out. out ≡ no_least_line at) }
-{
-    let mut out = Seq::from_slice(alloc, b"no least at ")?;
-    let digits = format!(in alloc; "{at}")?;
+    let mut out = Seq::from_slice(alloc, words)?;
+    let digits = format!(in alloc; "{number}")?;
     out.extend(digits.as_str().as_bytes())?;
     out.push(b'\n')?;
     Ok(out)
@@ -181,28 +160,6 @@ pub fn robust_line(
     Ok(out)
 }
 
-/// `trace at` and the place.
-pub fn trace_line(alloc: Global, at: u32) -> Result<Seq<u8>, NoMemory>
-    ensures { IfOk result (λ out. out ≡ trace_line at) }
-{
-    let mut out = Seq::from_slice(alloc, b"trace at ")?;
-    let digits = format!(in alloc; "{at}")?;
-    out.extend(digits.as_str().as_bytes())?;
-    out.push(b'\n')?;
-    Ok(out)
-}
-
-/// `wrong line` and its number.
-fn number_line(alloc: Global, line: u32) -> Result<Seq<u8>, NoMemory>
-    ensures { IfOk result (λ out. out ≡ line_of (codes "wrong line " ++ decimal line)) }
-{
-    let mut out = Seq::from_slice(alloc, b"wrong line ")?;
-    let digits = format!(in alloc; "{line}")?;
-    out.extend(digits.as_str().as_bytes())?;
-    out.push(b'\n')?;
-    Ok(out)
-}
-
 /// A word with its blank, and a text behind it.
 fn titled_line(alloc: Global, title: &[u8], text: &[u8]) -> Result<Seq<u8>, NoMemory>
     ensures { IfOk result (λ out. out ≡ line_of (title.now ++ text.now)) }
@@ -217,7 +174,7 @@ fn titled_line(alloc: Global, title: &[u8], text: &[u8]) -> Result<Seq<u8>, NoMe
 pub fn wrong_lines(alloc: Global, line: u32, found: &[u8], kept: &[u8]) -> Result<Seq<u8>, NoMemory>
     ensures { IfOk result (λ out. out ≡ wrong_lines line found.now kept.now) }
 {
-    let mut out = number_line(alloc, line)?;
+    let mut out = number_line(alloc, b"wrong line ", line)?;
     let there = titled_line(alloc, b"found ", found)?;
     out.extend(there.as_slice())?;
     let due = titled_line(alloc, b"kept ", kept)?;

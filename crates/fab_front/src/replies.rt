@@ -1,10 +1,11 @@
 //! The replies to what is refused: the status with the line.
 ghost use Rattle.std.specs.Prelude.{◌≡◌, ◌≤◌, IfOk, codes, length};
 ghost use Rattle.fab_language.specs.declared.rule.NameRule.TheVariants.{Unknown};
-ghost use Rattle.fab_front.specs.Lines.{label_line, line, name_line, no_least_line, robust_line, trace_line, wrong_lines};
+ghost use Rattle.fab_language.specs.Words.{line};
+ghost use Rattle.fab_front.specs.Lines.{label_line, name_line, no_least_line, robust_line, trace_line, wrong_lines};
 ghost use Rattle.fab_front.specs.declared.status.Status.TheVariants.{Label as Labelled, Name, NoLeast, Robust, Trace, Usage, Wrong};
 
-use crate::lines::{label_line, name_line, no_least_line, robust_line, trace_line, wrong_lines};
+use crate::lines::{label_line, name_line, number_line, robust_line, wrong_lines};
 use crate::status::Status;
 use fab_base::{NoMemory, Seq};
 use fab_labelling::Refusal;
@@ -72,7 +73,7 @@ pub fn unknown(alloc: Global, text: &[u8]) -> Result<(Status, Seq<u8>), NoMemory
 pub fn no_least(alloc: Global, at: u32) -> Result<(Status, Seq<u8>), NoMemory>
     ensures { IfOk result (λ r. (r.0 ≡ NoLeast at) × (r.1 ≡ no_least_line at)) }
 {
-    let reply = no_least_line(alloc, at)?;
+    let reply = number_line(alloc, b"no least at ", at)?;
     Ok((Status::NoLeast { at }, reply))
 }
 
@@ -99,7 +100,7 @@ pub fn unrobust(
 pub fn trace(alloc: Global, at: u32) -> Result<(Status, Seq<u8>), NoMemory>
     ensures { IfOk result (λ r. (r.0 ≡ Trace at) × (r.1 ≡ trace_line at)) }
 {
-    let reply = trace_line(alloc, at)?;
+    let reply = number_line(alloc, b"trace at ", at)?;
     Ok((Status::Trace { at }, reply))
 }
 

@@ -9,7 +9,8 @@ use Rattle.fab_front.specs.declared.status.Status.{Status}
 use Rattle.fab_front.specs.declared.status.Status.TheVariants.{Ok, Usage, ReadFault, WriteFault, Memory, Syntax, Limit, Name, Label as Labelled, NotEnabled, JournalFault, NoLeast, Robust, Trace, Wrong}
 use Rattle.fab_front.specs.declared.texts.Outcome.TheVariants as outcome
 use Rattle.fab_front.specs.Front.{IsFront, IsTooLong}
-use Rattle.fab_front.specs.Lines.{line, what_word}
+use Rattle.fab_language.specs.Words.{line}
+use Rattle.fab_front.specs.Lines.{what_word}
 use Rattle.fab_reply.specs.Reply.{Answers, one_reply, interrupted, ran, in_run, without_text, sound, faulty, IsNoRefusal, Interrupted, IsComplete, IsJournalFault, Ran, Replies, usage, said, replayed, barred, unrobust, inferred, audited}
 use Rattle.fab_reply.specs.Reply.{AreCut, cut_short, untouched, AreLeft, JournalsAre, RepliesInPart, IsReply, IsInput, unasked, read, RepliesWith, Ends, ComesTo, SpeaksOfText}
 use Rattle.fab_front.specs.Refused.{AsksBundle, syntax, limit, misnamed as name_refused, unknown, mislabelled}

@@ -13,7 +13,8 @@ use Rattle.fab_front.specs.declared.texts.Outcome.TheVariants as outcome
 use Rattle.fab_front.specs.declared.status.Status.{Status}
 use Rattle.fab_front.specs.declared.status.Status.TheVariants.{NotEnabled, Ok, Robust, Usage}
 use Rattle.fab_front.specs.Front.{Front, IsFront}
-use Rattle.fab_front.specs.Lines.{barred_line, line, robust_line}
+use Rattle.fab_language.specs.Words.{line}
+use Rattle.fab_front.specs.Lines.{barred_line, robust_line}
 use Rattle.fab_front.specs.Named.{are_node_names}
 use Rattle.fab_front.specs.Refused.{AsksLabels, LacksName, syntax, limit, misnamed, unknown, mislabelled}
 use Rattle.fab_front.proofs.Faults.{none_first}

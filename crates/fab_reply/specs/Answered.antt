@@ -6,7 +6,7 @@ use Rattle.fab_device.specs.Kept.{Makers}
 use Rattle.fab_command.specs.declared.command.Command.{Command}
 use Rattle.fab_command.specs.declared.task.Task.{Task}
 use Rattle.fab_command.specs.declared.task.Task.TheVariants.{Generate}
-use Rattle.fab_front.specs.Lines.{line}
+use Rattle.fab_language.specs.Words.{line}
 use Rattle.fab_front.specs.Reading.{TakesAtMost}
 use Rattle.fab_front.specs.declared.status.Status.{Status}
 use Rattle.fab_front.specs.declared.status.Status.TheVariants.{Ok, Usage, ReadFault, WriteFault, Memory, JournalFault}

@@ -12,7 +12,8 @@ use Rattle.fab_trusted.specs.Robust.{IsFirstUnkept, guards}
 use Rattle.fab_front.specs.declared.texts.Outcome.{Outcome}
 use Rattle.fab_front.specs.declared.texts.Outcome.TheVariants as outcome
 use Rattle.fab_front.specs.Front.{Front, IsFront}
-use Rattle.fab_front.specs.Lines.{barred_line, line, robust_line}
+use Rattle.fab_language.specs.Words.{line}
+use Rattle.fab_front.specs.Lines.{barred_line, robust_line}
 use Rattle.fab_front.specs.Named.{are_node_names}
 use Rattle.fab_front.specs.Refused.{AsksLabels}
 use Rattle.fab_answers.specs.Says.{Says}

@@ -28,7 +28,7 @@ use fab_command::{Command, Telling};
 use fab_core::Core;
 use fab_device::Journals;
 use fab_front::{
-    Accepted, Status, accept, barred_line, mislabelled, named, refused, unknown, unrobust,
+    Accepted, Status, accept, mislabelled, named, number_line, refused, unknown, unrobust,
 };
 use fab_listing::{hostile_nodes, nodes_named};
 use fab_replay::{
@@ -48,7 +48,7 @@ fn told(alloc: Global, answer: Replayed) -> Result<(Status, Seq<u8>), NoMemory>
     match answer {
         Replayed::Done(report) => Ok((Status::Ok, report)),
         Replayed::NotEnabled { event } => {
-            let reply = barred_line(alloc, event)?;
+            let reply = number_line(alloc, b"not enabled ", event)?;
             Ok((Status::NotEnabled { event }, reply))
         }
         Replayed::JournalFault { node, report } => {

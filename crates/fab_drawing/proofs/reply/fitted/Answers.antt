@@ -1,10 +1,11 @@
 use Rattle.std.proofs.Common.{ℕ, ◌+◌, List, length, sym, ap, ◌∙◌}
+use Rattle.fab_front.specs.Lines.{trace_line}
 use Rattle.fab_front.specs.declared.status.Status.TheVariants.{Ok}
 use Rattle.fab_picture.specs.Fitting.{place_behind}
 use Rattle.fab_picture.specs.Picture.{picture}
 use Rattle.fab_svg.specs.Svg.{svg}
 use Rattle.fab_drawing.specs.declared.ending.Ending.TheVariants.{Plain, Trace}
-use Rattle.fab_drawing.specs.Drawing.{Traces, drawn, trace_line, unfit}
+use Rattle.fab_drawing.specs.Drawing.{Traces, drawn, unfit}
 use Rattle.fab_drawing.proofs.Replies.{if_ended}
 use Rattle.fab_drawing.proofs.reply.fitted.Goals as goal
 

@@ -3,7 +3,8 @@ use Rattle.std.specs.Fmt.{decimal}
 use Rattle.fab_tree.specs.declared.start.Start.{Start}
 use Rattle.fab_base.specs.declared.limit.What.TheVariants.{Bytes}
 use Rattle.fab_front.specs.Front.{IsFront}
-use Rattle.fab_front.specs.Lines.{line, what_word}
+use Rattle.fab_language.specs.Words.{line}
+use Rattle.fab_front.specs.Lines.{what_word}
 use Rattle.fab_front.specs.declared.status.Status.TheVariants.{Limit, Syntax}
 use Rattle.fab_front.specs.declared.texts.Outcome.{Outcome}
 use Rattle.fab_front.specs.declared.texts.Outcome.TheVariants as outcome

@@ -1,6 +1,7 @@
 use Rattle.std.proofs.Common.{ℕ, ◌+◌, ◌≤◌, length, arith}
+use Rattle.fab_front.specs.Lines.{trace_line}
 use Rattle.fab_drawing.specs.declared.ending.Ending.TheVariants.{Trace}
-use Rattle.fab_drawing.specs.Drawing.{Traces, trace_line, untraced}
+use Rattle.fab_drawing.specs.Drawing.{Traces, untraced}
 use Rattle.fab_drawing.proofs.Replies.{bad_by, if_ended}
 use Rattle.fab_drawing.proofs.reply.traced.Goals as goal
 
