@@ -132,7 +132,7 @@ module _ (S : Setting) (given : IsSetting S) (law : IsEvaluation S) (honest : No
       tid_is_next = λ j. record { worker = n; boot = alone.boot j; number = number j }
 
       tid_next_fits : IsTid (tid_next n k)
-      tid_next_fits = subst IsTid tid_is_next (tid_fits S given law honest w cs good n me)
+      tid_next_fits = subst IsTid tid_is_next (tid_fits S given law w cs good n (worker_is S given law honest n me))
 
       meant_is : meant S w n ≡ meant_now S n k a.answers
       meant_is = λ j. S.means n (request_is j) (tid_is_next j) (map_of (objects_of a.answers))
@@ -141,7 +141,7 @@ module _ (S : Setting) (given : IsSetting S) (law : IsEvaluation S) (honest : No
       parts_are = ap (parts_of a.answers) meant_is
 
       fit : AreFit S (objects_of a.answers)
-      fit = answers_fit S given law honest w cs good n me
+      fit = answers_fit S given law w cs good n (worker_is S given law honest n me)
 
       has_rows : (r : Row) → In r a.answers → HasRow S n alone.table r
       has_rows r h = (alone.answered r h).0
@@ -153,7 +153,7 @@ module _ (S : Setting) (given : IsSetting S) (law : IsEvaluation S) (honest : No
       its_parts = parts_now S n k a.answers
 
       low : AllByRecursion (λ (r : Row). r.1 < 4294967296) a.answers
-      low = answers_low S given law honest w cs good n me
+      low = answers_low S given law w cs good n (worker_is S given law honest n me)
 
       -- ---- it ended
 

@@ -1,12 +1,13 @@
 -- What is compared is what belongs in the places of the lines.
-use Rattle.std.specs.Prelude.{◌≡◌, ℕ, suc, ◌+◌, ◌≤◌, ◌==◌, Bool, true, false, List, [], ◌∷◌, ◌++◌, map, length, Option, Some, None, Result, Ok, Err, IfOk, if◌then◌else◌}
+use Rattle.std.specs.Prelude.{◌≡◌, ℕ, suc, ◌+◌, ◌≤◌, ◌==◌, Bool, true, false, List, ◌++◌, map, length, Option, Some, None, Result, Ok, Err, IfOk, if◌then◌else◌}
 use Rattle.std.specs.List.{AllByRecursion}
-use Rattle.std.proofs.Common.{refl, sym, ap, ◌∙◌, subst, arith, length-append}
+use Rattle.std.proofs.Common.{sym, ap, ◌∙◌, subst, arith, length-append}
 use Rattle.fab_tree.specs.declared.resolved.Resolved.{Resolved}
 use Rattle.fab_rights.specs.declared.rights.Rights.{Rights}
 use Rattle.fab_settings.specs.Settings.{setting_of}
 use Rattle.fab_net.specs.declared.note.Logged.{Logged}
-use Rattle.fab_world.specs.Machine.{Move, Setting, World, at_start, logs, step}
+use Rattle.fab_world.specs.Machine.{Move, at_start, logs}
+use Rattle.fab_world.proofs.Steps.{logs_long}
 use Rattle.fab_node.specs.Standing.{GivenModel}
 use Rattle.fab_core.specs.Cores.{CoreModel, setting}
 use Rattle.fab_core.specs.Honest.{honest_in}
@@ -34,10 +35,6 @@ use Rattle.fab_audit.proofs.Names.{are_named}
 use Rattle.fab_audit.proofs.Verdicts.{audited, first_right}
 
 -- the log has an entry for each move
-pub logs_long : (S : Setting) (w : World) (moves : List Move) → length (logs S w moves) ≡ length moves
-logs_long S w [] = refl
-logs_long S w (x ∷ moves) = ap suc (logs_long S (step S w x) moves)
-
 pub log_long : (g : GivenModel) (moves : List Move) (log : List Logged) → log ≡ logs (setting g) (at_start (setting g)) moves → length log + 1 ≡ suc (length moves)
 log_long g moves log is =
     let long : length log ≡ length moves = ap length is ∙ logs_long (setting g) (at_start (setting g)) moves in omega (arith, long)

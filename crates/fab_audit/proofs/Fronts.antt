@@ -3,34 +3,18 @@ use Rattle.std.specs.Prelude.{◌≡◌, ℕ, suc, ◌+◌, ◌≤◌, Bool, tru
 use Rattle.std.specs.Option.{option_map}
 use Rattle.std.proofs.Common.{refl, sym, ap, ◌∙◌, subst, arith}
 use Rattle.std.proofs.lemmas.Bool.{and_from, and_parts}
-use Rattle.fab_net.specs.declared.event.Inner.{Inner}
-use Rattle.fab_net.specs.declared.event.Inner.TheVariants as i
-use Rattle.fab_world.specs.Machine.{Move, Setting, World, Form, Does, Cuts, Fails, Posts, Crashes, Never, are_enabled, at_start, enabled, form_of, step}
-use Rattle.fab_world.specs.Serial.{IsRun, attempts, attempts_at, attempts_in}
+use Rattle.fab_world.specs.Machine.{Move, Setting, World, are_enabled, at_start, enabled, form_of, step}
+use Rattle.fab_world.specs.Serial.{IsRun, attempts, attempts_at}
+use Rattle.fab_world.proofs.Steps.{one_attempt}
 use Rattle.fab_evidence.specs.declared.shown.Told.{Told}
 use Rattle.fab_audit.specs.Runs.{all_moves, front_from, move_of}
 
 -- ---- attempts
 
-one_in : (e : Inner) → attempts_in e ≤ 1
-one_in (i.Begin n) = omega arith
-one_in (i.Resume n) = omega arith
-one_in (i.Deliver a b) = omega arith
-one_in (i.Idle n s) = omega arith
-one_in (i.Recover n) = omega arith
-
-one_at : (form : Form) → attempts_at form ≤ 1
-one_at (Does e) = one_in e
-one_at (Cuts keep e) = one_in e
-one_at (Fails keep e) = one_in e
-one_at (Posts h) = omega arith
-one_at (Crashes n) = omega arith
-one_at Never = omega arith
-
 attempts_from : (moves : List Move) (n : ℕ) → fold (λ n move. n + attempts_at (form_of move)) n moves ≤ n + length moves
 attempts_from [] n = omega arith
 attempts_from (move ∷ moves) n =
-    let one = one_at (form_of move) in
+    let one = one_attempt (form_of move) in
     let rest = attempts_from moves (n + attempts_at (form_of move)) in
     omega (arith, one, rest)
 

@@ -7,10 +7,11 @@ use Rattle.fab_net.specs.declared.event.Inner.TheVariants as i
 use Rattle.fab_queues.specs.Channels.{Network, queue_of, sent_of}
 use Rattle.fab_world.specs.Machine.{Setting, World, Node, Cuts, Fails, Crashes, node_of, with_at, rest_of, ready, steps}
 use Rattle.fab_node.specs.Standing.{GivenModel, NodeModel, Stands}
+use Rattle.fab_world.proofs.Steps.{ready_posts, ready_sent}
 use Rattle.fab_core.specs.Cores.{NodesStand, StandsFor, setting}
 use Rattle.fab_core.specs.Places.{AreOthers, IsAt}
 use Rattle.fab_core.proofs.Filled.{nodes_after}
-use Rattle.fab_core.proofs.Tables.{ready_posts, ready_queue, ready_sent}
+use Rattle.fab_core.proofs.Tables.{ready_queue}
 
 -- the queues to a node are empty
 pub record IsDropped (n : ℕ) (old new : Network) : Type 0 where
@@ -79,4 +80,4 @@ fail_falls S w keep e others = record { others = others; queue = λ a b. refl; s
 
 pub cut_falls : (S : Setting) (w : World) (keep : ℕ) (e : Inner) → ((m : ℕ) → (m ≡ node_of e → ⊥) → (steps S w (Cuts keep e)).node m ≡ w.node m)
     → HasFallen (node_of e) w (steps S w (Cuts keep e))
-cut_falls S w keep e others = record { others = others; queue = cut_queue S w e; sent = ready_sent S w e; posts = ready_posts S w e }
+cut_falls S w keep e others = record { others = others; queue = cut_queue S w e; sent = λ a b. ap (λ (f : ℕ → ℕ → List (List ℕ)). f a b) (ready_sent S w e); posts = λ h. ap (λ (f : ℕ → List (ℕ × List ℕ)). f h) (ready_posts S w e) }

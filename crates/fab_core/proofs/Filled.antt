@@ -1,5 +1,5 @@
 -- Nodes in their slots, and the journals that they have.
-use Rattle.std.specs.Prelude.{◌≡◌, ◌⊎◌, ◌<◌, ◌≤◌, ◌-◌, ℕ, zero, suc, Bool, true, false, not, ◌&&◌, IsTrue, IsFalse, List, [], ◌∷◌, ◌++◌, map, length, Option, Some, None, Result, Ok, Err, IfOk, IsErrOf, slice_set, slice_index_or}
+use Rattle.std.specs.Prelude.{◌≡◌, ◌⊎◌, ◌<◌, ◌≤◌, ◌-◌, ℕ, zero, suc, Bool, true, false, not, ◌&&◌, IsTrue, IsFalse, List, [], ◌∷◌, ◌++◌, map, length, Option, Some, None, Result, Ok, Err, IsErrOf, slice_set, slice_index_or}
 use Rattle.std.specs.Option.{option_map}
 use Rattle.std.proofs.Common.{refl, sym, ap, ◌∙◌, subst, inl, inr, arith, true≢false}
 use Rattle.std.proofs.lemmas.Bool.{cases_eq, cases_lt, and_parts}
@@ -178,10 +178,6 @@ pub caused_by : {T : Type 0} (n : ℕ) (old new : List (Option NodeModel)) (befo
     → IsCaused n (IsErrOf r Failed) (journals_of old) (journals_of new)
 caused_by n old new before after r was is others cause sure =
     caused_at n (IsErrOf r Failed) old new before after was is others cause.later cause.failed (unfailed before.journal.faults after.journal.faults r cause) sure.kept sure.never
-
-pub if_ok : {T E : Type 0} (r : Result T E) (P Q : T → Type 0) → ((t : T) → P t → Q t) → IfOk r P → IfOk r Q
-if_ok (Ok t) P Q f h = f t h
-if_ok (Err e) P Q f h = tt
 
 -- a slot has one node
 pub same_node : {n : ℕ} {nodes : List (Option NodeModel)} {x y : NodeModel} → IsAt n nodes x → IsAt n nodes y → x ≡ y

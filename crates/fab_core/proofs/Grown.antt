@@ -2,30 +2,14 @@
 use Rattle.std.specs.Prelude.{◌≡◌, ◌<◌, ◌≤◌, ◌+◌, ℕ, IsTrue, List, [], ◌∷◌, ◌++◌, map, Option}
 use Rattle.std.proofs.Common.{refl, sym, ap, ◌∙◌, subst, arith}
 use Rattle.std.proofs.lemmas.List.{map-append}
-use Rattle.fab_net.specs.declared.event.Inner.{Inner}
-use Rattle.fab_net.specs.declared.event.Inner.TheVariants as i
 use Rattle.fab_net.specs.declared.note.Logged.{Logged}
 use Rattle.fab_queues.specs.Channels.{Network}
-use Rattle.fab_world.specs.Machine.{Setting, World, Move, Form, Does, Cuts, Fails, Posts, Crashes, Never, form_of, at_start, step, enabled, runs, are_enabled, logged, logs}
-use Rattle.fab_world.specs.Serial.{attempts, attempts_at, attempts_in}
+use Rattle.fab_world.specs.Machine.{Setting, World, Move, form_of, at_start, step, enabled, runs, are_enabled, logged, logs}
+use Rattle.fab_world.specs.Serial.{attempts}
 use Rattle.fab_node.specs.Standing.{GivenModel, NodeModel}
+use Rattle.fab_world.proofs.Steps.{logs_more, one_attempt}
 use Rattle.fab_core.specs.Cores.{IsCore, StandsFor, move_of, setting, world_by}
-use Rattle.fab_core.proofs.Histories.{runs_more, logs_more, enabled_more, attempts_more}
-
-one_at_most : (e : Inner) → attempts_in e ≤ 1
-one_at_most (i.Begin n) = omega arith
-one_at_most (i.Resume n) = omega arith
-one_at_most (i.Deliver a b) = omega arith
-one_at_most (i.Idle n s) = omega arith
-one_at_most (i.Recover n) = omega arith
-
-pub one_attempt : (form : Form) → attempts_at form ≤ 1
-one_attempt (Does e) = one_at_most e
-one_attempt (Cuts keep e) = one_at_most e
-one_attempt (Fails keep e) = one_at_most e
-one_attempt (Posts h) = omega arith
-one_attempt (Crashes n) = omega arith
-one_attempt Never = omega arith
+use Rattle.fab_core.proofs.Histories.{runs_more, enabled_more, attempts_more}
 
 -- the moves of a log that is longer by what the machine says of one move
 pub moves_more : (S : Setting) (w : World) (log : List Logged) (move : Move) (entry : Logged) → entry ≡ logged S w move

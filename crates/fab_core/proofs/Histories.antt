@@ -1,19 +1,14 @@
 -- A run with one move more: where it leads to, its log, and that its moves may come.
 use Rattle.std.specs.Prelude.{◌≡◌, ◌⊎◌, ℕ, suc, ◌+◌, ◌≤◌, ◌<◌, Bool, true, false, ◌&&◌, IsTrue, List, [], ◌∷◌, ◌++◌, map, fold}
-use Rattle.std.proofs.Common.{refl, sym, ap, ◌∙◌, subst, arith}
+use Rattle.std.proofs.Common.{refl, sym, ◌∙◌, subst, arith}
 use Rattle.std.proofs.lemmas.Bool.{and_from, and_parts}
 use Rattle.std.proofs.lemmas.List.Sums.{fold_push}
 use Rattle.fab_net.specs.declared.note.Logged.{Logged}
-use Rattle.fab_world.specs.Machine.{Setting, World, Move, form_of, at_start, step, enabled, runs, are_enabled, logged, logs}
+use Rattle.fab_world.specs.Machine.{Setting, World, Move, form_of, at_start, step, enabled, runs, are_enabled}
 use Rattle.fab_world.specs.Serial.{attempts, attempts_at}
 
 pub runs_more : (S : Setting) (w : World) (moves : List Move) (move : Move) → runs S w (moves ++ move ∷ []) ≡ step S (runs S w moves) move
 runs_more S w moves move = fold_push (step S) w moves move
-
-pub logs_more : (S : Setting) (w : World) (moves : List Move) (move : Move)
-    → logs S w (moves ++ move ∷ []) ≡ logs S w moves ++ logged S (runs S w moves) move ∷ []
-logs_more S w [] move = refl
-logs_more S w (m ∷ moves) move = ap (λ xs. logged S w m ∷ xs) (logs_more S (step S w m) moves move)
 
 pub enabled_more : (S : Setting) (w : World) (moves : List Move) (move : Move)
     → IsTrue (are_enabled S w moves) → IsTrue (enabled S (runs S w moves) (form_of move)) → IsTrue (are_enabled S w (moves ++ move ∷ []))

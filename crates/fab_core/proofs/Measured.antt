@@ -3,6 +3,7 @@ use Rattle.std.proofs.Common.{◌≡◌, ℕ, zero, suc, ◌<◌, true, IsTrue, 
 use Rattle.std.specs.Prelude.{Result, IfOk, slice_index_or}
 use Rattle.std.proofs.lemmas.Bool.{and_parts}
 use Rattle.std.proofs.Math.Seq.{take-append_seam}
+use Rattle.std.proofs.lemmas.Result.{IfOk-weaker}
 use Rattle.fab_net.specs.declared.event.Inner.{Inner}
 use Rattle.fab_net.specs.declared.event.Inner.TheVariants as i
 use Rattle.fab_queues.specs.Channels.{Network, queue_of}
@@ -13,7 +14,6 @@ use Rattle.fab_node.specs.Standing.{GivenModel, IsGiven, NodeModel, Stands}
 use Rattle.fab_core.specs.Cores.{NodesStand, setting, slot}
 use Rattle.fab_core.specs.Telling.{length_in}
 use Rattle.fab_core.proofs.Slots.{full_slot}
-use Rattle.fab_core.proofs.Filled.{if_ok}
 
 -- of a node in code: whatever node of the machine it stands for
 abbrev pub MeasuresOne : NodeModel → (ℕ → Inner) → List ℕ → Option ℕ → Type 0
@@ -32,7 +32,7 @@ Measures nodes queues e len =
 pub measured_at : {E : Type 0} (r : Result (Option ℕ) E) (nodes : List (Option NodeModel)) (n : ℕ) (node : NodeModel) (e : ℕ → Inner) (bytes : List ℕ)
     → slot nodes n ≡ Some node → IfOk r (MeasuresOne node e bytes) → IfOk r (MeasuresAt nodes n (e n) bytes)
 measured_at r nodes n node e bytes there h =
-    if_ok r (MeasuresOne node e bytes) (MeasuresAt nodes n (e n) bytes) (λ len one g w stand up.
+    IfOk-weaker r (MeasuresOne node e bytes) (MeasuresAt nodes n (e n) bytes) (λ len one g w stand up.
     let s = full_slot g w nodes stand n node there in
     one g (w.node n) s.2 up ∙ ap (λ m. length_in (deed g (w.node n) (e m) bytes)) s.1) h
 
@@ -45,7 +45,7 @@ pub measured_delivery : {E : Type 0} (r : Result (Option ℕ) E) (nodes : List (
     → IfOk r (MeasuresAt nodes b (i.Deliver a b) front) → IfOk r (Measures nodes queues event)
 measured_delivery r nodes queues event a b bytes front more is waits same h =
     subst (λ e. IfOk r (Measures nodes queues e)) (sym is)
-    (if_ok r (MeasuresAt nodes b (i.Deliver a b) front) (Measures nodes queues (i.Deliver a b)) (λ len one g w given stand queue can.
+    (IfOk-weaker r (MeasuresAt nodes b (i.Deliver a b) front) (Measures nodes queues (i.Deliver a b)) (λ len one g w given stand queue can.
     one g w stand (and_parts _ _ (and_parts _ _ (and_parts _ _ can).0).0).1
     ∙ same_act g w (i.Deliver a b) front (ap front_of (sym (queue a b) ∙ waits) ∙ sym same)) h)
 
@@ -53,7 +53,7 @@ pub measured_silence : {E : Type 0} (r : Result (Option ℕ) E) (nodes : List (O
     → IfOk r (MeasuresAt nodes n (i.Idle n t) []) → IfOk r (Measures nodes queues event)
 measured_silence r nodes queues event n t is h =
     subst (λ e. IfOk r (Measures nodes queues e)) (sym is)
-    (if_ok r (MeasuresAt nodes n (i.Idle n t) []) (Measures nodes queues (i.Idle n t)) (λ len one g w given stand queue can.
+    (IfOk-weaker r (MeasuresAt nodes n (i.Idle n t) []) (Measures nodes queues (i.Idle n t)) (λ len one g w given stand queue can.
     one g w stand (and_parts _ _ (and_parts _ _ (and_parts _ _ (and_parts _ _ can).0).0).0).1 ∙ same_act g w (i.Idle n t) [] refl) h)
 
 pub measured_recovery : (len : Option ℕ) (nodes : List (Option NodeModel)) (queues : Network) (event : Inner) (n : ℕ) → event ≡ i.Recover n

@@ -10,12 +10,12 @@ use Rattle.fab_net.specs.declared.event.Inner.{Inner}
 use Rattle.fab_net.specs.declared.event.Inner.TheVariants as i
 use Rattle.fab_rights.specs.Computed.{is_node, is_worker, nodes_in}
 use Rattle.fab_protocol.specs.Stores.{says, asks}
-use Rattle.fab_world.specs.Machine.{Setting, World, Move, Form, Does, Cuts, Fails, Posts, Crashes, Never, form_of, with_at, node_of, act, ready, acted}
-use Rattle.fab_world.specs.Machine.{at_start, at_node, sends_out, bytes_to, waiting_for, lands, cut, down, posted, step, steps, may, enabled, is_running, is_empty}
+use Rattle.fab_world.specs.Machine.{Setting, World, Move, Form, Does, Cuts, Fails, Posts, Crashes, Never, form_of, with_at, node_of, acted}
+use Rattle.fab_world.specs.Machine.{at_start, sends_out, bytes_to, waiting_for, lands, down, posted, step, steps, may, enabled, is_running, is_empty}
 use Rattle.fab_world.specs.Machine.{is_idle, is_evaluating, is_settled, lacks, rest_of, hears, are_enabled, runs, logged, shelf, kept, parts, of_store}
 use Rattle.fab_world.specs.Serial.{attempts, attempts_at, commit_in}
 use Rattle.fab_world.specs.Workers.{Attempt, Act, takes, wakes}
-use Rattle.fab_integrity.proofs.Worlds.{at_same, at_other}
+use Rattle.fab_world.proofs.Steps.{at_same, at_other, cuts_other, does_other, fails_other, ready_posts}
 use Rattle.fab_integrity.proofs.Counts.{Counted, counted_start, counted_step}
 
 -- f but for y at n has P wherever y has it at n, and f elsewhere
@@ -59,38 +59,20 @@ module _ (S : Setting) where
 
   -- ---- events
 
-  ready_posts : (w : World) (e : Inner) → (ready S w e).posts ≡ w.posts
-  ready_posts w (i.Begin n) = refl
-  ready_posts w (i.Resume n) = refl
-  ready_posts w (i.Deliver a b) = refl
-  ready_posts w (i.Idle n s) = refl
-  ready_posts w (i.Recover n) = refl
-
-  ready_others : (w : World) (e : Inner) (x : ℕ) → (x ≡ node_of e → ⊥) → (ready S w e).node x ≡ w.node x
-  ready_others w (i.Begin n) x ne = refl
-  ready_others w (i.Resume n) x ne = refl
-  ready_others w (i.Deliver a b) x ne = refl
-  ready_others w (i.Idle n s) x ne = refl
-  ready_others w (i.Recover n) x ne = at_other w.node n _ x ne
-
   does_reached : (w : World) (e : Inner) → IsTrue (may S w e) → IsReached w → IsReached (steps S w (Does e))
   does_reached w e can s =
       turned w (steps S w (Does e)) (node_of e) s (acts_honest w e can)
-      (λ x ne. at_other (ready S w e).node (node_of e) _ x ne ∙ ready_others w e x ne) (ready_posts w e)
+      (does_other S w e) (ready_posts S w e)
 
   cuts_reached : (w : World) (keep : ℕ) (e : Inner) → IsTrue (may S w e) → IsReached w → IsReached (steps S w (Cuts keep e))
   cuts_reached w keep e can s =
       turned w (steps S w (Cuts keep e)) (node_of e) s (acts_honest w e can)
-      (λ x ne.
-      at_other (at_node S (ready S w e) (node_of e) (cut S keep (act S w e).entry)).node (node_of e) _ x ne
-      ∙ at_other (ready S w e).node (node_of e) _ x ne
-      ∙ ready_others w e x ne)
-      (ready_posts w e)
+      (cuts_other S w keep e) (ready_posts S w e)
 
   fails_reached : (w : World) (keep : ℕ) (e : Inner) → IsTrue (may S w e) → IsReached w → IsReached (steps S w (Fails keep e))
   fails_reached w keep e can s =
       turned w (steps S w (Fails keep e)) (node_of e) s (acts_honest w e can)
-      (λ x ne. at_other (down S w (node_of e)).node (node_of e) _ x ne ∙ at_other w.node (node_of e) _ x ne) refl
+      (fails_other S w keep e) refl
 
   posts_reached : (w : World) (h : ℕ) (posts : List (ℕ × List ℕ)) → S.hostile h ≡ true → IsReached w → IsReached (posted S w h posts)
   posts_reached w h [] hostile s = s

@@ -14,6 +14,7 @@ use Rattle.fab_queues.specs.Channels.{Network, queue_of, sent_of}
 use Rattle.fab_world.specs.Machine.{Setting, World, Node, Does, node_of, with_at, act, acted, at_node, ready, lands, steps, may, is_running, logged, bytes_in, waiting_for}
 use Rattle.fab_world.specs.Machine as machine
 use Rattle.fab_world.specs.Workers.{Act}
+use Rattle.fab_world.proofs.Steps.{ready_posts, ready_sent}
 use Rattle.fab_node.specs.Standing.{GivenModel, NodeModel, Stands}
 use Rattle.fab_node.specs.Deeds.{deed, done_by, readied, step_of}
 use Rattle.fab_node.proofs.Acts.{is_deed, does_own, does_other}
@@ -23,7 +24,7 @@ use Rattle.fab_net.specs.Events.{uncut}
 use Rattle.fab_core.specs.Places.{AreOthers, IsDoneAt}
 use Rattle.fab_nodes.specs.Transit.{AreSentOut, OnlyGainsLanes, bytes_for, is_up_at, waiting_at}
 use Rattle.fab_core.proofs.Filled.{nodes_after, stands_at, up_is}
-use Rattle.fab_core.proofs.Tables.{bytes_same, ready_posts, ready_queue, ready_sent, taken_same, with_at_same}
+use Rattle.fab_core.proofs.Tables.{bytes_same, ready_queue, taken_same, with_at_same}
 use Rattle.fab_core.proofs.Waiting.{NobodyWaits, acted_keeps}
 
 -- whoever does an event runs, or is about to
@@ -105,7 +106,7 @@ module _ (g : GivenModel) (w : World) (nodes : List (Option NodeModel)) (queues 
         queue a b ∙ taken_same (queue_of grown) w.queue e (λ a b. gains.queue a b ∙ h.queue a b) a b ∙ sym (ready_queue S w e a b)
 
     sent_is : (a b : ℕ) → sent_of took a b ≡ settled.sent a b
-    sent_is a b = sent a b ∙ gains.sent a b ∙ h.sent a b ∙ sym (ready_sent S w e a b)
+    sent_is a b = sent a b ∙ gains.sent a b ∙ h.sent a b ∙ ap (λ (f : ℕ → ℕ → List (List ℕ)). f a b) (sym (ready_sent S w e))
 
     -- nothing waits for a node that isn't up
     pub none_waits : NobodyWaits S w → (b : ℕ) → is_up_at new b ≡ false → queue_of took n b ≡ []
@@ -130,7 +131,7 @@ module _ (g : GivenModel) (w : World) (nodes : List (Option NodeModel)) (queues 
             sends.sent a b
             ∙ with_at_same (sent_of took) settled.sent n (λ b. sent_of took n b ++ bytes_for g.rights b step.sends)
             (λ b. settled.sent n b ++ bytes_for g.rights b out) sent_is (λ b. λ j. sent_is n b j ++ bytes_for g.rights b (sends_are j)) a b;
-        posts = λ k. h.posts k ∙ sym (ready_posts S w e k);
+        posts = λ k. h.posts k ∙ ap (λ (f : ℕ → List (ℕ × List ℕ)). f k) (sym (ready_posts S w e));
       }
 
   -- ---- what the log says of it

@@ -1,13 +1,13 @@
 -- Tables by number with one place changed, and events of a node.
-use Rattle.std.specs.Prelude.{◌≡◌, ◌⊎◌, ◌<◌, ◌^◌, ℕ, Bool, true, false, not, ◌&&◌, ◌||◌, ◌==◌, if◌then◌else◌, IsTrue, List, [], ◌∷◌, ◌++◌, length, IsBitSet}
+use Rattle.std.specs.Prelude.{◌≡◌, ◌⊎◌, ◌<◌, ◌^◌, ℕ, true, false, not, ◌&&◌, ◌==◌, if◌then◌else◌, IsTrue, List, [], ◌∷◌, ◌++◌, length, IsBitSet}
 use Rattle.std.proofs.Common.{refl, sym, ap, ◌∙◌, subst, inl, inr}
 use Rattle.std.proofs.lemmas.Bool.{and_parts, cases_eq, eq-eqb, ne_eqb}
 use Rattle.fab_net.specs.declared.event.Inner.{Inner}
 use Rattle.fab_net.specs.declared.event.Inner.TheVariants as i
+use Rattle.fab_integrity.proofs.Roles.{node_below as low}
 use Rattle.fab_queues.specs.Channels.{Network, queue_of}
 use Rattle.fab_rights.specs.declared.rights.Rights.{Rights}
-use Rattle.fab_rights.specs.Computed.{has_bit, is_node}
-use Rattle.fab_rights.proofs.Bits.{bit_below, has_bit_exact}
+use Rattle.fab_rights.specs.Computed.{is_node}
 use Rattle.fab_world.specs.Machine.{Setting, World, Does, Fails, Cuts, form_of, node_of, with_at, rest_of, front_of, ready, bytes_in, may, is_running, steps}
 pub use Rattle.fab_nodes.proofs.Pairs.{with_at_kept, with_at_same}
 use Rattle.fab_nodes.specs.Acts.{bytes_through, taken}
@@ -42,20 +42,6 @@ module _ (S : Setting) (w : World) where
   ready_queue (i.Recover n) a b = refl
   ready_queue (i.Deliver c d) a b = refl
 
-  pub ready_sent : (e : Inner) (a b : ℕ) → (ready S w e).sent a b ≡ w.sent a b
-  ready_sent (i.Begin n) a b = refl
-  ready_sent (i.Resume n) a b = refl
-  ready_sent (i.Idle n s) a b = refl
-  ready_sent (i.Recover n) a b = refl
-  ready_sent (i.Deliver c d) a b = refl
-
-  pub ready_posts : (e : Inner) (h : ℕ) → (ready S w e).posts h ≡ w.posts h
-  ready_posts (i.Begin n) h = refl
-  ready_posts (i.Resume n) h = refl
-  ready_posts (i.Idle n s) h = refl
-  ready_posts (i.Recover n) h = refl
-  ready_posts (i.Deliver c d) h = refl
-
 pub form_is : (e : Inner) → form_of (unmarked (uncut e)) ≡ Does e
 form_is (i.Begin n) = refl
 form_is (i.Resume n) = refl
@@ -66,9 +52,4 @@ form_is (i.Deliver a b) = refl
 -- ---- nodes have numbers below 64
 
 pub node_below : (r : Rights) (n : ℕ) → r.workers < 2 ^ 64 → r.stores < 2 ^ 64 → IsTrue (is_node r n) → n < 64
-node_below r n workers stores h = one_of (has_bit r.workers n) (has_bit r.stores n) refl refl h
-  where
-    one_of : (a b : Bool) → has_bit r.workers n ≡ a → has_bit r.stores n ≡ b → (a || b) ≡ true → n < 64
-    one_of true b p q h = bit_below r.workers n workers ((has_bit_exact r.workers n).0 p)
-    one_of false true p q h = bit_below r.stores n stores ((has_bit_exact r.stores n).0 q)
-    one_of false false p q h = absurd (cc)
+node_below r n workers stores h = low r workers stores n h

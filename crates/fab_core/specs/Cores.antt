@@ -19,6 +19,7 @@ use Rattle.fab_queues.specs.Channels.{Network, queue_of, sent_of}
 use Rattle.fab_attempts.specs.Sessions.{requests_of}
 use Rattle.fab_world.specs.Workers.{tid_of, Evaluating}
 use Rattle.fab_world.specs.Machine.{Setting, World, Node, Move, at_start, runs, logs, are_enabled, is_running, kept, outcome, held_at}
+pub use Rattle.fab_world.specs.Machine.{failure}
 use Rattle.fab_world.specs.Serial.{attempts}
 use Rattle.fab_settings.specs.Settings.{setting_of, posts_of}
 use Rattle.fab_node.specs.Standing.{GivenModel, IsGiven, JournalModel, NodeModel, Stands}
@@ -61,10 +62,6 @@ failed_in (e.Crash n) = e.Crash n
 
 abbrev pub marked : Event → Move
 marked event = record { event = failed_in event; marked = true }
-
--- an event of a node in which a call of its journal failed
-abbrev pub failure : Inner → Move
-failure inner = record { event = e.CrashIn 0 inner; marked = true }
 
 -- ---- nodes, queues and posts by number
 

@@ -16,7 +16,7 @@ use fab_base::{NoMemory, Seq};
 use fab_device::{Journal, JournalError};
 use fab_eval::Done;
 use fab_net::{Event, Inner, Step, node_of};
-use fab_nodes::{bytes_of, failed_in, let_go, note, send, take_front};
+use fab_nodes::{bytes_of, failed_in, note, send, take_front};
 use std::alloc::AllocError;
 
 impl<J: Journal> Core<J> {
@@ -61,12 +61,7 @@ impl<J: Journal> Core<J> {
             done,
         ) {
             Ok(step) => {
-                let Step {
-                    entry,
-                    sends,
-                    notes,
-                } = step;
-                let_go(entry);
+                let Step { sends, notes, .. } = step;
                 take_front(&mut self.queues, inner);
                 send(
                     self.given.rights(),

@@ -1,7 +1,7 @@
 //! What all nodes hold and how all requests ended, for a report.
 
-ghost use Rattle.std.specs.Prelude.{◌≡◌, ◌==◌, ◌<◌, ◌^◌, ℕ, IfOk, length, map, option_copied};
-ghost use Rattle.std.specs.List.{find, range_with_len};
+ghost use Rattle.std.specs.Prelude.{◌≡◌, ◌<◌, ◌^◌, ℕ, IfOk, length, map};
+ghost use Rattle.std.specs.List.{range_with_len};
 ghost use Rattle.fab_attempts.specs.Sessions.{requests_of};
 ghost use Rattle.fab_core.specs.Cores.{slot, world};
 ghost use Rattle.fab_nodes.specs.Seen.{held_in, outcomes_in};
@@ -10,34 +10,13 @@ ghost use Rattle.fab_core.specs.Telling.{all_held, all_outcomes, node_count};
 use crate::core_state::Core;
 use crate::holding::rows_held;
 use crate::reading::outcome_at;
+use fab_attempts::requests_in;
 use fab_base::{NoMemory, Object, Oid, Seq};
 use fab_device::Journal;
 use fab_net::ReqOutcome;
 use fab_node::{Given, Node};
 use fab_trace::{Held, Outcomes};
-use fab_tree::resolved::{Resolved, Session};
 use std::alloc::Global;
-
-/// The session of a worker, if it has one.
-fn session_of(program: &Resolved, worker: usize) -> Option<&Session>
-    ensures { option_copied result ≡ find (λ session. session.worker.number == worker) program.now.sessions }
-{
-    program
-        .sessions
-        .as_slice()
-        .iter()
-        .find(|session| usize::from(session.worker.number) == worker)
-}
-
-/// How many requests a worker's session has.
-fn requests_in(given: &Given, worker: usize) -> usize
-    ensures { result ≡ length (requests_of given.now.program worker) }
-{
-    match session_of(given.program(), worker) {
-        Some(session) => session.requests.len(),
-        None => 0,
-    }
-}
 
 /// How so many requests of a node ended, in order.
 fn outcomes_in<J: Journal>(
@@ -80,7 +59,7 @@ fn all_outcomes<J: Journal>(
 {
     let mut all = Seq::new(alloc);
     for worker in 0..node_count(given) {
-        let requests = requests_in(given, worker);
+        let requests = requests_in(given.program(), worker);
         all.push(outcomes_in(alloc, nodes, worker, requests)?)?;
     }
     Ok(all)

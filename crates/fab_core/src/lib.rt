@@ -20,4 +20,5 @@ mod refused;
 
 pub use applied::Applied;
 pub use core_state::Core;
+pub use fab_nodes::is_node;
 pub use refused::CoreRefused;

@@ -1,5 +1,5 @@
 -- Where no node is hostile and none goes down, what a worker waits for is on its way: the question waits for a store, or the answer for the worker.
-use Rattle.std.proofs.Common.{◌≡◌, ◌⊎◌, inl, inr, ℕ, ◌+◌, ◌<◌, ◌≤◌, List, [], ◌∷◌, ◌++◌, map, length, true, false, ◌||◌, ◌==◌, IsTrue, if◌then◌else◌}
+use Rattle.std.proofs.Common.{◌≡◌, ◌⊎◌, inl, inr, ℕ, ◌+◌, ◌≤◌, List, [], ◌∷◌, ◌++◌, map, length, true, false, ◌||◌, ◌==◌, IsTrue, if◌then◌else◌}
 use Rattle.std.proofs.Common.{Option, Some, None, refl, sym, ap, ◌∙◌, subst, arith, get_or}
 use Rattle.std.specs.List.{AllByRecursion, filter}
 use Rattle.std.proofs.lemmas.Bool.{and_from, and_parts, both_ways, cases_eq, eq-eqb, not-true, or_left, or_right}
@@ -14,7 +14,7 @@ use Rattle.fab_base.specs.declared.object.Tid.{Tid}
 use Rattle.fab_base.specs.FieldSpelling.{IsTid, sent_version}
 use Rattle.fab_base.specs.FlatMap.{is_among, map_of}
 use Rattle.fab_base.specs.MessageSpelling.{IsBody}
-use Rattle.fab_base.proofs.Lists.{all_along, all_map, few_pass}
+use Rattle.fab_base.proofs.Lists.{all_along, few_pass}
 use Rattle.fab_language.specs.declared.ending.Ending.{Ending}
 use Rattle.fab_language.specs.declared.ending.Ending.TheVariants as endings
 use Rattle.fab_language.specs.Meaning.{Meant}
@@ -33,25 +33,25 @@ use Rattle.fab_protocol.proofs.Senders.{as_many}
 use Rattle.fab_world.specs.Attempts.{parts_of}
 use Rattle.fab_world.specs.Machine.{Setting, World, Does, act, front_of, hears, kept, lands, may, meant, node_of, of_store}
 use Rattle.fab_world.specs.Machine.{option_list, parts, ready, shelf, steps}
-use Rattle.fab_world.specs.Serial.{AreFit, IsEvaluation, IsFit, IsFitName, IsSetting}
+use Rattle.fab_world.specs.Serial.{IsEvaluation, IsFitName, IsSetting}
 use Rattle.fab_world.specs.Workers as workers
 use Rattle.fab_world.specs.Workers.{Act, Attempt, Kept, Phase, asks_all, kept_of, needs, request_of, resumes_at, takes, telling, tid_of}
 use Rattle.fab_integrity.proofs.Awaited.{all_stores, named_store}
 use Rattle.fab_integrity.proofs.Changes.{does_changes}
 use Rattle.fab_integrity.proofs.Invariant.{In, WorkerOk, standing}
 use Rattle.fab_integrity.proofs.Lasting.{kept_behind, keeps_behind}
-use Rattle.fab_integrity.proofs.Lists.{all_of, in_left, map_in}
+use Rattle.fab_integrity.proofs.Lists.{in_left, map_in}
 use Rattle.fab_integrity.proofs.Maps.{ascends_put_all, few_rows}
 use Rattle.fab_integrity.proofs.Readings.{spelled_so}
 use Rattle.fab_integrity.proofs.Roles.{heard_by_store, no_worker}
 use Rattle.fab_integrity.proofs.Runs.{no_classes}
-use Rattle.fab_integrity.proofs.Tids.{tid_spelled}
 use Rattle.fab_integrity.proofs.Transport.{lands_muted, lands_whole}
 use Rattle.fab_integrity.proofs.WorkerSpelling.{missing_fits, prepare_spelled}
 use Rattle.fab_integrity.proofs.WorkerSteps.{is_evaluating_at}
 use Rattle.fab_outcomes.proofs.Nodes.{failed_steps}
 use Rattle.fab_outcomes.proofs.Stored.{IsGood, IsSpelled}
 use Rattle.fab_outcomes.proofs.Tidy.{Good, Made, Store, Tidy, Worker}
+pub use Rattle.fab_shown.proofs.Acts.{answers_fit, answers_low, tid_fits}
 use Rattle.fab_ended.specs.Silence.{NoneIsHostile}
 use Rattle.fab_ended.proofs.Awaiting.{Awaits, Becomes, Fewer, Over, Rests, Same, takes_becomes}
 use Rattle.fab_ended.proofs.Replies.{CanAnswer, IsReply, IsVote, Replies, replies_asked, replies_fetched}
@@ -134,18 +134,8 @@ module _ (S : Setting) where
       pub ok : WorkerOk S S.hostile no_classes n (standing S S.hostile no_classes w cs n) good.state
       ok = good.inv.worker n (worker_is n me)
 
-      pub tid_fits : IsTid t
-      tid_fits = tid_spelled n k a (worker_below S.rights n given.workers me) ok.low
-
-      pub answers_fit : AreFit S (objects_of a.answers)
-      answers_fit =
-          all_map (IsFit S) (λ row. (row.0, row.2)) a.answers (all_of (λ row. IsFit S (row.0, row.2)) a.answers (λ r h. let had = ok.answers r h in had.fit))
-
-      pub answers_low : AllByRecursion (λ row. row.1 < 4294967296) a.answers
-      answers_low = all_of (λ row. row.1 < 4294967296) a.answers (λ r h. let had = ok.answers r h in had.version)
-
       pub missing_name : (site : ℕ) (o : Oid) → (meant S w n).ending ≡ endings.Missing site o → IsFitName S o
-      missing_name site o e = missing_fits S law n (request_of k) t a.answers tid_fits answers_fit site o e
+      missing_name site o e = missing_fits S law n (request_of k) t a.answers (tid_fits S given law w cs good n (worker_is n me)) (answers_fit S given law w cs good n (worker_is n me)) site o e
 
       pub taking_part : (l : ℕ) → In l (stores_of (parts S w n)) → IsTrue (is_store S.rights l)
       taking_part l h = all_stores S S.hostile no_classes given law w cs good.state n (worker_is n me) ok l h
@@ -339,7 +329,7 @@ module _ (S : Setting) where
             let store = named_store S given o name in (
               store,
               inl (asks (needs S.rights S.cache n kn site o None an (meant S w n)) o.store (m.Fetch tn o) (IsFetch tn o) store (inl refl)
-                  (tid_fits w cs good n me, name.spelled) (fetch_short tn o) refl),
+                  (tid_fits S given law w cs good n (worker_is n me), name.spelled) (fetch_short tn o) refl),
             )
 
         asks_served : (ss : List ℕ) → stores_of (parts S w n) ≡ ss → Serves w (asks_all S.rights S.cache n kn ss (telling an (meant S w n)) (parts S w n))
@@ -348,7 +338,7 @@ module _ (S : Setting) where
             let part : In l (stores_of (parts S w n)) = subst (In l) (sym is) in_ss in
             let store = taking_part w cs good n me l part in
             let items = items_at (parts S w n) l in
-            let spelled = prepare_spelled S law n (request_of kn) tn an.answers (tid_fits w cs good n me) (answers_fit w cs good n me) (answers_low w cs good n me) l in
+            let spelled = prepare_spelled S law n (request_of kn) tn an.answers (tid_fits S given law w cs good n (worker_is n me)) (answers_fit S given law w cs good n (worker_is n me)) (answers_low S given law w cs good n (worker_is n me)) l in
             let body = spelled.body in (
               store,
               part,

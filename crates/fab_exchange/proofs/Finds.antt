@@ -15,6 +15,7 @@ use Rattle.fab_world.specs.Crashing.{CrashLine, crashes_by, cut_at, is_cut_to, m
 use Rattle.fab_settings.specs.Settings.{lines_of}
 use Rattle.fab_node.specs.Standing.{GivenModel}
 use Rattle.fab_core.specs.Cores.{setting, world_by}
+use Rattle.fab_integrity.proofs.Steps.{may_node}
 use Rattle.fab_exchange.specs.Dues.{comes, crashes, form_at, found_at, if_so, is_some_due, or_else, own_at, poster, posts, posts_to, sender, silent}
 use Rattle.fab_exchange.specs.Turns.{AreOver, IsSomeDue, NoneDue, due}
 use Rattle.fab_exchange.specs.declared.found.Found.{Found}
@@ -91,11 +92,7 @@ module _ (g : GivenModel) (moves : List Move) where
 
   its_node : (e : Inner) → comes g moves e ≡ true → is_node g.rights (node_of e) ≡ true
   unfolding comes
-  its_node (i.Begin n) h = (and_parts _ _ (and_parts _ _ (and_parts _ _ (and_parts _ _ (and_parts _ _ h).0).0).0).0).0
-  its_node (i.Resume n) h = (and_parts _ _ (and_parts _ _ (and_parts _ _ h).0).0).0
-  its_node (i.Deliver a b) h = (and_parts _ _ (and_parts _ _ (and_parts _ _ (and_parts _ _ h).0).0).0).0
-  its_node (i.Idle n s) h = (and_parts _ _ (and_parts _ _ (and_parts _ _ (and_parts _ _ (and_parts _ _ h).0).0).0).0).0
-  its_node (i.Recover n) h = (and_parts _ _ (and_parts _ _ (and_parts _ _ h).0).0).0
+  its_node e h = may_node (setting g) w e h
 
   sender_node : (a n : ℕ) → comes g moves (i.Deliver a n) ≡ true → is_node g.rights a ≡ true
   unfolding comes

@@ -1,5 +1,5 @@
 -- What every exchange keeps: at the start, one event later, and where nothing came.
-use Rattle.std.proofs.Common.{◌≡◌, ℕ, suc, ◌+◌, ◌<◌, ◌^◌, List, [], ◌∷◌, ◌++◌, length, Bool, true, false, ◌&&◌, ◌||◌, ◌==◌, Option, Some, None, Result, Ok, Err}
+use Rattle.std.proofs.Common.{◌≡◌, ℕ, ◌+◌, ◌<◌, ◌^◌, List, [], ◌∷◌, ◌++◌, length, Bool, true, false, ◌&&◌, ◌||◌, ◌==◌, Option, Some, None, Result, Ok, Err}
 use Rattle.std.proofs.Common.{refl, sym, ap, ◌∙◌, subst, inl, inr, arith, length-append}
 use Rattle.std.proofs.lemmas.Bool.{and_parts, both_ways, cases_eq, eq-eqb, ne_eqb}
 use Rattle.std.proofs.lemmas.List.Folds.{list_any-append}
@@ -11,9 +11,10 @@ use Rattle.fab_integrity.proofs.Runs.{enabled_front}
 use Rattle.fab_lined.proofs.Lines.{keeps_more}
 use Rattle.fab_rights.specs.Computed.{nodes_in}
 use Rattle.fab_settings.specs.Settings.{lines_of}
-use Rattle.fab_world.specs.Machine.{Setting, World, Move, form_of, at_start, enabled, are_enabled, logs, step}
+use Rattle.fab_world.specs.Machine.{Setting, Move, form_of, at_start, enabled, are_enabled, logs}
 use Rattle.fab_world.specs.Serial.{IsRun}
 use Rattle.fab_world.specs.Crashing.{KeepsLines, is_counted, is_crash, may_follow}
+use Rattle.fab_world.proofs.Steps.{logs_long}
 use Rattle.fab_node.specs.Standing.{GivenModel, JournalModel}
 use Rattle.fab_core.specs.Cores.{CoreModel, failed_in, marked, setting, slot, unmarked, world_by}
 use Rattle.fab_net.specs.Events.{node_at}
@@ -215,10 +216,6 @@ module _ (old new : CoreModel) (nodes : List ℕ) (counts more : List Count) (ev
   }
 
 -- ---- the log is as long as the run
-
-logs_long : (S : Setting) (w : World) (moves : List Move) → length (logs S w moves) ≡ length moves
-logs_long S w [] = refl
-logs_long S w (move ∷ moves) = ap suc (logs_long S (step S w move) moves)
 
 -- so the moves before the last one fit with one more
 pub fits_more : (S : Setting) (old new : List Move) (event : Event) (applied : Applied) (log : List Logged) → new ≡ old ++ move_by applied event ∷ []

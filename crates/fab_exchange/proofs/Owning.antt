@@ -1,5 +1,5 @@
 -- Of which node's journal an event speaks: what it made of the journals, by the node that it is of.
-use Rattle.std.proofs.Common.{◌≡◌, ℕ, List, Bool, true, false, not, ◌&&◌, Option, Some, None, Result, Ok, Err, IfOk, OnErr}
+use Rattle.std.proofs.Common.{◌≡◌, ℕ, List, Bool, true, false, not, ◌&&◌, Option, Some, None, Result, Ok, Err, OnErr}
 use Rattle.std.proofs.Common.{refl, sym, ap, ◌∙◌, subst, inl, inr, arith, true≢false, ◌++◌, ◌∷◌, []}
 use Rattle.std.proofs.lemmas.Bool.{and_parts, cases_eq}
 use Rattle.fab_base.specs.Faults.{Rose}
@@ -170,11 +170,3 @@ module _ (old mid new : CoreModel) (kept : IsAsBefore old mid) (x : Inner) (over
 pub on_err : {A E X : Type 0} (result : Result A E) → X → OnErr result X
 on_err (Ok a) x = tt
 on_err (Err problem) x = x
-
-pub then_err : {A E X Y : Type 0} (result : Result A E) → (X → Y) → OnErr result X → OnErr result Y
-then_err (Ok a) step x = tt
-then_err (Err problem) step x = step x
-
-pub then_ok : {A E X Y : Type 0} (result : Result A E) → (X → Y) → IfOk result (λ _. X) → IfOk result (λ _. Y)
-then_ok (Ok a) step x = step x
-then_ok (Err problem) step x = tt

@@ -2,25 +2,18 @@
 ghost use Rattle.std.specs.Prelude.{◌≡◌, [], ℕ, IfOk, IfErr};
 ghost use Rattle.fab_core.specs.Cores.{setting, slot};
 ghost use Rattle.fab_core.specs.Moved.{faults_in};
-ghost use Rattle.fab_rights.specs.Computed.{is_node, nodes_in};
+ghost use Rattle.fab_rights.specs.Computed.{nodes_in};
 ghost use Rattle.fab_settings.specs.Settings.{lines_of};
 ghost use Rattle.fab_world.specs.Crashing.{KeepsLines};
 ghost use Rattle.fab_exchange.specs.Exchanges.{AreCounts, IsMarked, has_mark};
 
 use crate::counting::Count;
 use fab_base::NoMemory;
-use fab_core::Core;
+use fab_core::{Core, is_node};
 use fab_device::Journal;
 use fab_rights::Rights;
 use std::alloc::Global;
 use std::marker::Model;
-
-/// Whether there is a node of this number.
-fn is_node(rights: &Rights, number: u16) -> bool
-    ensures { result ≡ is_node rights.now number }
-{
-    rights.is_worker(number) || rights.is_store(number)
-}
 
 /// The numbers of all nodes, in order.
 fn nodes_of(alloc: Global, rights: &Rights) -> Result<Vec<u16>, NoMemory>

@@ -42,7 +42,7 @@ has_own a = bit_is_set (2 ^ a) a (bit_at-pow_same a)
 
 -- ---- masks
 
-as_long : (ms : List ℕ) (h more : ℕ) → length (with_more ms h more) ≡ length ms
+pub as_long : (ms : List ℕ) (h more : ℕ) → length (with_more ms h more) ≡ length ms
 as_long [] h more = refl
 as_long (m ∷ ms) zero more = refl
 as_long (m ∷ ms) (suc h) more = ap suc (as_long ms h more)

@@ -6,7 +6,7 @@ use Rattle.std.proofs.lemmas.List.Elements.{Contains-append_left, Contains-appen
 use Rattle.std.proofs.lemmas.Nat.Bits.{bit_at_or, same_from_bits}
 use Rattle.fab_holes.specs.Passes.{mask_at, with_more, mask_of, put, put_all}
 use Rattle.fab_holes.proofs.Choosing.{lt_true, lt_false}
-use Rattle.fab_holes.proofs.Fixed.{IsSound, all_sound}
+use Rattle.fab_holes.proofs.Fixed.{IsSound, all_sound, as_long}
 use Rattle.fab_infer.specs.Spreading.{is_gain, spread}
 
 -- ---- masks
@@ -61,11 +61,6 @@ none_at : (ms : List ℕ) (h : ℕ) → length ms ≤ h → mask_at ms h ≡ 0
 none_at [] h past = refl
 none_at (m ∷ ms) zero past = absurd (omega (arith, past))
 none_at (m ∷ ms) (suc h) past = none_at ms h (omega (arith, past))
-
-pub as_long : (ms : List ℕ) (h more : ℕ) → length (with_more ms h more) ≡ length ms
-as_long [] h more = refl
-as_long (m ∷ ms) zero more = refl
-as_long (m ∷ ms) (suc h) more = ap suc (as_long ms h more)
 
 no_gain : (ms : List ℕ) (h more : ℕ) → is_gain ms h more ≡ false → with_more ms h more ≡ ms
 no_gain [] h more e = refl

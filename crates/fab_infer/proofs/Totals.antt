@@ -4,7 +4,7 @@ use Rattle.std.proofs.lemmas.List.{length-append}
 use Rattle.std.proofs.lemmas.Nat.{le_or_l}
 use Rattle.fab_holes.specs.Passes.{with_more}
 use Rattle.fab_infer.specs.Spreading.{is_gain, spread}
-use Rattle.fab_infer.proofs.Settling.{as_long}
+use Rattle.fab_holes.proofs.Fixed.{as_long}
 
 -- all that masks say, as one number
 abbrev pub total : List ℕ → ℕ

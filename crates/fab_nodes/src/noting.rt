@@ -31,11 +31,6 @@ pub fn note(log: &mut Vec<Logged>, logged: Logged)
     log.push_reserved(logged);
 }
 
-/// A record that has been written is asked for no more.
-pub fn let_go(entry: Option<Seq<u8>>) {
-    let _ = entry;
-}
-
 /// What the log says of an event in which a call of the journal failed: no record of it counts.
 pub fn failed_in(alloc: Global, inner: Inner, bytes: Seq<u8>) -> Logged
     ensures { result ≡ record { event = CrashIn 0 inner; bytes = bytes; notes = []; whole = false; marked = true } }

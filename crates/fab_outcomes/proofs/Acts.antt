@@ -21,11 +21,12 @@ use Rattle.fab_net.specs.declared.outcome.ReqOutcome.TheVariants.{Failed, Confli
 use Rattle.fab_rights.specs.Computed.{is_store, is_worker, suits}
 use Rattle.fab_protocol.specs.declared.parts.Parts.{Parts}
 use Rattle.fab_protocol.specs.Parts.{stores_of}
-use Rattle.fab_world.specs.Machine.{Setting, World, Does, kept, meant, parts, act, may, front_of, hears, of_store, shelf, is_idle, is_evaluating, lacks, node_of}
+use Rattle.fab_world.specs.Machine.{Setting, World, Does, kept, meant, parts, act, may, front_of, hears, of_store, shelf, is_idle, lacks, node_of}
 use Rattle.fab_protocol.specs.Stores.{says, asks}
 use Rattle.fab_world.specs.Workers as workers
 use Rattle.fab_world.specs.Workers.{Kept, Phase, Attempt, Act, aborts, aborts_in, awaits_vote, closes, gives, is_made_before, noting, request_of, resumes, sending, stays, takes, tid_of, undecided, wakes}
 use Rattle.fab_world.proofs.WorkerActs.{IsDenied, IsMissing, IsNo, IsYes, is_last_try, is_meant, is_yes, resumed, taken}
+use Rattle.fab_integrity.proofs.WorkerSteps.{is_evaluating_at}
 use Rattle.fab_outcomes.specs.Causes.{Gives, Hears, is_no, loses_try, recovers, refuses, refuses_if}
 use Rattle.fab_outcomes.proofs.Records.{outcome_by, stopped_is}
 
@@ -205,12 +206,6 @@ module _ (S : Setting) (w : World) (n lost : ℕ) where
     lacking s workers.Evaluating h = refl
     lacking s (workers.Fetching x) h = refl
     lacking s (workers.Preparing ls) h = refl
-
-    is_evaluating_at : (phase : Phase) → is_evaluating phase ≡ true → phase ≡ workers.Evaluating
-    is_evaluating_at workers.Evaluating h = refl
-    is_evaluating_at workers.Idle h = absurd (true≢false (sym h))
-    is_evaluating_at (workers.Fetching o) h = absurd (true≢false (sym h))
-    is_evaluating_at (workers.Preparing ls) h = absurd (true≢false (sym h))
 
     -- it comes back: a record that gives no outcome, and nothing is left of the attempt
     pub record Restarts (event : Inner) (act : Act) : Type 0 where

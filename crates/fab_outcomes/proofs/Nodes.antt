@@ -1,5 +1,5 @@
 -- What a move leaves of a node: its records, with that of an event that stands; whether it has failed; and of other nodes all.
-use Rattle.std.proofs.Common.{◌≡◌, ◌⊎◌, inl, inr, ℕ, [], ◌++◌, length, take, Bool, true, false, cond, ◌==◌, ◌||◌, ◌&&◌, IsTrue, if◌then◌else◌}
+use Rattle.std.proofs.Common.{◌≡◌, ◌⊎◌, inl, inr, ℕ, ◌++◌, length, take, Bool, true, false, cond, ◌==◌, ◌||◌, ◌&&◌, IsTrue, if◌then◌else◌}
 use Rattle.std.proofs.Common.{Option, Some, None, refl, sym, ap, ◌∙◌, subst}
 use Rattle.std.proofs.Math.Bool.{or-false, or-true}
 use Rattle.std.proofs.lemmas.Bool.{cases_eq, and_left, and_parts, eq-eqb, ne_eqb}
@@ -9,12 +9,11 @@ use Rattle.fab_base.specs.declared.entry.Entry.{Entry}
 use Rattle.fab_net.specs.declared.event.Inner.{Inner}
 use Rattle.fab_net.specs.declared.event.Inner.TheVariants as i
 use Rattle.fab_world.specs.Machine.{Setting, World, Node, Form, Does, Cuts, Fails, Posts, Crashes, Never, act, acted, at_node, cut, down, enabled, front_of, is_whole}
-use Rattle.fab_world.specs.Machine.{may, node_of, option_list, ready, record_behind, steps, with_at}
+use Rattle.fab_world.specs.Machine.{may, node_of, option_list, ready, record_behind, steps}
 use Rattle.fab_world.specs.Workers.{fresh}
 use Rattle.fab_rights.specs.Computed.{is_store}
 use Rattle.fab_outcomes.specs.Causes.{fails, loses, loses_try, recovers, refuses_if, whole_event}
-use Rattle.fab_integrity.proofs.Worlds.{at_same, at_other, down_here, down_other, fallen}
-use Rattle.fab_integrity.proofs.Transport.{ready_other}
+use Rattle.fab_world.proofs.Steps.{at_kept, cuts_here, cuts_other, does_other, down_here, down_other, fails_here, fails_other, fallen, ready_failed}
 use Rattle.fab_integrity.proofs.Changes.{Changes, does_changes, cuts_changes, fails_changes, down_changes, posted_node}
 
 -- ---- events that stand
@@ -85,25 +84,11 @@ module _ (S : Setting) where
 
   -- ---- nodes that failed for good
 
-  -- one node is changed, but not in this
-  kept_at : (f : Node → Bool) (g : ℕ → Node) (m : ℕ) (node : Node) → f node ≡ f (g m) → (x : ℕ) → f (with_at g m node x) ≡ f (g x)
-  kept_at f g m node same x = elim (cases_eq x m) [
-    | inl e ↦ subst (λ z. f (with_at g m node z) ≡ f (g z)) (sym e) (ap f (at_same g m node) ∙ same)
-    | inr ne ↦ ap f (at_other g m node x ne)
-  ]
-
   abbrev failed : Node → Bool
   failed node = node.failed
 
-  ready_failed : (w : World) (e : Inner) (x : ℕ) → failed ((ready S w e).node x) ≡ failed (w.node x)
-  ready_failed w (i.Begin n) x = refl
-  ready_failed w (i.Resume n) x = refl
-  ready_failed w (i.Deliver a b) x = refl
-  ready_failed w (i.Idle n s) x = refl
-  ready_failed w (i.Recover n) x = kept_at failed w.node n (record (w.node n) { torn = []; up = true }) refl x
-
   down_failed : (w : World) (m x : ℕ) → failed ((down S w m).node x) ≡ failed (w.node x)
-  down_failed w m x = kept_at failed w.node m (fallen (w.node m)) refl x
+  down_failed w m x = at_kept failed w.node m (fallen (w.node m)) refl x
 
   cut_failed : (keep : ℕ) (entry : Option Entry) (node : Node) → failed (cut S keep entry node) ≡ failed node
   cut_failed keep entry node =
@@ -113,19 +98,18 @@ module _ (S : Setting) where
   -- a journal call failed before, or it fails in the move
   pub failed_steps : (w : World) (form : Form) (n : ℕ) → failed ((steps S w form).node n) ≡ failed (w.node n) || fails n form
   failed_steps w (Does e) n =
-      kept_at failed (ready S w e).node (node_of e) (acted S (act S w e) ((ready S w e).node (node_of e))) refl n ∙ ready_failed w e n ∙ sym (or-false (failed (w.node n)))
+      at_kept failed (ready S w e).node (node_of e) (acted S (act S w e) ((ready S w e).node (node_of e))) refl n ∙ ready_failed S w e n ∙ sym (or-false (failed (w.node n)))
   failed_steps w (Cuts keep e) n =
       down_failed (at_node S (ready S w e) (node_of e) (cut S keep (act S w e).entry)) (node_of e) n
-      ∙ kept_at failed (ready S w e).node (node_of e) (cut S keep (act S w e).entry ((ready S w e).node (node_of e))) (cut_failed keep (act S w e).entry _) n
-      ∙ ready_failed w e n ∙ sym (or-false (failed (w.node n)))
+      ∙ at_kept failed (ready S w e).node (node_of e) (cut S keep (act S w e).entry ((ready S w e).node (node_of e))) (cut_failed keep (act S w e).entry _) n
+      ∙ ready_failed S w e n ∙ sym (or-false (failed (w.node n)))
   failed_steps w (Fails keep e) n = elim (cases_eq n (node_of e)) [
     | inl same ↦
-        ap (λ z. failed (with_at (down S w (node_of e)).node (node_of e) (record ((down S w (node_of e)).node (node_of e)) { failed = true }) z)) same
-        ∙ ap failed (at_same (down S w (node_of e)).node (node_of e) (record ((down S w (node_of e)).node (node_of e)) { failed = true }))
+        ap (λ z. failed ((steps S w (Fails keep e)).node z)) same
+        ∙ ap failed (fails_here S w keep e)
         ∙ sym (ap (λ b. failed (w.node n) || b) (eq-eqb (node_of e) n (sym same)) ∙ or-true (failed (w.node n)))
     | inr ne ↦
-        ap failed (at_other (down S w (node_of e)).node (node_of e) (record ((down S w (node_of e)).node (node_of e)) { failed = true }) n ne)
-        ∙ down_failed w (node_of e) n
+        ap failed (fails_other S w keep e n ne)
         ∙ sym (ap (λ b. failed (w.node n) || b) (ne_eqb (node_of e) n (λ e. ne (sym e))) ∙ or-false (failed (w.node n)))
   ]
   failed_steps w (Posts h) n = ap (λ (f : ℕ → Node). failed (f n)) (posted_node S w h (w.posts h)) ∙ sym (or-false (failed (w.node n)))
@@ -164,34 +148,23 @@ module _ (S : Setting) where
   touches w (Does e) n = elim (cases_eq n (node_of e)) [
     | inl same ↦ Own e refl (sym same)
     | inr ne ↦ Beside (record {
-      node = at_other (ready S w e).node (node_of e) (acted S (act S w e) ((ready S w e).node (node_of e))) n ne ∙ ready_other S w e n ne;
+      node = does_other S w e n ne;
       recovers = other_recovers e n ne;
       loses = other_loses w e n ne;
     })
   ]
-  touches w (Cuts keep e) n =
-      let u : World = at_node S (ready S w e) (node_of e) (cut S keep (act S w e).entry) in
-      elim (cases_eq n (node_of e)) [
-        | inl same ↦
-            let there = ap (λ z. (down S u (node_of e)).node z) same ∙ down_here S u (node_of e) in
-            Downs (ap (λ (x : Node). x.up) there) (ap (λ (x : Node). x.attempt) there)
-        | inr ne ↦ Beside (record {
-          node = down_other S u (node_of e) n ne
-              ∙ at_other (ready S w e).node (node_of e) (cut S keep (act S w e).entry ((ready S w e).node (node_of e))) n ne ∙ ready_other S w e n ne;
-          recovers = refl;
-          loses = refl;
-        })
-      ]
-  touches w (Fails keep e) n =
-      let u : World = down S w (node_of e) in
-      let node : Node = record (u.node (node_of e)) { failed = true } in
-      elim (cases_eq n (node_of e)) [
-        | inl same ↦
-            let there = ap (with_at u.node (node_of e) node) same ∙ at_same u.node (node_of e) node in
-            Downs (ap (λ (x : Node). x.up) there ∙ ap (λ (x : Node). x.up) (down_here S w (node_of e)))
-            (ap (λ (x : Node). x.attempt) there ∙ ap (λ (x : Node). x.attempt) (down_here S w (node_of e)))
-        | inr ne ↦ Beside (record { node = at_other u.node (node_of e) node n ne ∙ down_other S w (node_of e) n ne; recovers = refl; loses = refl })
-      ]
+  touches w (Cuts keep e) n = elim (cases_eq n (node_of e)) [
+    | inl same ↦
+        let there = ap (λ z. (steps S w (Cuts keep e)).node z) same ∙ cuts_here S w keep e in
+        Downs (ap (λ (x : Node). x.up) there) (ap (λ (x : Node). x.attempt) there)
+    | inr ne ↦ Beside (record { node = cuts_other S w keep e n ne; recovers = refl; loses = refl })
+  ]
+  touches w (Fails keep e) n = elim (cases_eq n (node_of e)) [
+    | inl same ↦
+        let there = ap (λ z. (steps S w (Fails keep e)).node z) same ∙ fails_here S w keep e in
+        Downs (ap (λ (x : Node). x.up) there) (ap (λ (x : Node). x.attempt) there)
+    | inr ne ↦ Beside (record { node = fails_other S w keep e n ne; recovers = refl; loses = refl })
+  ]
   touches w (Posts h) n = Beside (record { node = ap (λ (f : ℕ → Node). f n) (posted_node S w h (w.posts h)); recovers = refl; loses = refl })
   touches w (Crashes m) n = elim (cases_eq n m) [
     | inl same ↦

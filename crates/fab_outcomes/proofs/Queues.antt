@@ -1,11 +1,11 @@
 -- What waits in a queue behind a move waited before it, or its node sent it in an event that is done.
-use Rattle.std.proofs.Common.{◌≡◌, ◌⊎◌, inl, inr, ℕ, List, [], ◌∷◌, true, false, IsTrue, refl, sym, ap, ◌∙◌, subst}
-use Rattle.std.proofs.lemmas.Bool.{and_parts, both_ways, cases_eq}
+use Rattle.std.proofs.Common.{◌≡◌, ◌⊎◌, inl, inr, ℕ, List, [], ◌∷◌, true, false, IsTrue, refl, sym, ap, subst}
+use Rattle.std.proofs.lemmas.Bool.{and_parts, both_ways}
 use Rattle.fab_net.specs.declared.event.Inner.{Inner}
-use Rattle.fab_world.specs.Machine.{Setting, World, Form, Does, Cuts, Fails, Posts, Crashes, Never, act, at_node, cut, down, enabled, node_of, posted, ready, steps, with_at}
+use Rattle.fab_world.specs.Machine.{Setting, World, Form, Does, Cuts, Fails, Posts, Crashes, Never, act, at_node, cut, enabled, node_of, posted, ready, steps}
 use Rattle.fab_integrity.proofs.Invariant.{In}
 use Rattle.fab_integrity.proofs.Transport.{lands_whole, ready_queue}
-use Rattle.fab_integrity.proofs.Worlds.{IsSent, at_same, at_other}
+use Rattle.fab_integrity.proofs.Worlds.{IsSent, at_other, down_queue}
 
 module _ (S : Setting) where
   -- node s sent it to n, in the event that the move does
@@ -14,12 +14,6 @@ module _ (S : Setting) where
     pub is : form ≡ Does event
     pub node : node_of event ≡ s
     pub sent : IsSent (act S w event) n bytes
-
-  down_queue : (w : World) (m s n : ℕ) (bytes : List ℕ) → In bytes ((down S w m).queue s n) → In bytes (w.queue s n)
-  down_queue w m s n bytes h = elim (cases_eq n m) [
-    | inl e ↦ absurd (subst (In bytes) (ap (with_at (w.queue s) m []) e ∙ at_same (w.queue s) m []) h)
-    | inr ne ↦ subst (In bytes) (at_other (w.queue s) m [] n ne) h
-  ]
 
   posted_queue : (w : World) (h s n : ℕ) (posts : List (ℕ × List ℕ)) → (s ≡ h → ⊥) → (posted S w h posts).queue s n ≡ w.queue s n
   posted_queue w h s n [] ne = refl
@@ -35,10 +29,10 @@ module _ (S : Setting) where
         | inr new ↦ inr (record { event = e; is = refl; node = sym new.0; sent = new.1 })
       ]
   waits_from w (Cuts keep e) can s n honest bytes h =
-      inl (ready_queue S w e s n bytes (down_queue (at_node S (ready S w e) (node_of e) (cut S keep (act S w e).entry)) (node_of e) s n bytes h))
-  waits_from w (Fails keep e) can s n honest bytes h = inl (down_queue w (node_of e) s n bytes h)
+      inl (ready_queue S w e s n bytes (down_queue S (at_node S (ready S w e) (node_of e) (cut S keep (act S w e).entry)) (node_of e) s n bytes h))
+  waits_from w (Fails keep e) can s n honest bytes h = inl (down_queue S w (node_of e) s n bytes h)
   waits_from w (Posts x) can s n honest bytes h =
       let hostile : S.hostile x ≡ true = (and_parts _ _ (and_parts _ _ can).0).1 in
       inl (subst (In bytes) (posted_queue w x s n (w.posts x) (λ e. both_ways (S.hostile x) (subst (λ z. S.hostile z ≡ false) e honest) hostile)) h)
-  waits_from w (Crashes m) can s n honest bytes h = inl (down_queue w m s n bytes h)
+  waits_from w (Crashes m) can s n honest bytes h = inl (down_queue S w m s n bytes h)
   waits_from w Never can s n honest bytes h = inl h

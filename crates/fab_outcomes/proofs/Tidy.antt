@@ -1,6 +1,6 @@
 -- In every run the objects that honest stores have and answer are well formed, and those that an honest worker made are of its commits.
 use Rattle.std.proofs.Common.{◌≡◌, ◌⊎◌, inl, inr, ℕ, List, [], ◌∷◌, ◌++◌, true, false, not, ◌==◌, IsTrue, if◌then◌else◌}
-use Rattle.std.proofs.Common.{Option, Some, None, refl, sym, ap, ◌∙◌, subst, arith, append-nil, append_assoc, true≢false}
+use Rattle.std.proofs.Common.{Option, Some, None, sym, ap, ◌∙◌, subst, arith, append-nil, append_assoc, true≢false}
 use Rattle.std.specs.List.{AllByRecursion, filter, flat_map}
 use Rattle.std.proofs.lemmas.Bool.{and_parts, both_ways}
 use Rattle.std.proofs.lemmas.List.Elements.{filter-append}
@@ -21,10 +21,11 @@ use Rattle.fab_protocol.specs.Shelves.{IsShelf}
 use Rattle.fab_protocol.specs.Stores.{Shelf, asks, hears, keeps_said, shelf_at_start, shelf_of}
 use Rattle.fab_protocol.specs.Versions.{begun, is_made_in, maker_of}
 use Rattle.fab_world.specs.Machine.{Setting, World, Move, Form, act, at_start, enabled, form_of, front_of, is_evaluating, kept, lacks}
-use Rattle.fab_world.specs.Machine.{logged, logs, may, node_of, of_store, option_list, runs, shelf, step, steps}
+use Rattle.fab_world.specs.Machine.{logged, logs, may, node_of, of_store, option_list, shelf, step, steps}
 use Rattle.fab_world.specs.Serial.{IsSetting, IsEvaluation, IsFit, IsRun, commit_in, commits_in, commits_of, world_of}
 use Rattle.fab_world.specs.Workers as workers
 use Rattle.fab_world.specs.Workers.{Act, Phase, takes, wakes}
+use Rattle.fab_world.proofs.Steps.{logs_more}
 use Rattle.fab_integrity.proofs.Costs.{noted_outside}
 use Rattle.fab_integrity.proofs.Invariant.{In, IsStore, IsWorker, deals}
 use Rattle.fab_integrity.proofs.Lasting.{shelf_more, shelf_start}
@@ -216,10 +217,6 @@ module _ (S : Setting) where
       good_run moves run = holds_run S S.hostile no_classes given law (excludes_none S S.hostile (λ n e. e)) moves run
 
       -- the commits of a run, and of one move more
-      logs_more : (w : World) (xs : List Move) (move : Move) → logs S w (xs ++ move ∷ []) ≡ logs S w xs ++ logged S (runs S w xs) move ∷ []
-      logs_more w [] move = refl
-      logs_more w (x ∷ xs) move = ap (λ rest. logged S w x ∷ rest) (logs_more (step S w x) xs move)
-
       flat_more : (xs : List Logged) (x : Logged) → flat_map (λ (l : Logged). flat_map commit_in l.notes) (xs ++ x ∷ [])
           ≡ flat_map (λ (l : Logged). flat_map commit_in l.notes) xs ++ flat_map commit_in x.notes
       flat_more [] x = append-nil (flat_map commit_in x.notes)
@@ -230,7 +227,7 @@ module _ (S : Setting) where
       commits_more : (xs : List Move) (move : Move)
           → commits_in S S.hostile (xs ++ move ∷ []) ≡ commits_in S S.hostile xs ++ noted_outside S.hostile (logged S (world_of S xs) move).notes
       commits_more xs move =
-          ap (commits_of S.hostile) (logs_more (at_start S) xs move)
+          ap (commits_of S.hostile) (logs_more S (at_start S) xs move)
           ∙ ap (filter (λ (c : Commit). not (S.hostile c.worker))) (flat_more (logs S (at_start S) xs) (logged S (world_of S xs) move))
           ∙ filter-append (λ (c : Commit). not (S.hostile c.worker)) (flat_map (λ (l : Logged). flat_map commit_in l.notes) (logs S (at_start S) xs))
           (flat_map commit_in (logged S (world_of S xs) move).notes)

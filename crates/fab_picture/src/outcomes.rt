@@ -1,28 +1,18 @@
 //! What came of a run, each line of it at the foot of its node's line.
 ghost use Rattle.std.specs.Prelude.{◌≡◌, ◌++◌, OnOk, IfOk, option_to_list};
-ghost use Rattle.std.specs.Fmt.{decimal};
-ghost use Rattle.fab_trace.specs.Report.{denial_text};
 ghost use Rattle.fab_picture.specs.Ends.{attempt, commit_text, ending_text, feet, feet_in, held_text, outcome_text, shown_name, shown_value, values_text};
 
 use crate::events::number;
 use crate::foot::Foot;
 use fab_base::{NoMemory, Seq, Text};
 use fab_lines::stop_word;
-use fab_marks::put_made;
-use fab_net::Denial;
+use fab_marks::{put_made, put_number};
 use fab_reports::{
     Attempt, Line, ShownCommit, ShownEnding, ShownName, ShownObject, ShownOutcome, ShownValue,
 };
+use fab_trace::denial_word;
 use fab_tree::resolved::Resolved;
 use std::alloc::Global;
-
-/// A number.
-fn put_number(alloc: Global, out: &mut Seq<u8>, number: u32) -> Result<(), NoMemory>
-    ensures { OnOk result (out.new ≡ out.old ++ decimal number) }
-{
-    let text = format!(in alloc; "{number}")?;
-    out.extend(text.as_str().as_bytes())
-}
 
 /// A text.
 fn put_text(out: &mut Seq<u8>, text: &Text) -> Result<(), NoMemory>
@@ -76,16 +66,6 @@ fn put_value(
     }
 }
 
-/// The word of a denial.
-fn denial_word(denial: Denial) -> &'static str
-    ensures { result.now ≡ denial_text denial }
-{
-    match denial {
-        Denial::Rights => "rights",
-        Denial::IllFormed => "illformed",
-    }
-}
-
 /// How a request ended.
 fn ending_of(alloc: Global, start: &Resolved, ending: &ShownEnding) -> Result<Seq<u8>, NoMemory>
     ensures { IfOk result (λ text. text ≡ ending_text start.now ending.now) }
@@ -127,9 +107,9 @@ fn commit_of(alloc: Global, at: u32, commit: &ShownCommit) -> Result<Seq<u8>, No
     ensures { IfOk result (λ text. text ≡ commit_text at commit.now) }
 {
     let mut text = Seq::from_slice(alloc, b"commit ")?;
-    put_number(alloc, &mut text, at)?;
+    put_number(alloc, &mut text, u64::from(at))?;
     text.extend(b": request ")?;
-    put_number(alloc, &mut text, commit.request)?;
+    put_number(alloc, &mut text, u64::from(commit.request))?;
     text.extend(b" as ")?;
     put_attempt(alloc, &mut text, commit.attempt)?;
     Ok(text)
@@ -141,7 +121,7 @@ fn outcome_of(alloc: Global, start: &Resolved, outcome: &ShownOutcome) -> Result
 {
     let ending = ending_of(alloc, start, &outcome.ending)?;
     let mut text = Seq::from_slice(alloc, b"request ")?;
-    put_number(alloc, &mut text, outcome.request)?;
+    put_number(alloc, &mut text, u64::from(outcome.request))?;
     text.extend(b": ")?;
     text.extend(ending.as_slice())?;
     Ok(text)
@@ -172,7 +152,7 @@ fn held_of(alloc: Global, start: &Resolved, object: &ShownObject) -> Result<Seq<
     let mut text = Seq::new(alloc);
     put_name(alloc, &mut text, start, &object.name)?;
     text.extend(b" v")?;
-    put_number(alloc, &mut text, object.version)?;
+    put_number(alloc, &mut text, u64::from(object.version))?;
     text.extend(b":")?;
     put_values(alloc, &mut text, start, object.fields.as_slice())?;
     Ok(text)

@@ -1,8 +1,7 @@
 //! What commits of workers leave.
-ghost use Rattle.std.specs.Prelude.{◌≡◌, ◌++◌, map, IfOk, OnOk};
+ghost use Rattle.std.specs.Prelude.{◌≡◌, IfOk};
 ghost use Rattle.std.specs.List.{filter};
 ghost use Rattle.fab_protocol.specs.Parts.{puts_of};
-ghost use Rattle.fab_protocol.specs.Versions.{begun, raised};
 ghost use Rattle.fab_release.specs.Replay.{is_shown, leaves};
 ghost use Rattle.fab_rights.specs.Computed.{has_bit};
 ghost use Rattle.fab_public.specs.Settings.{public_at, sight_at};
@@ -12,7 +11,7 @@ use fab_base::{NoMemory, Object, Oid, Seq};
 use fab_commit::puts_of;
 use fab_protocol::Parts;
 use fab_rights::is_in;
-use fab_versions::next_version;
+use fab_shelf::{add_creates, add_writes};
 use std::alloc::Global;
 
 /// An object with a version.
@@ -38,30 +37,6 @@ fn keep_shown(setting: &Setting<'_>, rows: &mut Vec<Row>)
     ensures { rows.new.items ≡ filter (λ row. is_shown (sight_at setting.now) (public_at setting.now) row.0) rows.old.items }
 {
     rows.retain(|row| is_shown(setting, row.0));
-}
-
-/// Writes as they are behind a commit, behind other rows.
-fn add_writes(alloc: Global, rows: &mut Seq<Row>, writes: &[Row]) -> Result<(), NoMemory>
-    ensures { OnOk result (rows.new ≡ rows.old ++ map raised writes.now) }
-{
-    for write in writes {
-        rows.push((write.0, next_version(write.1), write.2.copy(alloc)?))?;
-    }
-    Ok(())
-}
-
-/// Objects that were made, behind other rows.
-pub(crate) fn add_creates(
-    alloc: Global,
-    rows: &mut Seq<Row>,
-    creates: &[(Oid, Object)],
-) -> Result<(), NoMemory>
-    ensures { OnOk result (rows.new ≡ rows.old ++ map begun creates.now) }
-{
-    for create in creates {
-        rows.push((create.0, 1, create.1.copy(alloc)?))?;
-    }
-    Ok(())
 }
 
 /// What a commit of these parts leaves of seen objects at stores outside the set.

@@ -5,13 +5,14 @@ ghost use Rattle.fab_release.specs.Replay.{at_start, is_shown, shown_roots};
 ghost use Rattle.fab_public.specs.Settings.{public_at, sight_at};
 ghost use Rattle.fab_public.specs.States.{IsKept};
 
-use crate::leaving::{add_creates, is_shown};
+use crate::leaving::is_shown;
 use crate::setting::Setting;
 use crate::states::Kept;
 use fab_base::{NoMemory, Object, Oid, Seq};
 use fab_known::Table;
 use fab_map::ObjectMap;
 use fab_serial::at_start as roots_at_start;
+use fab_shelf::add_creates;
 
 fn keep_shown(setting: &Setting<'_>, rows: &mut Vec<(Oid, Object)>)
     ensures { rows.new.items ≡ filter (λ root. is_shown (sight_at setting.now) (public_at setting.now) root.0) rows.old.items }

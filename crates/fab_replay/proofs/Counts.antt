@@ -1,7 +1,8 @@
 -- What is wanted of a run before it, and behind it, where the counts of its reads are known.
-use Rattle.std.specs.Prelude.{◌≡◌, ◌++◌, ℕ, false, IsTrue, List, [], Result, Ok, Err, IfOk, OnErr, OnOk}
+use Rattle.std.specs.Prelude.{◌≡◌, ◌++◌, ℕ, false, IsTrue, List, [], Result, IfOk, OnErr}
 use Rattle.std.proofs.Common.{refl, sym, ap, ◌∙◌, subst, inl, inr}
 use Rattle.std.proofs.lemmas.Bool.{false≢true}
+use Rattle.std.proofs.lemmas.Result.{IfOk-weaker, on_err_weaker}
 use Rattle.fab_device.specs.Kept.{Makers}
 use Rattle.fab_net.specs.declared.note.Commit.{Commit}
 use Rattle.fab_net.specs.declared.note.Logged.{Logged}
@@ -22,15 +23,6 @@ use Rattle.fab_replay.specs.declared.replayed.Told.{Told}
 use Rattle.fab_replay.specs.declared.replayed.Told.TheVariants as told
 use Rattle.fab_replay.specs.declared.replayed.Wanted.{Wanted}
 use Rattle.fab_replay.specs.declared.replayed.Wanted.TheVariants.{Report, Run, Trust, View}
-use Rattle.fab_replay.proofs.Viewing.{if_ok_weaker}
-
-pub on_ok : {A E P Q : Type 0} (o : Result A E) → (P → Q) → OnOk o P → OnOk o Q
-on_ok (Ok x) f h = f h
-on_ok (Err e) f h = tt
-
-on_err : {A E P Q : Type 0} (o : Result A E) → (P → Q) → OnErr o P → OnErr o Q
-on_err (Ok x) f h = tt
-on_err (Err e) f h = f h
 
 own_counts : (w : Wanted) → (counts : List ℕ) × (with_counts w counts ≡ w)
 own_counts Report = ([], refl)
@@ -75,13 +67,13 @@ cut_alike g x y old new (inr (h, made, same)) = inr (record { moves = h.moves; r
 
 module _ (g : GivenModel) (w : Wanted) (x y : Told) (counts : List ℕ) (old new : Makers) (is : w ≡ Run x) (with : Run y ≡ with_counts (Run x) counts) {E : Type 0} (result : Result Replayed E) where
   pub made_with : IfOk result (λ answer. IsReplayed g (Run y) answer old new) → IfOk result (λ answer. IsMade g w answer old new)
-  made_with h = if_ok_weaker result (λ answer k. (counts, subst (λ v. IsReplayed g v answer old new) (with ∙ ap (λ v. with_counts v counts) (sym is)) k)) h
+  made_with h = IfOk-weaker result _ _ (λ answer k. (counts, subst (λ v. IsReplayed g v answer old new) (with ∙ ap (λ v. with_counts v counts) (sym is)) k)) h
 
   pub short_with : OnErr result (IsCutShort g (Run y) old new) → OnErr result (IsCutShort g w old new)
-  short_with h = on_err result (λ k. subst (λ v. IsCutShort g v old new) (sym is) (cut_alike g y x old new k)) h
+  short_with h = on_err_weaker result (λ k. subst (λ v. IsCutShort g v old new) (sym is) (cut_alike g y x old new k)) h
 
 pub made_so : (g : GivenModel) (w : Wanted) (old new : Makers) {E : Type 0} (result : Result Replayed E) → IfOk result (λ answer. IsReplayed g w answer old new) → IfOk result (λ answer. IsMade g w answer old new)
-made_so g w old new result h = if_ok_weaker result (λ answer k. is_made g w answer old new k) h
+made_so g w old new result h = IfOk-weaker result _ _ (λ answer k. is_made g w answer old new k) h
 
 -- ---- what was read, from the commits of a log
 

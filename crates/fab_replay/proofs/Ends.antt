@@ -4,6 +4,7 @@ use Rattle.std.specs.Result.{is_ok}
 use Rattle.std.proofs.Common.{refl, sym, ap, ◌∙◌, subst, inl, inr, arith, true≢false}
 use Rattle.std.proofs.lemmas.Bool.{false_from_ne_true, false≢true}
 use Rattle.std.proofs.Math.Seq.{take-length}
+use Rattle.std.proofs.lemmas.Result.{IfOk-weaker}
 use Rattle.fab_device.specs.Kept.{CannotFail, Entry, Makers}
 use Rattle.fab_language.specs.Words.{node_text}
 use Rattle.fab_rights.specs.Computed.{has_bit}
@@ -40,7 +41,6 @@ use Rattle.fab_replay.proofs.Keeping.{all_kept, front_of, handed_back, hands_fro
 use Rattle.fab_replay.proofs.Marks.{first_has}
 use Rattle.fab_replay.proofs.Moves.{marked_moves, unmarked_moves}
 use Rattle.fab_replay.proofs.Answered.{faulty_has, stopped_unmarked}
-use Rattle.fab_replay.proofs.Viewing.{if_ok_weaker}
 
 -- ---- marks
 
@@ -275,7 +275,7 @@ module _ (g h : GivenModel) (same : h ≡ g) (wanted : Wanted) (old mid new : Ma
       (subst (λ (x : GivenModel). IsTrue (is_honest x node)) same k.0, inr (cut_from (Some node) k.1, made ∙ begun.made, faults ∙ begun.faults))
 
   pub ran_to : {E : Type 0} (result : Result Replayed E) → IfOk result (λ answer. IsEnded h wanted answer mid new) → IfOk result (λ answer. IsReplayed g wanted answer old new)
-  ran_to result of = if_ok_weaker result is_replayed of
+  ran_to result of = IfOk-weaker result _ _ is_replayed of
 
   pub ran_short : {E : Type 0} (result : Result Replayed E) → OnErr result (IsCutOff h wanted None mid new) → OnErr result (IsCutShort g wanted old new)
   ran_short (Ok answer) k = tt

@@ -5,10 +5,9 @@ use Rattle.std.proofs.lemmas.Bool.{and_from, and_parts}
 use Rattle.std.proofs.lemmas.List.{map-append}
 use Rattle.fab_net.specs.declared.event.Event.{Event}
 use Rattle.fab_net.specs.declared.event.Event.TheVariants as e
-use Rattle.fab_net.specs.declared.event.Inner.{Inner}
-use Rattle.fab_net.specs.declared.event.Inner.TheVariants as i
-use Rattle.fab_world.specs.Machine.{Setting, World, Move, Form, Does, Cuts, Fails, Posts, Crashes, Never, form_of, step, enabled, runs, are_enabled}
-use Rattle.fab_world.specs.Serial.{attempts, attempts_at, attempts_in}
+use Rattle.fab_world.specs.Machine.{Setting, World, Move, form_of, step, enabled, runs, are_enabled}
+use Rattle.fab_world.specs.Serial.{attempts}
+use Rattle.fab_world.proofs.Steps.{one_attempt}
 use Rattle.fab_core.specs.Cores.{failed_in, marked, unmarked}
 use Rattle.fab_net.specs.Events.{node_at}
 use Rattle.fab_core.proofs.Histories.{attempts_more}
@@ -20,24 +19,9 @@ moves_more events event = map-append unmarked events (event ∷ [])
 
 -- ---- attempts
 
-one_in : (e : Inner) → attempts_in e ≤ 1
-one_in (i.Begin n) = omega arith
-one_in (i.Resume n) = omega arith
-one_in (i.Deliver a b) = omega arith
-one_in (i.Idle n s) = omega arith
-one_in (i.Recover n) = omega arith
-
-one_at : (form : Form) → attempts_at form ≤ 1
-one_at (Does e) = one_in e
-one_at (Cuts keep e) = one_in e
-one_at (Fails keep e) = one_in e
-one_at (Posts h) = omega arith
-one_at (Crashes n) = omega arith
-one_at Never = omega arith
-
 -- an event is an attempt at most
 pub attempts_step : (moves : List Move) (move : Move) (n : ℕ) → attempts moves ≤ n → attempts (moves ++ move ∷ []) ≤ n + 1
-attempts_step moves move n h = let one = one_at (form_of move) in omega (arith, attempts_more moves move, one)
+attempts_step moves move n h = let one = one_attempt (form_of move) in omega (arith, attempts_more moves move, one)
 
 -- ---- marks
 

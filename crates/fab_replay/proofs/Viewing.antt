@@ -1,6 +1,6 @@
 -- A listing of the public replay is a listing of what was sent.
 use Rattle.std.specs.Prelude.{◌≡◌, ◌↔◌, ℕ, zero, suc, ◌+◌, ◌<◌, ◌≤◌, Bool, true, false, not, if◌then◌else◌, IsTrue, IsBitSet, IsSomeAnd, List, [], ◌∷◌, ◌++◌, length, flat_map, fold, sum_by, is_some, codes}
-use Rattle.std.specs.Prelude.{Option, Some, None, slice_get, Result, Ok, Err, IfOk, IfErr, OnErr}
+use Rattle.std.specs.Prelude.{Option, Some, None, slice_get, Result, Ok, Err, IfErr, OnErr}
 use Rattle.std.specs.Result.{IsErrAnd}
 use Rattle.std.specs.List.{AllByRecursion, filter, range_with_len}
 use Rattle.std.proofs.Common.{refl, sym, ap, ◌∙◌, arith, subst}
@@ -179,10 +179,6 @@ public_viewed g moves nodes sees shows few apart seeing =
     listed_same g.program (has_bit nodes) (world_by g moves).sent (public_in g nodes sees shows moves) (λ n d below within out into. apart nodes sees shows n d seeing out into) few
 
 -- ---- results
-
-pub if_ok_weaker : {A E : Type 0} {P Q : A → Type 0} (r : Result A E) → ((a : A) → P a → Q a) → IfOk r P → IfOk r Q
-if_ok_weaker (Ok a) h p = h a p
-if_ok_weaker (Err e) h p = p
 
 pub any_err : {A E P : Type 0} (r : Result A E) → P → OnErr r P
 any_err (Ok a) p = tt

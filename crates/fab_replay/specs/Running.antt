@@ -9,9 +9,9 @@ use Rattle.fab_eval.specs.declared.job.Job.{Job}
 use Rattle.fab_pauses.specs.Evaluations.{EvaluatorsModel, IsOf, last_of}
 use Rattle.fab_net.specs.declared.event.Event.{Event}
 use Rattle.fab_net.specs.declared.event.Inner.{Inner}
-use Rattle.fab_net.specs.declared.event.Inner.TheVariants as i
 use Rattle.fab_tree.specs.declared.resolved.Resolved.{Resolved}
 use Rattle.fab_world.specs.Machine.{Move, Enabled, Fails, enabled, form_of}
+pub use Rattle.fab_node.specs.Deeds.{is_recovery}
 use Rattle.fab_node.specs.Standing.{GivenModel, JournalModel}
 use Rattle.fab_core.specs.Cores.{EventHasDone, failure, is_honest, marked, setting, slot, unmarked, world_by}
 use Rattle.fab_net.specs.Events.{node_at}
@@ -93,11 +93,6 @@ abbrev pub ComesBy : GivenModel → Event → List Move → List Move → Came �
 ComesBy g event old new c.Whole = HasCome g event (unmarked event) old new
 ComesBy g event old new c.Cut = HasCome g event (marked event) old new
 ComesBy g event old new c.Barred = IsBarred g event old new
-
--- a recovery
-abbrev pub is_recovery : Inner → Bool
-is_recovery (i.Recover n) = true
-is_recovery _ = false
 
 -- whether an event in which a call of a journal counts as having failed came: it may, and the moves are one more; or it may not, and they are as they were
 abbrev pub FailsNext : GivenModel → Inner → List Move → List Move → Bool → Type 0

@@ -27,10 +27,10 @@ use Rattle.fab_integrity.proofs.Invariant.{In, Standing, IsWorker, IsStore, Sett
 use Rattle.fab_integrity.proofs.Frames.{not_sent, standing_same, shelf_same, store_is_other, apart_by_D}
 use Rattle.fab_integrity.proofs.Items.{left_here}
 use Rattle.fab_integrity.proofs.Lasting.{kept_behind, keeps_behind}
-use Rattle.fab_integrity.proofs.Lists.{each_of, in_blank, in_unless}
+use Rattle.fab_integrity.proofs.Lists.{each_of, in_blank}
 use Rattle.fab_integrity.proofs.Steps.{Holds}
 use Rattle.fab_integrity.proofs.Tids.{limit_next}
-use Rattle.fab_integrity.proofs.Worlds.{IsAsBefore, Follows, IsSent, Lands, at_same, at_other, down_here, down_beside, down_entries}
+use Rattle.fab_integrity.proofs.Worlds.{IsAsBefore, Follows, IsSent, Lands, at_same, at_other, down_here, down_beside, down_entries, down_queue}
 use Rattle.fab_shadow.proofs.Shadow.{never, Shadow, ShadowsWorker, ShadowsStore, Recorded, Tabled, Dated, InPhase, Told}
 use Rattle.fab_shadow.proofs.Fold.{AtWorker, AtStore, after}
 use Rattle.fab_shadow.proofs.Notes.{AreOwn}
@@ -172,13 +172,10 @@ module _ (S : Setting) (sight : Sight) (P : Public) where
 
   module _ (w : World) (log : List Logged) (cs : List Commit) (k : Rebuilt) (n : ℕ) (low : (kept S w n).boot + (w.node n).attempt.number ≤ 4000000001)
       (h : Shadow S sight P w log cs k) where
-    loses : (x b : ℕ) (bytes : List ℕ) → In bytes ((down S w n).queue x b) → In bytes (w.queue x b)
-    loses x b bytes i = in_unless _ bytes (w.queue x b) i
-
     down_inside : sight.has n ≡ true → Shadow S sight P (down S w n) log cs k
     down_inside inside =
         shadow_same w (down S w n) cs (λ m me. down_beside S w n m (apart_by_D S sight.has never n m inside me.outside))
-        (λ s me. down_entries S w n s) (λ x b outside. loses x b) log k h
+        (λ s me. down_entries S w n s) (λ x b outside. down_queue S w n x b) log k h
 
     abbrev Fallen : Standing
     Fallen = record { kept = kept S w n; attempt = fresh; up = false; deals = deals cs n }
@@ -242,7 +239,7 @@ module _ (S : Setting) (sight : Sight) (P : Public) where
           cached = λ m me rows i r j shown at. subst (λ x. Dated S sight P k.table cs x r) (sym (same_down r.0.store))
               (t.cached m me rows (fallen_cached rows r m (cases_eq m n) i j) r j shown at);
           objects = λ m s me from bytes i u o version x read shown at. subst (λ y. Dated S sight P k.table cs y (o, version, x)) (sym (same_down s))
-              (t.objects m s me from bytes (loses s m bytes i) u o version x read shown at);
+              (t.objects m s me from bytes (down_queue S w n s m bytes i) u o version x read shown at);
         }
 
     down_outside : Shadow S sight P (down S w n) log cs (at_worker sight P k n (over sight P (no_caches sight P)))

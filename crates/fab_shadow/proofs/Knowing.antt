@@ -19,7 +19,7 @@ use Rattle.fab_protocol.specs.Tables.{row_of, OnlyOnce}
 use Rattle.fab_protocol.specs.Versions.{Row, Rows, name_of, names_of, objects_of}
 use Rattle.fab_protocol.proofs.NameLists.{none_among, once_append}
 use Rattle.fab_protocol.proofs.TableLaws.{row_of_name, row_of_none}
-use Rattle.fab_laws.proofs.Names.{among_once}
+use Rattle.fab_language.proofs.Touches.{among_once}
 use Rattle.fab_language.specs.Heaps.{touched}
 use Rattle.fab_world.specs.Machine.{Setting, World, kept, meant}
 use Rattle.fab_world.specs.Serial.{IsFitName}

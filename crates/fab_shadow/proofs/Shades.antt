@@ -13,7 +13,7 @@ use Rattle.fab_base.specs.FlatMap.{FlatMap, get, map_of, is_among, ascends}
 use Rattle.fab_language.specs.declared.ending.Ending.TheVariants.{Ended}
 use Rattle.fab_language.specs.Heaps.{each_once, touched}
 use Rattle.fab_language.specs.Meaning.{Meant}
-use Rattle.fab_laws.proofs.Names.{among_once}
+use Rattle.fab_language.proofs.Touches.{among_once}
 use Rattle.fab_net.specs.declared.note.Commit.{Commit}
 use Rattle.fab_net.specs.declared.note.Logged.{Logged}
 use Rattle.fab_protocol.specs.declared.parts.Parts.{Parts}

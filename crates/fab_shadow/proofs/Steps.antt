@@ -33,6 +33,7 @@ use Rattle.fab_release.specs.Record as record_of
 use Rattle.fab_release.specs.Record.{of_event, of_inner, of_note, done, unless_in, said, received, recovered, seen_by, downs_to, gots_to, is_in_view}
 use Rattle.fab_release.specs.Replay.{Rebuilt, node_in, sent_behind}
 use Rattle.fab_isolation.specs.Law.{IsShared}
+use Rattle.fab_world.proofs.Steps.{ready_sent}
 use Rattle.fab_integrity.proofs.Invariant.{In, IsWorker, IsStore}
 use Rattle.fab_integrity.proofs.Changes.{boots_behind, if_whole, cuts_changes}
 use Rattle.fab_integrity.proofs.Costs.{noted_outside, goes_act, boots_in, commit_at}
@@ -162,13 +163,6 @@ module _ (S : Setting) (sight : Sight) (P : Public) (shared : IsShared S sight P
           ∙ filter_none (λ (c : Commit). not (sight.has c.worker)) (commit_at (node_of e) (kept S w (node_of e)) (w.node (node_of e)).attempt ∷ []) (ap not inside, tt)
     ]
 
-    ready_sent : (e : Inner) → (ready S w e).sent ≡ w.sent
-    ready_sent (i.Begin n) = refl
-    ready_sent (i.Resume n) = refl
-    ready_sent (i.Deliver a b) = refl
-    ready_sent (i.Idle n s) = refl
-    ready_sent (i.Recover n) = refl
-
     -- ---- an event that is done
 
     module _ (e : Inner) (can : IsTrue (may S w e)) (x : Logged) (mine : IsLogged (node_of e) (act S w e).notes x) where
@@ -194,12 +188,12 @@ module _ (S : Setting) (sight : Sight) (P : Public) (shared : IsShared S sight P
       sent_by_n : (d : ℕ) → whole.sent n d ≡ w.sent n d ++ bytes_to S d (out_of (act S w e))
       sent_by_n d =
           ap (λ (f : ℕ → List (List ℕ)). f d) (at_same (ready S w e).sent n (λ b. (ready S w e).sent n b ++ bytes_to S b (out_of (act S w e))))
-          ∙ ap (λ (f : ℕ → ℕ → List (List ℕ)). f n d ++ bytes_to S d (out_of (act S w e))) (ready_sent e)
+          ∙ ap (λ (f : ℕ → ℕ → List (List ℕ)). f n d ++ bytes_to S d (out_of (act S w e))) (ready_sent S w e)
 
       sent_by_other : (z d : ℕ) → (z ≡ n → ⊥) → whole.sent z d ≡ w.sent z d
       sent_by_other z d ne =
           ap (λ (f : ℕ → List (List ℕ)). f d) (at_other (ready S w e).sent n (λ b. (ready S w e).sent n b ++ bytes_to S b (out_of (act S w e))) z ne)
-          ∙ ap (λ (f : ℕ → ℕ → List (List ℕ)). f z d) (ready_sent e)
+          ∙ ap (λ (f : ℕ → ℕ → List (List ℕ)). f z d) (ready_sent S w e)
 
       nowhere : (d : ℕ) → is_node S.rights d ≡ false → (sends : List (ℕ × Message)) → AllByRecursion (λ y. IsTrue (is_node S.rights y.0)) sends → bytes_for d sends ≡ []
       nowhere d none sends h = ap (map (λ (y : ℕ × Message). spelled y.1)) (filter_none (λ (y : ℕ × Message). y.0 == d) sends (apart sends h))
@@ -333,7 +327,7 @@ module _ (S : Setting) (sight : Sight) (P : Public) (shared : IsShared S sight P
           (shadow_down S sight P silent (log ++ x ∷ []) ds r at low_muted h)
 
       torn_sent : (down S torn at).sent ≡ w.sent
-      torn_sent = ready_sent e
+      torn_sent = ready_sent S w e
 
       whole_by : (b : Bool) → sight.has at ≡ b → (keep == length (record_at S w e)) ≡ true → x.notes ≡ (act S w e).notes
           → Stepped (down S torn at) (log ++ x ∷ []) (cs ++ noted_outside sight.has (act S w e).notes)

@@ -20,8 +20,8 @@ pub(crate) fn is_one_tid(one: Tid, other: Tid) -> bool
     one == other
 }
 
-/// Writes, each at the version behind the one that was read.
-fn add_writes(
+/// Writes, each at the version behind the one that was read, behind other rows.
+pub fn add_writes(
     alloc: Global,
     rows: &mut Seq<(Oid, u32, Object)>,
     writes: &[(Oid, u32, Object)],
@@ -34,8 +34,8 @@ fn add_writes(
     Ok(())
 }
 
-/// Objects that were made, each at version 1.
-fn add_creates(
+/// Objects that were made, each at version 1, behind other rows.
+pub fn add_creates(
     alloc: Global,
     rows: &mut Seq<(Oid, u32, Object)>,
     creates: &[(Oid, Object)],

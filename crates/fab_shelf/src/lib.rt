@@ -7,4 +7,5 @@ mod changes;
 mod heard;
 mod stored;
 
+pub use changes::{add_creates, add_writes};
 pub use stored::Stored;

@@ -100,24 +100,24 @@ module _ (S : Setting) where
         ok : WorkerOk S S.hostile no_classes n (standing S S.hostile no_classes w cs n) good.state
         ok = good.inv.worker n me
 
-        pub named : IsTid tid
-        named = tid_spelled n (kept S w n) (w.node n).attempt (worker_below S.rights n given.workers me.kind) ok.low
+        pub tid_fits : IsTid tid
+        tid_fits = tid_spelled n (kept S w n) (w.node n).attempt (worker_below S.rights n given.workers me.kind) ok.low
 
         pub answers_fit : AreFit S (objects_of (w.node n).attempt.answers)
         answers_fit =
             all_map (IsFit S) (λ (row : Row). (row.0, row.2)) (w.node n).attempt.answers
             (all_of (λ (row : Row). IsFit S (row.0, row.2)) (w.node n).attempt.answers (λ r h. (ok.answers r h).fit))
 
-        answers_low : AllByRecursion (λ row. row.1 < 4294967296) (w.node n).attempt.answers
+        pub answers_low : AllByRecursion (λ row. row.1 < 4294967296) (w.node n).attempt.answers
         answers_low = all_of (λ (row : Row). row.1 < 4294967296) (w.node n).attempt.answers (λ r h. (ok.answers r h).version)
 
         pub plain : ArePlain (parts S w n)
-        plain = parts_plain S law n (request_of (kept S w n)) tid (w.node n).attempt.answers named answers_fit answers_low
+        plain = parts_plain S law n (request_of (kept S w n)) tid (w.node n).attempt.answers tid_fits answers_fit answers_low
 
         asked : (s : ℕ) → KeepsItems (items_at (parts S w n) s)
         asked s =
             can_be_encoded 1 (m.Prepare tid (items_at (parts S w n) s))
-            (prepare_spelled S law n (request_of (kept S w n)) tid (w.node n).attempt.answers named answers_fit answers_low s)
+            (prepare_spelled S law n (request_of (kept S w n)) tid (w.node n).attempt.answers tid_fits answers_fit answers_low s)
 
         abbrev pub Sound : Act → Type 0
         Sound act = IsSound tid (parts S w n) act
@@ -148,7 +148,7 @@ module _ (S : Setting) where
       result_in : (n : ℕ) (me : Worker S n) (ending : Ending) → (meant S w n).ending ≡ ending → IsResultIn (value_of ending)
       result_in n me (endings.Ended None) is = tt
       result_in n me (endings.Ended (Some v)) is =
-          value_in v (law.value n (request_of (kept S w n)) (tid n me) (map_of (objects_of (w.node n).attempt.answers)) v (named n me)
+          value_in v (law.value n (request_of (kept S w n)) (tid n me) (map_of (objects_of (w.node n).attempt.answers)) v (tid_fits n me)
           (all_put (IsFit S) (objects_of (w.node n).attempt.answers) [] (answers_fit n me) tt) is)
       result_in n me endings.Failed is = tt
       result_in n me (endings.Stopped limit) is = tt
@@ -162,7 +162,7 @@ module _ (S : Setting) where
           let n = node_of event in
           let of : (t ≡ tid n me) × (value ≡ (parts S w n).value) × (stores ≡ stores_of (parts S w n)) =
           subst (IsOfIf (tid n me) (parts S w n)) is sound.entry in
-          (subst IsAttemptIn (sym of.0) (attempt_in (tid n me) (named n me)), subst IsResultIn (sym of.1) (result_in n me (meant S w n).ending refl))
+          (subst IsAttemptIn (sym of.0) (attempt_in (tid n me) (tid_fits n me)), subst IsResultIn (sym of.1) (result_in n me (meant S w n).ending refl))
 
       -- ---- a store
 

@@ -36,7 +36,7 @@ use Rattle.fab_settings.proofs.Gives.{gives_setting}
 use Rattle.fab_settings.proofs.Meanings.{evaluates}
 use Rattle.fab_trace.specs.Report.{commit_of, commits_in}
 use Rattle.fab_reports.specs.Showable.{IsCommitIn}
-use Rattle.fab_shown.proofs.Acts.{kind_of, named, store_filed}
+use Rattle.fab_shown.proofs.Acts.{kind_of, store_filed, tid_fits}
 use Rattle.fab_shown.proofs.Nodes.{rights_node}
 
 -- ---- the commits that notes have, as a report lists them
@@ -145,7 +145,7 @@ module _ (s : Start) (rights : Rights) (a : IsAcceptedWith s rights) where
           | inl me ↦
               let o = record_ends (act S w event).entry ends in
               let few = request_few event whole me o.0 o.1 in
-              let tid = named S given law w _ good (node_of event) me in
+              let tid = tid_fits S given law w _ good (node_of event) me in
               (rights_node r rights a.rights_are (node_of event) (may_node S w event may_event), ((omega arith, few), (tid.boot, tid.number)))
           | inr me ↦
               let filed = store_filed S given law w _ good event me may_event in

@@ -13,8 +13,9 @@ use Rattle.fab_net.specs.declared.note.Commit.{Commit}
 use Rattle.fab_net.specs.declared.note.Logged.{Logged}
 use Rattle.fab_rights.specs.declared.rights.Rights.{Rights}
 use Rattle.fab_rights.specs.Computed.{is_node}
-use Rattle.fab_world.specs.Machine.{Setting, World, Move, act, at_start, bytes_at, bytes_in, enabled, form_by, is_empty, logged, logs, may, node_of, post_bytes, record_at, runs, step}
+use Rattle.fab_world.specs.Machine.{Setting, World, Move, act, at_start, bytes_at, bytes_in, enabled, form_by, is_empty, logged, logs, may, node_of, post_bytes, record_at, step}
 use Rattle.fab_world.specs.Serial.{IsEvaluation, IsRun, IsSetting, commits_in, world_of}
+use Rattle.fab_world.proofs.Steps.{logs_more}
 use Rattle.fab_integrity.proofs.Runs.{front_run}
 use Rattle.fab_integrity.proofs.Steps.{may_node}
 use Rattle.fab_integrity.proofs.Transport.{front_in}
@@ -35,10 +36,6 @@ use Rattle.fab_shown.proofs.Queues.{Waits, each_post, left_posts, next_receiver,
 first_bytes : (S : Setting) (posts : List (ℕ × List ℕ)) → AllByRecursion (λ x. AreBytes x.1) posts → AreBytes (post_bytes S posts)
 first_bytes S [] h = tt
 first_bytes S (post ∷ more) h = h.0
-
-logs_more : (S : Setting) (w : World) (xs : List Move) (move : Move) → logs S w (xs ++ move ∷ []) ≡ logs S w xs ++ logged S (runs S w xs) move ∷ []
-logs_more S w [] move = refl
-logs_more S w (x ∷ xs) move = ap (λ rest. logged S w x ∷ rest) (logs_more S (step S w x) xs move)
 
 module _ (s : Start) (rights : Rights) (a : IsAcceptedWith s rights) (bytes : AllByRecursion (λ p. AreBytes p.bytes) (resolved s).posts)
     (receivers : AllByRecursion (λ p. IsNode (resolved s) p.receiver) (resolved s).posts) where

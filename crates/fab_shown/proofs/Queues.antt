@@ -15,12 +15,12 @@ use Rattle.fab_net.specs.declared.event.Event.TheVariants as e
 use Rattle.fab_net.specs.declared.event.Inner.{Inner}
 use Rattle.fab_net.specs.declared.note.Logged.{Logged}
 use Rattle.fab_rights.specs.Computed.{is_node}
-use Rattle.fab_world.specs.Machine.{Setting, World, Move, Form, Does, Cuts, Fails, Posts, Crashes, Never, act, at_node, bytes_to, cut, down, enabled, form_by, form_of}
+use Rattle.fab_world.specs.Machine.{Setting, World, Move, Form, Does, Cuts, Fails, Posts, Crashes, Never, act, at_node, bytes_to, cut, enabled, form_by, form_of}
 use Rattle.fab_world.specs.Machine.{is_empty, logged, may, node_of, posted, ready, rest_of, steps, waiting_for, with_at}
 use Rattle.fab_integrity.proofs.Invariant.{In}
 use Rattle.fab_integrity.proofs.Lists.{each_of, in_append, in_filter, in_if, in_map, in_one}
 use Rattle.fab_integrity.proofs.Transport.{lands_whole, ready_queue}
-use Rattle.fab_integrity.proofs.Worlds.{IsSent, at_other, at_same}
+use Rattle.fab_integrity.proofs.Worlds.{IsSent, at_other, at_same, down_queue}
 use Rattle.fab_integrity.proofs.Changes.{ready_posts}
 use Rattle.fab_settings.specs.Settings.{posts_of}
 use Rattle.fab_trace.specs.Report.{is_post_of, targets}
@@ -81,12 +81,6 @@ count_one test (y ∷ ys) x =
 module _ (S : Setting) where
   -- ---- queues
 
-  down_queue : (w : World) (m s n : ℕ) (bytes : List ℕ) → In bytes ((down S w m).queue s n) → In bytes (w.queue s n)
-  down_queue w m s n bytes h = elim (cases_eq n m) [
-    | inl same ↦ absurd (subst (In bytes) (ap (with_at (w.queue s) m []) same ∙ at_same (w.queue s) m []) h)
-    | inr ne ↦ subst (In bytes) (at_other (w.queue s) m [] n ne) h
-  ]
-
   abbrev pub AllBytes : World → Type 0
   AllBytes w = (x b : ℕ) (bytes : List ℕ) → In bytes (w.queue x b) → AreBytes bytes
 
@@ -124,10 +118,10 @@ module _ (S : Setting) where
       ]
   queues_step w (Cuts keep event) can sends posts all x b bytes h =
       all x b bytes (ready_queue S w event x b bytes
-      (down_queue (at_node S (ready S w event) (node_of event) (cut S keep (act S w event).entry)) (node_of event) x b bytes h))
-  queues_step w (Fails keep event) can sends posts all x b bytes h = all x b bytes (down_queue w (node_of event) x b bytes h)
+      (down_queue S (at_node S (ready S w event) (node_of event) (cut S keep (act S w event).entry)) (node_of event) x b bytes h))
+  queues_step w (Fails keep event) can sends posts all x b bytes h = all x b bytes (down_queue S w (node_of event) x b bytes h)
   queues_step w (Posts n) can sends posts all x b bytes h = posted_bytes w n (w.posts n) all (posts n) x b bytes h
-  queues_step w (Crashes n) can sends posts all x b bytes h = all x b bytes (down_queue w n x b bytes h)
+  queues_step w (Crashes n) can sends posts all x b bytes h = all x b bytes (down_queue S w n x b bytes h)
   queues_step w Never can sends posts all x b bytes h = all x b bytes h
 
   -- ---- posts

@@ -12,6 +12,6 @@ mod targets;
 mod words;
 
 pub use report::print_report;
-pub use requests::Outcomes;
+pub use requests::{Outcomes, denial_word};
 pub use stores::Held;
 pub use words::{put_bytes, put_node, put_number};

@@ -20,7 +20,7 @@ pub struct Outcomes {
 }
 
 /// The word of a denial.
-fn denial_word(denial: Denial) -> &'static str
+pub fn denial_word(denial: Denial) -> &'static str
     ensures { result.now ≡ denial_text denial }
 {
     match denial {

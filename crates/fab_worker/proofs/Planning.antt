@@ -26,6 +26,7 @@ use Rattle.fab_cache.proofs.Laying.{cached_last}
 use Rattle.fab_attempts.specs.Known.{AreKnown, ArePartsOver, IsKnown}
 use Rattle.fab_attempts.specs.Sessions.{requests_of}
 use Rattle.fab_attempts.proofs.Puts.{caches_kept, puts_known}
+use Rattle.fab_worker.proofs.Sending.{each_spelled}
 use Rattle.fab_worker.specs.declared.stage.Stage.{Stage}
 use Rattle.fab_worker.specs.Invariants.{IsWorker}
 use Rattle.fab_commit.specs.Coordinators.{Coordination}
@@ -34,10 +35,6 @@ use Rattle.fab_world.specs.Workers as phases
 use Rattle.fab_worker.specs.declared.change.Change.TheVariants as c
 use Rattle.fab_worker.specs.Models.{WorkerModel, tid_at}
 use Rattle.fab_worker.specs.Plans.{Plan, AreBehind, Fits, changed, IsPlanOf, ArePrepared, IsPreparing, IsAtWork}
-
-pub all_spelled : (ss : List ℕ) (message : Message) → map {B = ℕ × List ℕ} (λ (y : ℕ × Message). (y.0, spelled y.1)) (to_all ss message) ≡ map {B = ℕ × List ℕ} (λ s. (s, spelled message)) ss
-all_spelled [] message = refl
-all_spelled (s ∷ ss) message = ap (λ rest. (s, spelled message) ∷ rest) (all_spelled ss message)
 
 -- an Abort to each that takes part
 module _ (x : WorkerModel) (who : Coordination) (what : Parts) (are : ArePrepared x who what) where
@@ -53,7 +50,7 @@ module _ (x : WorkerModel) (who : Coordination) (what : Parts) (are : ArePrepare
       → IfOk r (λ sends. sends ≡ map {B = ℕ × List ℕ} (λ s. (s, spelled (m.Abort t))) stores)
       → IfOk r (λ sends. sends ≡ map {B = ℕ × List ℕ} (λ (y : ℕ × Message). (y.0, spelled y.1)) (aborts_in x.rights x.program.cache x.node x.kept x.attempt.phase x.attempt x.parts))
   aborts_sent (Ok sends) stores t same_stores same_tid h =
-      h ∙ sym (all_spelled stores (m.Abort t)) ∙ ap (map {B = ℕ × List ℕ} (λ (y : ℕ × Message). (y.0, spelled y.1))) (named stores t same_stores same_tid)
+      h ∙ each_spelled stores (m.Abort t) ∙ ap (map {B = ℕ × List ℕ} (λ (y : ℕ × Message). (y.0, spelled y.1))) (named stores t same_stores same_tid)
   aborts_sent (Err bad) stores t same_stores same_tid h = tt
 
 pub none_sent : (x : WorkerModel) (phase : Phase) → (IsPreparing phase → ⊥) → aborts_in x.rights x.program.cache x.node x.kept phase x.attempt x.parts ≡ []
@@ -161,7 +158,7 @@ module _ (x : WorkerModel) (parts : Parts) (new : List (Option Rows)) (behind : 
       → IfOk r (λ p. IsPlanOf x.version (noting notes (decides x.rights x.program.cache x.node x.kept x.attempt parts)) x.attempt p)
   decided (Ok p) sends answers notes told same_answers sent noted h =
       let all_sent : sends ≡ map {B = ℕ × List ℕ} (λ (y : ℕ × Message). (y.0, spelled y.1)) (to_all (stores_of parts) (m.Commit (tid_at x))) =
-      sent ∙ (λ i. map {B = ℕ × List ℕ} (λ s. (s, spelled (m.Commit (same_tid i)))) (same_stores i)) ∙ sym (all_spelled (stores_of parts) (m.Commit (tid_at x))) in
+      sent ∙ (λ i. map {B = ℕ × List ℕ} (λ s. (s, spelled (m.Commit (same_tid i)))) (same_stores i)) ∙ each_spelled (stores_of parts) (m.Commit (tid_at x)) in
       let all_noted : told ≡ notes ++ note.Decided (tid_at x) (request_of x.kept) true x.attempt.answers ∷ note.Closed (request_of x.kept) (Committed (tid_at x) parts.value) ∷ [] =
       noted ∙ append_assoc notes (note.Decided t request true answers ∷ []) (note.Closed request (Committed t parts.value) ∷ [])
       ∙ (λ i. notes ++ note.Decided (same_tid i) (same_request i) true (same_answers i) ∷ note.Closed (same_request i) (Committed (same_tid i) parts.value) ∷ []) in

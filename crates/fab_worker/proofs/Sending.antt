@@ -6,7 +6,7 @@ use Rattle.fab_base.specs.MessageSpelling.{spelled}
 use Rattle.fab_commit.specs.Coordinators.{spelled_sends}
 use Rattle.fab_world.specs.Workers.{to_all}
 
-each_spelled : (stores : List ℕ) (message : Message) → map (λ s. (s, spelled message)) stores ≡ spelled_sends (to_all stores message)
+pub each_spelled : (stores : List ℕ) (message : Message) → map (λ s. (s, spelled message)) stores ≡ spelled_sends (to_all stores message)
 each_spelled [] message = refl
 each_spelled (s ∷ stores) message = ap (λ (sends : List (ℕ × List ℕ)). (s, spelled message) ∷ sends) (each_spelled stores message)
 

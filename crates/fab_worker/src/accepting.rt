@@ -52,7 +52,7 @@ pub(crate) fn keep(session: &mut Session, decided: &mut Vec<Decision>, entry: En
             stores,
         } => {
             session.close(ReqOutcome::Committed(tid, result));
-            let _ = decided.push(Decision {
+            decided.push_reserved(Decision {
                 tid,
                 request,
                 stores,
@@ -115,11 +115,11 @@ fn carry_out(
     match change {
         Change::Nothing => {}
         Change::Answered(row) => {
-            let _ = answers.push(row);
+            answers.push_reserved(row);
             *stage = Stage::Evaluating;
         }
         Change::Found(row, new) => {
-            let _ = answers.push(row);
+            answers.push_reserved(row);
             *told = new;
         }
         Change::Fetches(oid, new) => {

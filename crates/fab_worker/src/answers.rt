@@ -1,59 +1,18 @@
 //! The answers of an attempt, as others are given them.
 
-ghost use Rattle.std.specs.Prelude.{◌≡◌, ◌<◌, ◌==◌, false, IfOk, IfSome, length, map, Some, slice_get, option_copied};
+ghost use Rattle.std.specs.Prelude.{◌≡◌, ◌<◌, ◌==◌, false, IfOk, IfSome, length, Some, slice_get, option_copied};
 ghost use Rattle.std.specs.Bool.{MatchBool};
-ghost use Rattle.std.specs.List.{find};
 ghost use Rattle.fab_eval.specs.Attempts.{is_made_in};
 ghost use Rattle.fab_attempts.specs.Sessions.{requests_of};
 ghost use Rattle.fab_worker.specs.Models.{IsAnswerBehind, IsJobIn, IsRequestAt};
 
 use crate::worker::Worker;
+use fab_attempts::request_in;
 use fab_base::{NoMemory, Object, Oid, Tid};
 use fab_eval::{Job, copy_of_request};
 use fab_pauses::{answer_behind, are_same_answers, is_same_request};
-use fab_tree::resolved::{Request, Resolved, Session};
+use fab_tree::resolved::{Request, Resolved};
 use std::alloc::Global;
-
-/// The session of a worker, if it has one.
-fn session_of(program: &Resolved, node: u16) -> Option<&Session>
-    ensures { option_copied result ≡ find (λ session. session.worker.number == node) program.now.sessions }
-{
-    program
-        .sessions
-        .as_slice()
-        .iter()
-        .find(|session| session.worker.number == node)
-}
-
-/// How many requests a worker's session has.
-pub(crate) fn requests_in(program: &Resolved, node: u16) -> usize
-    ensures { result ≡ length (requests_of program.now node) }
-{
-    match session_of(program, node) {
-        Some(session) => session.requests.len(),
-        None => 0,
-    }
-}
-
-/// A request of a session, by its place.
-fn asked_in(session: &Session, at: usize) -> Option<&Request>
-    ensures { option_copied result ≡ slice_get (map (λ asked. asked.request) session.now.requests) at }
-{
-    match session.requests.as_slice().get(at) {
-        Some(asked) => Some(&asked.request),
-        None => None,
-    }
-}
-
-/// A request of a worker's session, by its place, if there is one.
-fn request_in(program: &Resolved, node: u16, at: usize) -> Option<&Request>
-    ensures { option_copied result ≡ slice_get (requests_of program.now node) at }
-{
-    match session_of(program, node) {
-        Some(session) => asked_in(session, at),
-        None => None,
-    }
-}
 
 /// A request of a worker's session again, by its place.
 #[tactic(auto, using(std::proofs::lemmas::Option::gets))]
@@ -66,7 +25,7 @@ fn request_again(
     requires { at < length (requests_of program.now node) }
     ensures { IfOk result (λ r. slice_get (requests_of program.now node) at ≡ Some r) }
 {
-    match request_in(program, node, at) {
+    match request_in(program, usize::from(node), at) {
         Some(request) => copy_of_request(alloc, request),
         None => unreachable!(),
     }
@@ -89,7 +48,8 @@ impl Worker {
         if tid != self.session.tid() {
             return false;
         }
-        match request_in(&self.program, self.node, self.session.outcomes().len()) {
+        let at = self.session.outcomes().len();
+        match request_in(&self.program, usize::from(self.node), at) {
             Some(asked) => is_same_request(asked, request),
             None => false,
         }

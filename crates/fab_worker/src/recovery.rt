@@ -14,9 +14,9 @@ ghost use Rattle.fab_worker.specs.Plans.{AreKept, step_of};
 ghost use Rattle.fab_attempts.specs.Sessions.{IsProgramOf, requests_of};
 
 use crate::accepting::keep;
-use crate::answers::requests_in;
 use crate::stage::Stage;
 use crate::worker::Worker;
+use fab_attempts::requests_in;
 use fab_base::{Entry, Message, NoMemory, Seq};
 use fab_cache::Caches;
 use fab_commit::{Sends, resend, to_each};
@@ -184,7 +184,7 @@ impl Worker {
         ensures attempt { IfOk result (λ w. w.attempt ≡ fresh) }
         ensures parts { IfOk result (λ w. w.parts ≡ no_parts) }
     {
-        let requests = requests_in(&program, node) as u32;
+        let requests = requests_in(&program, usize::from(node)) as u32;
         let caches = Caches::make(alloc, program.cache, 64)?;
         let mut session = Session::make(alloc, node, boot, requests)?;
         let mut decided = Vec::new(alloc);

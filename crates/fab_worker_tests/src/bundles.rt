@@ -1,13 +1,13 @@
 //! From texts to workers.
 
-ghost use Rattle.std.specs.Prelude.{◌≡◌, ◌+◌, ◌<◌, ◌==◌, ℕ, None as Nothing, IfOk, IfSome, IsTrue, length, option_copied};
-ghost use Rattle.std.specs.List.{find};
+ghost use Rattle.std.specs.Prelude.{◌≡◌, ◌+◌, ◌<◌, ◌==◌, ℕ, None as Nothing, IfOk, IfSome, IsTrue, length};
 ghost use Rattle.fab_base.specs.JournalSpelling.{AreEntries, IsEntry, journal_version};
 ghost use Rattle.fab_tree.specs.Limits.{first_passed};
-ghost use Rattle.fab_attempts.specs.Sessions.{IsProgramOf, requests_of};
+ghost use Rattle.fab_attempts.specs.Sessions.{IsProgramOf};
 ghost use Rattle.fab_world.specs.Workers.{Kept, WorkerCanKeep, fresh, worker_keeps};
 ghost use Rattle.fab_worker.specs.Plans.{AreKept};
 
+use fab_attempts::requests_in;
 use fab_base::{Entry, NoMemory};
 use fab_bundle::{BundleError, bundle};
 use fab_journal::{JOURNAL_VERSION, read_records};
@@ -15,7 +15,6 @@ use fab_lexer::{LexError, tokens};
 use fab_net::Step;
 use fab_setup::{Setup, setup_of};
 use fab_tree::Start;
-use fab_tree::resolved::{Resolved, Session};
 use fab_worker::Worker;
 use std::alloc::{AllocError, Global};
 use std::test::Fail;
@@ -48,27 +47,6 @@ pub(crate) fn worker_of(alloc: Global, text: &[u8], node: u16) -> Result<Worker,
 {
     let Setup { program, rights } = setup_in(alloc, text)?;
     Ok(Worker::make(alloc, node, program, &rights, JOURNAL_VERSION)?)
-}
-
-/// The session of a worker, if it has one.
-fn session_of(program: &Resolved, node: u16) -> Option<&Session>
-    ensures { option_copied result ≡ find (λ session. session.worker.number == node) program.now.sessions }
-{
-    program
-        .sessions
-        .as_slice()
-        .iter()
-        .find(|session| session.worker.number == node)
-}
-
-/// How many requests a worker's session has.
-fn requests_in(program: &Resolved, node: u16) -> usize
-    ensures { result ≡ length (requests_of program.now node) }
-{
-    match session_of(program, node) {
-        Some(session) => session.requests.len(),
-        None => 0,
-    }
 }
 
 /// How many requests ended behind a record of the end of one, if it is the next of so many.
@@ -128,7 +106,7 @@ pub(crate) fn come_back(
     let Setup { program, rights } = setup_in(alloc, text)?;
     let (entries, len, version) = read_records(alloc, journal)?;
     let entries = entries.as_slice();
-    let requests = requests_in(&program, node);
+    let requests = requests_in(&program, usize::from(node));
     if entries.len() >= 4_000_000_000 || !are_kept(entries, 0, requests) {
         return Err(Fail::new("records that aren't kept"));
     }

@@ -1,5 +1,6 @@
 use Rattle.std.proofs.Common.{◌≡◌, ◌∙◌, ◌≤◌, ◌<◌, ℕ, All, List, sym, ap, subst, arith, length}
 use Rattle.std.specs.List.{enumerate_from}
+use Rattle.std.proofs.lemmas.Result.{IfOk-weaker}
 use Rattle.fab_tree.specs.declared.resolved.Resolved.{Resolved}
 use Rattle.fab_labelling.specs.Sites.{pcs_of, sites_of}
 use Rattle.fab_numbers.proofs.SitedInOrder.{sites_enumerated}
@@ -7,7 +8,7 @@ use Rattle.fab_rights.specs.Computed.{has_bit}
 use Rattle.fab_core.specs.Cores.{setting}
 use Rattle.fab_trusted.specs.Trusted.{endorsed, trusted_replay}
 use Rattle.fab_replay.proofs.Trusting.{given_few, given_labelled, given_principals, trusted_again}
-use Rattle.fab_replay.proofs.Viewing.{few_nodes, if_ok_weaker}
+use Rattle.fab_replay.proofs.Viewing.{few_nodes}
 use Rattle.fab_replay.proofs.trust.replayed.Goals as goal
 
 pub overflow_cast-count : goal.overflow_cast-count
@@ -46,7 +47,7 @@ returns g c =
     let program = c.args.program.now in
     let commits = c.in_ok-commits.commits in
     let values = c.in_ok-endorsed.endorsed in
-    if_ok_weaker c.trusted_replay.result
+    IfOk-weaker c.trusted_replay.result _ _
     (λ map h. trusted_again core.given core.moves trusts keeps start program c.log.result.now commits values map
     c.in_ok-checked.ensures.start c.requires.program c.log.ensures c.in_ok-commits.ensures.all
     (c.commits_are_honest.ensures (setting core.given) core.moves c.is_a_run.ensures.run.enabled)

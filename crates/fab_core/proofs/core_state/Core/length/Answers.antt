@@ -1,5 +1,6 @@
 use Rattle.std.proofs.Common.{◌≡◌, ◌++◌, ◌<◌, List, length, take, drop, subst, sym, ap, ◌∙◌, IsTrue}
 use Rattle.std.specs.Prelude.{Option, IfOk, option_copied, vec_capacity}
+use Rattle.std.proofs.lemmas.Result.{IfOk-weaker}
 use Rattle.fab_world.specs.Machine.{act, may}
 use Rattle.fab_world.specs.Serial.{attempts}
 use Rattle.fab_node.specs.Standing.{NodeModel}
@@ -10,7 +11,6 @@ use Rattle.fab_core.specs.Telling.{NodesGain, OnlyGainRoom, length_in}
 use Rattle.fab_core.proofs.Gaining.{core_gain, journals_gain, places_gain}
 use Rattle.fab_core.proofs.Measured.{Measures, written_back}
 use Rattle.fab_core.proofs.Whole.{core_can_plan, w}
-use Rattle.fab_core.proofs.Filled.{if_ok}
 use Rattle.fab_core.proofs.core_state.Core.length.Goals as goal
 
 pub planned_length-requires : goal.planned_length-requires
@@ -44,7 +44,7 @@ returns-clause-length g c =
     let P : CoreModel → Type 0 = λ m. IfOk r (λ len. len ≡ length_in (act (setting m.given) (world m) c.args.event)) in
     let stands = c.self.invariant.0.stands in
     subst P c.self.view_is
-    (if_ok r (Measures c.deref_mut.result.now x.queues c.args.event) _ (λ len h.
+    (IfOk-weaker r (Measures c.deref_mut.result.now x.queues c.args.event) _ (λ len h.
     h x.given (w x.given x.nodes.items x.queues x.places.items x.log.items c.self.invariant.0) c.self.invariant.0.given
     (subst (λ (nodes : List (Option NodeModel)). NodesStand x.given (w x.given x.nodes.items x.queues x.places.items x.log.items c.self.invariant.0) nodes) (sym c.deref_mut.ensures.value) stands.standing)
     stands.queue (subst May (sym c.self.view_is) c.requires.may)) c.planned_length.ensures.length)

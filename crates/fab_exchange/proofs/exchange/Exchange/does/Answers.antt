@@ -1,7 +1,8 @@
 use Rattle.std.specs.Prelude.{option_copied}
+use Rattle.std.proofs.lemmas.Result.{IfOk-weaker, on_err_weaker}
 use Rattle.fab_world.specs.Machine.{node_of}
 use Rattle.fab_exchange.proofs.Forms.{formed_follows}
-use Rattle.fab_exchange.proofs.Owning.{comes_as, kept_came, none_comes, on_err, then_err, then_ok}
+use Rattle.fab_exchange.proofs.Owning.{comes_as, kept_came, none_comes, on_err}
 use Rattle.fab_exchange.proofs.exchange.Exchange.does.Goals as goal
 
 pub enact-requires : goal.enact-requires
@@ -14,12 +15,12 @@ returns-in_err-event-clause-memory g c =
 
 pub returns-clause-came : goal.returns-clause-came
 returns-clause-came g c =
-    then_ok c.enact.result
-    (comes_as c.args.self.now c.event_for.new.self c.enact.new.self c.event_for.ensures.kept c.args.inner (option_copied c.args.done) c.in_ok-event.event
+    IfOk-weaker c.enact.result _ _
+    (λ _. comes_as c.args.self.now c.event_for.new.self c.enact.new.self c.event_for.ensures.kept c.args.inner (option_copied c.args.done) c.in_ok-event.event
     c.in_ok-event.ensures.event) c.enact.ensures.came
 
 pub returns-clause-memory : goal.returns-clause-memory
 returns-clause-memory g c =
-    then_err c.enact.result
+    on_err_weaker c.enact.result
     (none_comes c.args.self.now c.event_for.new.self c.enact.new.self c.event_for.ensures.kept c.args.inner (option_copied c.args.done) c.in_ok-event.event
     c.in_ok-event.ensures.event) c.enact.ensures.memory

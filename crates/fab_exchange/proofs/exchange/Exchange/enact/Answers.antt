@@ -4,6 +4,7 @@ use Rattle.fab_world.specs.Machine.{Move, form_of}
 use Rattle.fab_world.specs.Crashing.{may_follow}
 use Rattle.fab_world.specs.Serial.{IsRun}
 use Rattle.fab_settings.specs.Settings.{lines_of}
+use Rattle.fab_lined.proofs.Following.{follows_enabled}
 use Rattle.fab_node.specs.Standing.{GivenModel}
 use Rattle.fab_core.specs.Cores.{CoreModel, EventHasDone, setting, slot, unmarked, world}
 use Rattle.fab_net.specs.Events.{node_at}
@@ -11,7 +12,6 @@ use Rattle.fab_core.specs.Moved.{sure_in}
 use Rattle.fab_exchange.specs.Exchanges.{AreCounts}
 use Rattle.fab_exchange.specs.Turns.{HasCome, NoneCame, node_with}
 use Rattle.fab_exchange.proofs.Few.{few_attempts}
-use Rattle.fab_exchange.proofs.Following.{follows_enabled}
 use Rattle.fab_exchange.proofs.Keeping.{came_follows, caused_by, faults_same, fits_more, one_more_is, sure_same, uncut}
 use Rattle.fab_exchange.proofs.Owning.{changed_by, changed_not, on_err}
 use Rattle.fab_exchange.proofs.Starts.{still_is}
@@ -23,7 +23,7 @@ apply-requires g c =
     let Follows : CoreModel → Type 0 =
     λ k. IsTrue (may_follow (setting k.given) (lines_of k.given.program) (world k) k.moves (form_of (unmarked c.args.event))) in
     let Has : CoreModel → Type 0 = λ k. EventHasDone k.given (world k) c.args.event (option_copied c.args.done) in record {
-      enabled = follows_enabled (setting m.given) (lines_of m.given.program) (world m) m.moves c.args.event (subst Follows (sym c.self.view_is) c.requires.follows);
+      enabled = follows_enabled (setting m.given) (lines_of m.given.program) (world m) m.moves (form_of (unmarked c.args.event)) (subst Follows (sym c.self.view_is) c.requires.follows);
       done = subst Has (sym c.self.view_is) c.requires.done;
       few = few_attempts m.given c.is_a_run.ensures.given m.moves c.is_a_run.ensures.run c.self.invariant.lined;
     }

@@ -3,12 +3,12 @@ use Rattle.std.specs.Prelude.{option_copied, option_map}
 use Rattle.fab_net.specs.declared.event.Event.TheVariants as e
 use Rattle.fab_world.specs.Machine.{act}
 use Rattle.fab_settings.specs.Settings.{lines_of}
+use Rattle.fab_lined.proofs.Following.{goes_may}
 use Rattle.fab_core.specs.Cores.{CoreModel, setting, world}
 use Rattle.fab_core.specs.Telling.{length_in}
 use Rattle.fab_exchange.specs.Comings.{IsFormed, MayGoOn}
 use Rattle.fab_exchange.specs.Dues.{line_in, line_of}
 use Rattle.fab_exchange.proofs.Few.{few_attempts}
-use Rattle.fab_exchange.proofs.Following.{goes_may}
 use Rattle.fab_exchange.proofs.Forms.{form_cut, form_uncut, form_unwritten, form_whole, formed_cut, formed_whole}
 use Rattle.fab_exchange.proofs.Keeping.{gain_faults, gain_sure}
 use Rattle.fab_exchange.proofs.Starts.{still_is}
