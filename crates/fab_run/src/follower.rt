@@ -1,11 +1,14 @@
 //! Who follows a run: it publishes what each commit leaves.
-ghost use Rattle.std.specs.Prelude.{◌≡◌, map, IfOk};
-ghost use Rattle.fab_protocol.specs.Versions.{risen, version_of};
+ghost use Rattle.std.specs.Prelude.{◌≡◌, IfOk};
+ghost use Rattle.fab_base.specs.FlatMap.{get};
+ghost use Rattle.fab_protocol.specs.Versions.{version_of};
+ghost use Rattle.fab_run.specs.Leaves.{leaves_of};
 
 use crate::board::Board;
 use fab_base::{NoMemory, Object, Oid, Seq};
 use fab_map::ObjectMap;
 use fab_net::Commit;
+use fab_reads::Reading;
 use fab_serial::left_by;
 use fab_snap::{SnapReader, SnapWriter, WriteSet, snap_writer};
 use fab_tree::resolved::Resolved;
@@ -13,11 +16,11 @@ use fab_versions::{Table, next_version};
 use std::alloc::{AllocError, Global};
 use std::sync::Wait;
 
-/// The follower: the objects of these classes behind the commits that were added, which are those that it publishes.
+/// The follower: the objects of the reading's classes behind the commits that were added. It publishes the one that is read.
 pub(crate) struct Follower<'a> {
     alloc: Global,
     program: &'a Resolved,
-    classes: u64,
+    reading: Reading,
     map: ObjectMap,
     writer: SnapWriter,
 }
@@ -36,27 +39,29 @@ fn version_in(answers: &[(Oid, u32, Object)], oid: Oid) -> u32
     0
 }
 
-/// What a commit leaves, each in the version behind that which the commit's answers have of it, or in the first.
+/// What a commit leaves of the object that is read, in the version behind that which the commit's answers have of it, or in the first;
+/// nothing where it leaves that object as it was.
 fn write_set_of(
     alloc: Global,
-    left: &[(Oid, Object)],
+    left: &ObjectMap,
+    oid: Oid,
     answers: &[(Oid, u32, Object)],
 ) -> Result<WriteSet, NoMemory>
-    ensures { IfOk result (λ writes. writes.leaves ≡ map (λ row. (row.0, risen (version_of answers.now row.0), row.1)) left.now) }
+    ensures { IfOk result (λ writes. writes.leaves ≡ leaves_of oid (version_of answers.now oid) (get left.now oid)) }
 {
     let mut leaves = Seq::new(alloc);
-    for row in left {
-        let version = next_version(version_in(answers, row.0));
-        leaves.push((row.0, version, row.1.copy(alloc)?))?;
+    if let Some(object) = left.get(oid) {
+        let version = next_version(version_in(answers, oid));
+        leaves.push((oid, version, object.copy(alloc)?))?;
     }
     Ok(WriteSet { leaves })
 }
 
-/// The rows of a map, each in its first version.
-fn table_of(alloc: Global, map: &ObjectMap) -> Result<Table, NoMemory> {
+/// The row of the object that is read, in its first version, if it is there.
+fn table_of(alloc: Global, map: &ObjectMap, oid: Oid) -> Result<Table, NoMemory> {
     let mut table = Table::new(alloc);
-    for row in map.rows() {
-        table.put(row.0, 1, row.1.copy(alloc)?)?;
+    if let Some(object) = map.get(oid) {
+        table.put(oid, 1, object.copy(alloc)?)?;
     }
     Ok(table)
 }
@@ -66,17 +71,17 @@ pub(crate) fn follower_of<'a, R: Wait>(
     rt: &R,
     alloc: Global,
     program: &'a Resolved,
-    classes: u64,
+    reading: Reading,
     map: ObjectMap,
 ) -> Result<(Follower<'a>, SnapReader), NoMemory> {
-    let table = table_of(alloc, &map)?;
+    let table = table_of(alloc, &map, reading.oid)?;
     let mut writer = snap_writer(rt, alloc, table, 1)?;
     match writer.reader() {
         Ok(reader) => {
             let follower = Follower {
                 alloc,
                 program,
-                classes,
+                reading,
                 map,
                 writer,
             };
@@ -90,13 +95,25 @@ pub(crate) fn follower_of<'a, R: Wait>(
 }
 
 impl<'a> Follower<'a> {
-    /// Publishes what a commit leaves. It evaluates the commit's request again, over the objects behind the commits before it.
+    /// Publishes what a commit leaves of the object that is read, and that there was a commit more. It evaluates the commit's request again,
+    /// over the objects behind the commits before it.
     fn add<R: Wait>(&mut self, rt: &R, commit: &Commit) -> Result<(), NoMemory> {
         if self.writer.is_broken() {
             return Err(AllocError);
         }
-        let left = left_by(self.alloc, self.program, self.classes, &self.map, commit)?;
-        let writes = write_set_of(self.alloc, left.rows(), commit.answers.as_slice())?;
+        let left = left_by(
+            self.alloc,
+            self.program,
+            self.reading.classes,
+            &self.map,
+            commit,
+        )?;
+        let writes = write_set_of(
+            self.alloc,
+            &left,
+            self.reading.oid,
+            commit.answers.as_slice(),
+        )?;
         self.writer.add(rt, &writes)?;
         for (oid, object) in left.into_rows() {
             self.map.put(oid, object)?;
@@ -131,7 +148,7 @@ impl<'a> Follower<'a> {
             map: _map,
             alloc: _,
             program: _,
-            classes: _,
+            reading: _,
         } = self;
         writer.close(rt);
     }

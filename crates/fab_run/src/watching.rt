@@ -63,7 +63,7 @@ fn company_of<'a, R: Wait>(
 ) -> Result<Company<'a>, NoMemory> {
     let room = room_for(alloc, reading.times)?;
     let map = at_start(alloc, program, reading.classes)?;
-    let (follower, reader) = follower_of(rt, alloc, program, reading.classes, map)?;
+    let (follower, reader) = follower_of(rt, alloc, program, reading, map)?;
     Ok(Company {
         follower,
         reader,
