@@ -96,34 +96,45 @@ fn set_of(alloc: Global, program: &Resolved, command: &Command) -> Result<Option
 }
 
 /// What is to be told of runs that the nodes make by themselves.
-fn told_of(alloc: Global, start: &Start, telling: &Telling) -> Result<Wanted, NoMemory>
+fn told_of(
+    alloc: Global,
+    start: &Start,
+    program: &Resolved,
+    telling: &Telling,
+) -> Result<Wanted, NoMemory>
     requires within { first_passed start.now ≡ Nothing }
     requires right { faults start.now ≡ [] }
+    requires same { program.now ≡ resolved_of start.now }
     requires named { AsksLabels (asks.Run telling.now) start.now }
     ensures { IfOk result (λ w. Wants start.now (asks.Run telling.now) w × ((rights : AnyRights) → IsAcceptedWith start.now rights → IsReady (given_of start.now rights) w)) }
 {
+    let _start = start;
     match telling {
         Telling::Report => Ok(Wanted::Run(Told::Report)),
         Telling::Summary => Ok(Wanted::Run(Told::Summary)),
-        Telling::Reads { root, times } => match named(alloc, start)? {
-            Ok(program) => match read_in(alloc, &program, root, *times)? {
-                Some(reading) => Ok(Wanted::Run(Told::Reads {
-                    reading,
-                    counts: Seq::new(alloc),
-                })),
-                None => unreachable!(),
-            },
-            Err(_) => unreachable!(),
+        Telling::Reads { root, times } => match read_in(alloc, program, root, *times)? {
+            Some(reading) => Ok(Wanted::Run(Told::Reads {
+                reading,
+                counts: Seq::new(alloc),
+            })),
+            None => unreachable!(),
         },
     }
 }
 
 /// What a command wants of runs of the bundle: for `view`, what its set sees and what everybody may know; for
 /// `trust`, which labels and classes exclude its set; for `watch`, what is read.
-fn wanted_of(alloc: Global, start: &Start, command: &Command, set: u64) -> Result<Wanted, NoMemory>
+fn wanted_of(
+    alloc: Global,
+    start: &Start,
+    program: &Resolved,
+    command: &Command,
+    set: u64,
+) -> Result<Wanted, NoMemory>
     requires runs { MakesRuns (Some command.now) }
     requires within { first_passed start.now ≡ Nothing }
     requires right { faults start.now ≡ [] }
+    requires same { program.now ≡ resolved_of start.now }
     requires set { IsSetOf start.now command.now set }
     requires robust { KeepsRobust command.now start.now }
     ensures { IfOk result (λ w. Wants start.now command.now w × ((rights : AnyRights) → IsAcceptedWith start.now rights → IsReady (given_of start.now rights) w)) }
@@ -133,11 +144,8 @@ fn wanted_of(alloc: Global, start: &Start, command: &Command, set: u64) -> Resul
             Ok(program) => view_into(alloc, program, set),
             Err(_) => unreachable!(),
         },
-        Command::Trust { .. } => match named(alloc, start)? {
-            Ok(program) => trust_in(alloc, &program, set),
-            Err(_) => unreachable!(),
-        },
-        Command::Run(telling) => told_of(alloc, start, telling),
+        Command::Trust { .. } => trust_in(alloc, program, set),
+        Command::Run(telling) => told_of(alloc, start, program, telling),
         _ => Ok(Wanted::Report),
     }
 }
@@ -167,7 +175,7 @@ fn run_of<C: Course<Core<M::Item>>, M: Journals>(
     ensures told { (M.seen journals.new).may_fail ≡ (M.seen journals.old).may_fail }
 {
     let _text = text;
-    let wanted = wanted_of(alloc, start, command, set)?;
+    let wanted = wanted_of(alloc, start, &program, command, set)?;
     let setup = accepted_setup(alloc, program)?;
     let answer = make_run(
         alloc,

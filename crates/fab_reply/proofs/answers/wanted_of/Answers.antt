@@ -20,12 +20,9 @@ returns-in-Ok c =
     if_ok_weaker c.view_into.result (λ w v. ready_view c.args.start.now c.args.command.now _ c.args.set c.in-Ok.program w p.1 c.in-View.is c.requires.set v) c.view_into.ensures
 
 pub trust_in-requires : goal.trust_in-requires
-trust_in-requires c =
-    let p = rw c.in-Ok-2.is at c.in_ok-program-in-Trust.ensures in
-    can_be_seen c.args.start.now c.in-Ok-2.program c.requires.within c.requires.right p.1
+trust_in-requires c = can_be_seen c.args.start.now c.args.program.now c.requires.within c.requires.right c.requires.same
 
-pub returns-in-Ok-2 : goal.returns-in-Ok-2
-returns-in-Ok-2 c =
-    let p = rw c.in-Ok-2.is at c.in_ok-program-in-Trust.ensures in
+pub returns-in-Trust : goal.returns-in-Trust
+returns-in-Trust c =
     let robust = rw c.in-Trust.is at c.requires.robust in
-    if_ok_weaker c.trust_in.result (λ w v. ready_trust c.args.start.now c.args.command.now _ c.args.set c.in-Ok-2.program w p.1 c.in-Trust.is c.requires.set robust v) c.trust_in.ensures
+    if_ok_weaker c.trust_in.result (λ w v. ready_trust c.args.start.now c.args.command.now _ c.args.set c.args.program.now w c.requires.same c.in-Trust.is c.requires.set robust v) c.trust_in.ensures
