@@ -1,2 +1,3 @@
+pub mod Following
 mod ReadsExamples
 pub mod Walking

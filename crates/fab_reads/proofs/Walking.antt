@@ -13,7 +13,7 @@ use Rattle.fab_reads.specs.Walks.{values_there}
 
 -- ---- steps over a list
 
-take_none : {B : Type 0} (n : ℕ) → take {A = B} n [] ≡ []
+pub take_none : {B : Type 0} (n : ℕ) → take {A = B} n [] ≡ []
 take_none zero = refl
 take_none (suc n) = refl
 

@@ -11,7 +11,9 @@ use Rattle.fab_language.specs.Words.{line, spaced, value_text}
 use Rattle.fab_net.specs.declared.note.Commit.{Commit}
 use Rattle.fab_world.specs.Machine.{Setting}
 use Rattle.fab_world.specs.Serial.{serial_replay}
+use Rattle.fab_rights.specs.Computed.{has_bit}
 use Rattle.fab_reads.specs.declared.reading.Reading.{Reading}
+use Rattle.fab_reads.specs.declared.sights.Sights.{Sights}
 
 -- ---- states
 
@@ -45,6 +47,11 @@ pub record AreCounts (times : ℕ) (commits : List Commit) (counts : List ℕ) :
 abbrev pub AreCountsOf : Option Reading → List Commit → List ℕ → Type 0
 AreCountsOf None commits counts = counts ≡ []
 AreCountsOf (Some reading) commits counts = AreCounts reading.times commits counts
+
+-- nobody reads, or these are the values that the object has behind so many commits each
+abbrev pub AreValuesOf : Setting → Option Reading → List Commit → Sights → Type 0
+AreValuesOf S None commits sights = Unit {0}
+AreValuesOf S (Some reading) commits sights = sights.values ≡ map (values_after S (has_bit reading.classes) commits reading.oid) sights.counts
 
 -- ---- text
 
