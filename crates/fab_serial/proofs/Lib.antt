@@ -1,4 +1,5 @@
 pub mod Honest
 pub mod Keeping
 mod ReplaysExamples
+pub mod Sorted
 pub mod Steps

@@ -1,7 +1,7 @@
 //! Objects that are put into a map where they are asked for.
-ghost use Rattle.std.specs.Prelude.{◌≡◌, ℕ, Bool, not, if◌then◌else◌, IfOk, OnOk, filter};
+ghost use Rattle.std.specs.Prelude.{◌≡◌, ℕ, Bool, true, IsTrue, not, if◌then◌else◌, IfOk, OnOk, filter};
 ghost use Rattle.std.specs.List.{list_all};
-ghost use Rattle.fab_base.specs.FlatMap.{put, put_all};
+ghost use Rattle.fab_base.specs.FlatMap.{ascends, is_before as stands_before, put, put_all};
 ghost use Rattle.fab_language.specs.Evaluation.{rows_of, map_at_start};
 ghost use Rattle.fab_protocol.specs.Versions.{objects_of};
 ghost use Rattle.fab_rights.specs.Computed.{has_bit};
@@ -12,6 +12,7 @@ use fab_map::ObjectMap;
 use fab_rights::is_in;
 use fab_tree::resolved::{Resolved, Root};
 use std::alloc::Global;
+use std::cmp::Ordering;
 
 /// Puts a copy of an object, where it is wanted.
 fn put_if(
@@ -29,8 +30,75 @@ fn put_if(
     Ok(())
 }
 
-/// The objects that are there from the start, of these classes.
+/// The objects that are there from the start, of these classes. Their rows are sorted at once where each name stands once, since a row
+/// that is put by itself moves all those behind it.
 pub fn at_start(alloc: Global, start: &Resolved, classes: u64) -> Result<ObjectMap, NoMemory>
+    ensures exact { IfOk result (λ m. m ≡ within (has_bit classes) (map_at_start start.now)) }
+{
+    let mut rows = rows_at_start(alloc, start.roots.as_slice())?;
+    rows.sort_unstable_by_key(|row| row.0);
+    if !ascend(rows.as_slice()) {
+        return one_by_one(alloc, start, classes);
+    }
+    keep_within(&mut rows, classes);
+    Ok(ObjectMap::from_rows(rows))
+}
+
+/// The objects of roots, in the order of the text.
+fn rows_at_start(alloc: Global, roots: &[Root]) -> Result<Vec<(Oid, Object)>, NoMemory>
+    ensures { IfOk result (λ rows. rows.items ≡ rows_of roots.now) }
+{
+    let mut rows = Vec::new(alloc);
+    let mut rest = roots;
+    'roots: while let Some((root, after)) = rest.split_first() {
+        let object = Object {
+            class: root.oid.class,
+            fields: Seq::from_slice(alloc, root.values.as_slice())?,
+        };
+        rows.push((root.oid, object))?;
+        rest = after;
+    }
+    Ok(rows)
+}
+
+/// Whether a name stands before another.
+fn is_before(name: Oid, other: Oid) -> bool
+    ensures { IsTrue result → stands_before name other ≡ true }
+{
+    match name.cmp(&other) {
+        Ordering::Less => true,
+        Ordering::Equal | Ordering::Greater => false,
+    }
+}
+
+/// Whether each name stands before the next.
+fn ascend(rows: &[(Oid, Object)]) -> bool
+    ensures { IsTrue result → ascends rows.now ≡ true }
+{
+    let Some((first, others)) = rows.split_first() else {
+        return true;
+    };
+    let mut last = first;
+    let mut rest = others;
+    while let Some((row, after)) = rest.split_first() {
+        if !is_before(last.0, row.0) {
+            return false;
+        }
+        last = row;
+        rest = after;
+    }
+    true
+}
+
+/// Leaves the rows of these classes.
+fn keep_within(rows: &mut Vec<(Oid, Object)>, classes: u64)
+    ensures { rows.new.items ≡ within (has_bit classes) rows.old.items }
+{
+    rows.retain(|row| is_in(classes, row.0.class));
+}
+
+/// The same objects, each put by itself: of a name that stands twice the last.
+fn one_by_one(alloc: Global, start: &Resolved, classes: u64) -> Result<ObjectMap, NoMemory>
     ensures exact { IfOk result (λ m. m ≡ within (has_bit classes) (map_at_start start.now)) }
 {
     let mut all = ObjectMap::new(alloc);
