@@ -67,3 +67,9 @@ lines_from r values number (count ∷ counts) = read_line r number count (values
 -- numbered from 1
 abbrev pub reads_text : Resolved → (ℕ → List Value) → List ℕ → List ℕ
 reads_text r values counts = lines_from r values 1 counts
+
+-- a line for each of these counts, with the values in its place, numbered on from here
+abbrev pub lines_of : Resolved → ℕ → List ℕ → List (List Value) → List ℕ
+lines_of r number [] rows = []
+lines_of r number (count ∷ counts) [] = []
+lines_of r number (count ∷ counts) (values ∷ rows) = read_line r number count values ++ lines_of r (suc number) counts rows

@@ -4,11 +4,9 @@
 mod reading;
 mod sights;
 mod text;
-mod values;
 mod walk;
 
 pub use reading::Reading;
 pub use sights::Sights;
 pub use text::put_reads;
-pub use values::values_after;
 pub use walk::Walk;

@@ -1,32 +1,26 @@
 -- What is wanted of a run before it, and behind it, where the counts of its reads are known.
-use Rattle.std.specs.Prelude.{◌≡◌, ◌++◌, ℕ, false, IsTrue, List, [], Result, Ok, Err, IfOk, OnErr, OnOk}
+use Rattle.std.specs.Prelude.{◌≡◌, ◌++◌, ℕ, false, IsTrue, List, [], Result, Ok, Err, IfOk, OnErr}
 use Rattle.std.proofs.Common.{refl, sym, ap, ◌∙◌, subst, inl, inr}
 use Rattle.std.proofs.lemmas.Bool.{false≢true}
+use Rattle.fab_base.specs.declared.object.Value.{Value}
 use Rattle.fab_device.specs.Kept.{Makers}
-use Rattle.fab_net.specs.declared.note.Commit.{Commit}
-use Rattle.fab_net.specs.declared.note.Logged.{Logged}
 use Rattle.fab_reads.specs.declared.reading.Reading.{Reading}
-use Rattle.fab_reads.specs.Reads.{AreCounts, AreCountsOf, reads_text, values_after}
+use Rattle.fab_reads.specs.declared.sights.Sights.{Sights}
+use Rattle.fab_reads.specs.Reads.{AreCountsOf, AreValuesOf, lines_of, reads_text, values_after}
+use Rattle.fab_reads.proofs.Walking.{lines_are}
 use Rattle.fab_rights.specs.Computed.{has_bit}
-use Rattle.fab_rights.specs.declared.rights.Rights.{Rights}
-use Rattle.fab_settings.specs.Settings.{setting_of}
 use Rattle.fab_tree.specs.declared.resolved.Resolved.{Resolved}
-use Rattle.fab_world.specs.Machine.{Move, at_start, logs}
-use Rattle.fab_world.specs.Serial.{commits_of}
+use Rattle.fab_world.specs.Machine.{Move}
 use Rattle.fab_core.specs.Cores.{setting}
 use Rattle.fab_node.specs.Standing.{GivenModel}
 use Rattle.fab_replay.specs.Kept.{IsCutShort, IsMade, IsReplayed}
-use Rattle.fab_replay.specs.Replays.{HasCounts, IsCounted, commits_of_run, is_scheduled, reading_of, reads_of, with_counts}
+use Rattle.fab_replay.specs.Replays.{AreRead, HasCounts, HasRead, IsRead, commits_of_run, is_scheduled, reading_of, reads_of, with_counts}
 use Rattle.fab_replay.specs.declared.replayed.Replayed.{Replayed}
 use Rattle.fab_replay.specs.declared.replayed.Told.{Told}
 use Rattle.fab_replay.specs.declared.replayed.Told.TheVariants as told
 use Rattle.fab_replay.specs.declared.replayed.Wanted.{Wanted}
 use Rattle.fab_replay.specs.declared.replayed.Wanted.TheVariants.{Report, Run, Trust, View}
 use Rattle.fab_replay.proofs.Viewing.{if_ok_weaker}
-
-pub on_ok : {A E P Q : Type 0} (o : Result A E) → (P → Q) → OnOk o P → OnOk o Q
-on_ok (Ok x) f h = f h
-on_ok (Err e) f h = tt
 
 on_err : {A E P Q : Type 0} (o : Result A E) → (P → Q) → OnErr o P → OnErr o Q
 on_err (Ok x) f h = tt
@@ -61,11 +55,6 @@ counted g moves x y counts is h = subst (λ w. HasCounts g w moves) (sym is) (at
     at told.Summary h = tt
     at (told.Reads reading before) h = h
 
-pub counts_of_reads : (g : GivenModel) (moves : List Move) (x : Told) (reading : Reading) (counts slice : List ℕ) → x ≡ told.Reads reading counts → slice ≡ counts → IsCounted g (Run x) moves
-    → AreCounts reading.times (commits_of_run g moves) slice
-counts_of_reads g moves x reading counts slice is same h =
-    subst (AreCounts reading.times (commits_of_run g moves)) (sym same) (let k = subst (λ y. HasCounts g (Run y) moves) is h.counts in k)
-
 -- where memory ran out, there are none to tell
 pub cut_alike : (g : GivenModel) (x y : Told) (old new : Makers) → IsCutShort g (Run x) old new → IsCutShort g (Run y) old new
 cut_alike g x y old new (inl h) = inl h
@@ -83,13 +72,35 @@ module _ (g : GivenModel) (w : Wanted) (x y : Told) (counts : List ℕ) (old new
 pub made_so : (g : GivenModel) (w : Wanted) (old new : Makers) {E : Type 0} (result : Result Replayed E) → IfOk result (λ answer. IsReplayed g w answer old new) → IfOk result (λ answer. IsMade g w answer old new)
 made_so g w old new result h = if_ok_weaker result (λ answer k. is_made g w answer old new k) h
 
--- ---- what was read, from the commits of a log
+-- ---- what was read
 
-pub read_again : (g : GivenModel) (moves : List Move) (reading : Reading) (counts : List ℕ) (program : Resolved) (log : List Logged) (commits slice : List Commit) (old new : List ℕ)
-    → program ≡ g.program → log ≡ logs (setting g) (at_start (setting g)) moves → commits ≡ commits_of (λ n. false) log → slice ≡ commits
-    → ((rights : Rights) → new ≡ old ++ reads_text program (values_after (setting_of program rights) (has_bit reading.classes) slice reading.oid) counts)
-    → new ≡ old ++ reads_of g reading counts moves
-read_again g moves reading counts program log commits slice old new p l c s h =
-    h g.rights
-    ∙ ap (λ (r : Resolved). old ++ reads_text r (values_after (setting_of r g.rights) (has_bit reading.classes) slice reading.oid) counts) p
-    ∙ ap (λ cs. old ++ reads_text g.program (values_after (setting g) (has_bit reading.classes) cs reading.oid) counts) (s ∙ c ∙ ap (commits_of (λ n. false)) l)
+-- the lines of the values that were read
+pub read_so : (g : GivenModel) (moves : List Move) (reading : Reading) (counts : List ℕ) (program : Resolved) (values : List (List Value)) (old new : List ℕ)
+    → program ≡ g.program → AreRead g reading counts moves values → new ≡ old ++ lines_of program 1 counts values → new ≡ old ++ reads_of g reading counts moves
+read_so g moves reading counts program values old new p are h =
+    let behind : ℕ → List Value = values_after (setting g) (has_bit reading.classes) (commits_of_run g moves) reading.oid in
+    h
+    ∙ ap (λ (rows : List (List Value)). old ++ lines_of program 1 counts rows) are
+    ∙ ap (λ l. old ++ l) (lines_are program behind 1 counts)
+    ∙ ap (λ (r : Resolved). old ++ reads_text r behind counts) p
+
+pub values_of_reads : (g : GivenModel) (moves : List Move) (x : Told) (reading : Reading) (counts slice : List ℕ) (values : List (List Value)) → x ≡ told.Reads reading counts → slice ≡ counts → IsRead g x moves values
+    → AreRead g reading slice moves values
+values_of_reads g moves x reading counts slice values is same h =
+    subst (λ ks. AreRead g reading ks moves values) (sym same) (let k = subst (λ y. HasRead g y moves values) is h.values_are in k)
+
+abbrev OfWanted : GivenModel → List Move → List (List Value) → Wanted → Type 0
+OfWanted g moves values Report = Unit {0}
+OfWanted g moves values (Run x) = HasRead g x moves values
+OfWanted g moves values (View nodes seen part) = Unit {0}
+OfWanted g moves values (Trust nodes part) = Unit {0}
+
+-- values of what was read are those of what is told
+pub has_read : (g : GivenModel) (moves : List Move) (x y : Told) (sights : Sights) (values : List (List Value)) → Run y ≡ with_counts (Run x) sights.counts
+    → AreValuesOf (setting g) (reading_of x) (commits_of_run g moves) sights → values ≡ sights.values → IsRead g y moves values
+has_read g moves x y sights values is h same = record { values_are = subst (OfWanted g moves values) (sym is) (at x h) }
+  where
+    at : (x : Told) → AreValuesOf (setting g) (reading_of x) (commits_of_run g moves) sights → OfWanted g moves values (with_counts (Run x) sights.counts)
+    at told.Report h = tt
+    at told.Summary h = tt
+    at (told.Reads reading before) h = same ∙ h

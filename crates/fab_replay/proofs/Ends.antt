@@ -18,14 +18,14 @@ use Rattle.fab_core.specs.Moved.{faults_in}
 use Rattle.fab_core.specs.Telling.{IsJournalAt, those_in}
 use Rattle.fab_core.specs.Honest.{AreFor, honest_in}
 use Rattle.fab_reads.specs.declared.reading.Reading.{Reading}
-use Rattle.fab_reads.specs.Reads.{AreCountsOf}
-use Rattle.fab_replay.specs.Courses.{HasRun, HasStopped, IsAtStart, IsCourse}
+use Rattle.fab_reads.specs.declared.sights.Sights.{Sights}
+use Rattle.fab_replay.specs.Courses.{HasRun, HasSights, HasStopped, IsAtStart, IsCourse}
 use Rattle.fab_replay.specs.Integral.{IsExcluded, IsIntegral}
 use Rattle.fab_replay.specs.Isolated.{IsIsolated}
 use Rattle.fab_replay.specs.Trusted.{IsTrusted}
 use Rattle.fab_replay.specs.Kept.{IsCutOff, IsCutShort, IsEntryAt, IsFrontRun, IsOfRun, IsOnWay, IsPossible, IsReplayed, has_mark, unlost, with_more}
 use Rattle.fab_replay.specs.Making.{HaveMade}
-use Rattle.fab_replay.specs.Replays.{IsStopped, StopsIn, Tells, commits_of_run, events_of, first_mark, is_scheduled, moves_of, reading_of}
+use Rattle.fab_replay.specs.Replays.{IsStopped, StopsIn, Tells, events_of, first_mark, is_scheduled, moves_of, reading_of}
 use Rattle.fab_replay.specs.Running.{AreBehind, AreMarked, AreSure, AreUnfailed, ComesTo, GivesBack, IsBehind, IsEnded, IsMarked, entries_of, failed_by}
 use Rattle.fab_replay.specs.declared.replayed.Replayed.{Replayed}
 use Rattle.fab_replay.specs.declared.replayed.Replayed.TheVariants as r
@@ -216,18 +216,18 @@ sure_behind told first last unfailed h =
     subst (λ (x : GivenModel). AreSure told x last.journals) (sym h.given) (λ n cannot. h.sure n ∙ (unfailed n).sure cannot)
 
 -- the course came there, or stopped
-module _ {x : Told} (makes : Wanted → Bool) (may : CoreModel → Type 0) (comes : CoreModel → Option Reading → Result (CoreModel × List ℕ) CoreModel → Type 0) (wanted : Wanted) (told : Option (List (List ℕ)))
-    (first : CoreModel) (result : Result (CoreModel × List ℕ) CoreModel) (course : IsCourse makes may comes) (is : wanted ≡ Run x) (made : IsTrue (makes wanted)) (none : first.moves ≡ [])
+module _ {x : Told} (makes : Wanted → Bool) (may : CoreModel → Type 0) (comes : CoreModel → Option Reading → Result (CoreModel × Sights) CoreModel → Type 0) (wanted : Wanted) (told : Option (List (List ℕ)))
+    (first : CoreModel) (result : Result (CoreModel × Sights) CoreModel) (course : IsCourse makes may comes) (is : wanted ≡ Run x) (made : IsTrue (makes wanted)) (none : first.moves ≡ [])
     (unfailed : AreUnfailed told first.given first.journals) (reading : Option Reading) (read : reading ≡ reading_of x) (came : comes first reading result) where
-  abbrev HasCome : CoreModel × List ℕ → Type 0
-  HasCome r = HasRun first r.0 × AreCountsOf (reading_of x) (commits_of_run r.0.given r.0.moves) r.1
+  abbrev HasCome : CoreModel × Sights → Type 0
+  HasCome r = HasSights first (reading_of x) r
 
   ends : IfOk result HasCome × IfErr result (HasStopped first)
   ends =
       let start : IsAtStart first = record { moves = none; unfailed = λ n. (unfailed n).faults } in
       (course x (subst (λ w. IsTrue (makes w)) is made) first start).1 result (subst (λ o. comes first o result) read came)
 
-  pub ran_on : (last : CoreModel × List ℕ) → result ≡ Ok last → HasCome last
+  pub ran_on : (last : CoreModel × Sights) → result ≡ Ok last → HasCome last
   ran_on last was = subst (λ o. IfOk o HasCome) was ends.0
 
   pub stopped : (last : CoreModel) → result ≡ Err last → HasStopped first last

@@ -37,11 +37,11 @@ use Rattle.fab_node.specs.Standing.{GivenModel, JournalModel}
 use Rattle.fab_core.specs.Cores.{CoreModel, marked, setting, unmarked, world_by}
 use Rattle.fab_core.specs.Starts.{Empty, given_by}
 use Rattle.fab_core.specs.Honest.{AreFor, honest_in, honest_up}
-use Rattle.fab_replay.specs.Courses.{HasRun, HasStopped, IsAtStart, IsCourse}
+use Rattle.fab_replay.specs.Courses.{HasRun, HasSights, HasStopped, IsAtStart, IsCourse}
 use Rattle.fab_replay.specs.Integral.{IsExcluded, IsIntegral}
 use Rattle.fab_replay.specs.Kept.{HandsBack, IsEntryAt, IsEntryBehind, IsEntryFresh, IsOnWay, IsPossible, IsStartShort, MakesAll, Unmade, Unwritten, has_mark, unlost, with_more}
 use Rattle.fab_replay.specs.Making.{HasNoJournal}
-use Rattle.fab_replay.specs.Replays.{HasCounts, IsRunOver, commits_of_run, is_scheduled, reading_of, reads_of, StopsBefore, Tells, event_of, first_mark, moves_of, report_of}
+use Rattle.fab_replay.specs.Replays.{HasCounts, IsRunOver, is_scheduled, reading_of, reads_of, StopsBefore, Tells, event_of, first_mark, moves_of, report_of}
 use Rattle.fab_replay.specs.Running.{IsMarked}
 use Rattle.fab_replay.specs.declared.replayed.Replayed.TheVariants as r
 use Rattle.fab_replay.specs.declared.replayed.Told.{Told}
@@ -49,7 +49,7 @@ use Rattle.fab_replay.specs.declared.replayed.Told.TheVariants as told
 use Rattle.fab_replay.specs.declared.replayed.Wanted.{Wanted}
 use Rattle.fab_replay.specs.declared.replayed.Wanted.TheVariants.{Report, Run}
 use Rattle.fab_reads.specs.declared.reading.Reading.{Reading}
-use Rattle.fab_reads.specs.Reads.{AreCountsOf}
+use Rattle.fab_reads.specs.declared.sights.Sights.{Sights}
 use Rattle.fab_replay.proofs.Keeping.{rises}
 use Rattle.fab_replay.proofs.Stopping.{not_begun}
 
@@ -499,12 +499,15 @@ by_hand_alone x makes = absurd (false≢true makes)
 wants_memory : IsCourse (λ wanted. true) (λ first. Unit {0}) (λ first reading result. result ≡ Err first)
 wants_memory x makes first start = (
   tt,
-  λ result is. (subst (λ o. IfOk o (λ r. HasRun first r.0 × AreCountsOf (reading_of x) (commits_of_run r.0.given r.0.moves) r.1)) (sym is) tt, subst (λ o. IfErr o (HasStopped first)) (sym is) (not_begun first start)),
+  λ result is. (subst (λ o. IfOk o (HasSights first (reading_of x))) (sym is) tt, subst (λ o. IfErr o (HasStopped first)) (sym is) (not_begun first start)),
 )
 
+abbrev unread : Sights
+unread = record { counts = []; values = [] }
+
 -- who stays at the start doesn't, where a crash is due
-not_who_stays : IsCourse (λ wanted. true) (λ first. Unit {0}) (λ first reading result. result ≡ Ok (first, [])) → ⊥
-not_who_stays h = not_before_the_crash ((h told.Report refl (core_of crashing []) (at_start crashing)).1 (Ok (core_of crashing [], [])) refl).0.0
+not_who_stays : IsCourse (λ wanted. true) (λ first. Unit {0}) (λ first reading result. result ≡ Ok (first, unread)) → ⊥
+not_who_stays h = not_before_the_crash ((h told.Report refl (core_of crashing []) (at_start crashing)).1 (Ok (core_of crashing [], unread)) refl).0.0
 
 -- and who goes on from no start is none
 not_without_a_start : IsCourse (λ wanted. true) (λ first. ⊥) (λ first reading result. result ≡ Err first) → ⊥

@@ -1,7 +1,8 @@
 -- What is asked of whoever makes runs that nodes make by themselves.
-use Rattle.std.specs.Prelude.{◌≡◌, ℕ, Bool, IsTrue, List, [], Option, Result, IfErr, IfOk}
+use Rattle.std.specs.Prelude.{◌≡◌, ℕ, Bool, IsTrue, [], Option, Result, IfErr, IfOk}
 use Rattle.fab_reads.specs.declared.reading.Reading.{Reading}
-use Rattle.fab_reads.specs.Reads.{AreCountsOf}
+use Rattle.fab_reads.specs.declared.sights.Sights.{Sights}
+use Rattle.fab_reads.specs.Reads.{AreCountsOf, AreValuesOf}
 use Rattle.fab_settings.specs.Settings.{lines_of}
 use Rattle.fab_world.specs.Crashing.{KeepsLines}
 use Rattle.fab_core.specs.Cores.{CoreModel, setting, slot}
@@ -33,9 +34,14 @@ pub record HasStopped (first last : CoreModel) : Type 0 where
   pub marked : AreMarked last.moves last.journals
   pub sure : (n : ℕ) → sure_in (slot last.journals n) ≡ sure_in (slot first.journals n)
 
--- Who makes such runs goes on from each start, and comes to the end of one, with the counts of its commits where something is read beside it; or
--- memory runs out, and the nodes are handed back where they stopped.
-abbrev pub IsCourse : (Wanted → Bool) → (CoreModel → Type 0) → (CoreModel → Option Reading → Result (CoreModel × List ℕ) CoreModel → Type 0) → Type 0
+-- A run was made so, and these are the counts of its commits, with the values behind them, where this is read beside it.
+abbrev pub HasSights : CoreModel → Option Reading → CoreModel × Sights → Type 0
+HasSights first reading r =
+    HasRun first r.0 × AreCountsOf reading (commits_of_run r.0.given r.0.moves) r.1.counts × AreValuesOf (setting r.0.given) reading (commits_of_run r.0.given r.0.moves) r.1
+
+-- Who makes such runs goes on from each start, and comes to the end of one, with the counts of its commits and the values behind these where something
+-- is read beside it; or memory runs out, and the nodes are handed back where they stopped.
+abbrev pub IsCourse : (Wanted → Bool) → (CoreModel → Type 0) → (CoreModel → Option Reading → Result (CoreModel × Sights) CoreModel → Type 0) → Type 0
 IsCourse makes may comes = (x : Told) → IsTrue (makes (Run x)) → (first : CoreModel) → IsAtStart first
-    → may first × ((result : Result (CoreModel × List ℕ) CoreModel) → comes first (reading_of x) result
-    → IfOk result (λ r. HasRun first r.0 × AreCountsOf (reading_of x) (commits_of_run r.0.given r.0.moves) r.1) × IfErr result (HasStopped first))
+    → may first × ((result : Result (CoreModel × Sights) CoreModel) → comes first (reading_of x) result
+    → IfOk result (HasSights first (reading_of x)) × IfErr result (HasStopped first))

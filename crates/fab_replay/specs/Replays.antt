@@ -1,5 +1,6 @@
 -- Runs of a bundle: the events of its schedule and the moves that they come to, runs that nodes make by themselves, and what an answer tells of a run.
 use Rattle.std.specs.Prelude.{◌≡◌, ℕ, suc, Bool, true, false, List, [], ◌∷◌, ◌++◌, map, length, find, IsFalse, Option, Some, None, option_map}
+use Rattle.fab_base.specs.declared.object.Value.{Value}
 use Rattle.fab_tree.specs.declared.resolved.Resolved.{Resolved}
 use Rattle.fab_tree.specs.declared.resolved.Step.{Step}
 use Rattle.fab_tree.specs.declared.resolved.Step.TheVariants as s
@@ -111,6 +112,18 @@ with_counts wanted counts = wanted
 abbrev pub HasCounts : GivenModel → Wanted → List Move → Type 0
 HasCounts g (Run (told.Reads reading counts)) moves = AreCounts reading.times (commits_of_run g moves) counts
 HasCounts g wanted moves = Unit {0}
+
+-- behind so many commits each the object that was read had these values
+abbrev pub AreRead : GivenModel → Reading → List ℕ → List Move → List (List Value) → Type 0
+AreRead g reading counts moves values = values ≡ map (values_after (setting g) (has_bit reading.classes) (commits_of_run g moves) reading.oid) counts
+
+abbrev pub HasRead : GivenModel → Told → List Move → List (List Value) → Type 0
+HasRead g (told.Reads reading counts) moves values = AreRead g reading counts moves values
+HasRead g x moves values = Unit {0}
+
+-- where something is read beside the run, these are the values that were read
+pub record IsRead (g : GivenModel) (x : Told) (moves : List Move) (values : List (List Value)) : Type 0 where
+  pub values_are : HasRead g x moves values
 
 -- it has them
 pub record IsCounted (g : GivenModel) (wanted : Wanted) (moves : List Move) : Type 0 where

@@ -1,11 +1,10 @@
 //! What is answered to a run.
 
-ghost use Rattle.std.specs.Prelude.{◌≡◌, ◌++◌, find, IfOk, IsTrue, OnOk};
+ghost use Rattle.std.specs.Prelude.{◌≡◌, ◌++◌, find, IfOk, IsTrue};
 ghost use Rattle.std.specs.Option.{option_map};
 ghost use Rattle.fab_lines.specs.Numbered.{AreNumbered};
 ghost use Rattle.fab_net.specs.Events.{node_at as node_in};
-ghost use Rattle.fab_reads.specs.Reads.{AreCounts};
-ghost use Rattle.fab_replay.specs.Replays.{IsCounted, IsReady, IsRunOver, IsTold, commits_of_run, is_scheduled, reads_of, report_of, summary_of_run, text_of, told_of};
+ghost use Rattle.fab_replay.specs.Replays.{AreRead, IsCounted, IsRead, IsReady, IsRunOver, IsTold, is_scheduled, reads_of, report_of, summary_of_run, text_of, told_of};
 ghost use Rattle.fab_replay.specs.Running.{ComesTo};
 ghost use Rattle.fab_replay.specs.declared.replayed.Wanted.TheVariants as wants;
 
@@ -13,13 +12,12 @@ use crate::replayed::{Replayed, Told, Wanted};
 use crate::running::Ran;
 use crate::trust::trust_of;
 use crate::view::view_of;
-use fab_base::{NoMemory, Seq};
+use fab_base::{NoMemory, Seq, Value};
 use fab_core::Core;
 use fab_device::Journal;
 use fab_drill::print_summary;
 use fab_net::{Logged, node_at};
 use fab_reads::{Reading, put_reads};
-use fab_serial::commits;
 use fab_trace::print_report;
 use fab_tree::resolved::Resolved;
 use std::alloc::Global;
@@ -48,48 +46,23 @@ fn summary_of<J: Journal>(alloc: Global, core: &Core<J>) -> Result<Seq<u8>, NoMe
     print_summary(alloc, &held, &outcomes)
 }
 
-/// Writes what somebody read of one object beside the run, behind what is there.
-fn put_reads_of<J: Journal>(
-    alloc: Global,
-    out: &mut Seq<u8>,
-    core: &Core<J>,
-    program: &Resolved,
-    reading: Reading,
-    counts: &[u32],
-) -> Result<(), NoMemory>
-    requires program { program.now ≡ core.now.given.program }
-    requires numbered { AreNumbered program.now.roots }
-    requires counts { AreCounts reading.times (commits_of_run core.now.given core.now.moves) counts.now }
-    ensures { OnOk result (out.new ≡ out.old ++ reads_of core.now.given reading counts.now core.now.moves) }
-{
-    core.is_a_run();
-    let commits = commits(alloc, core.log())?;
-    put_reads(
-        alloc,
-        out,
-        program,
-        reading.classes,
-        commits.as_slice(),
-        reading.oid,
-        counts,
-    )
-}
-
-/// The report of the run so far, and what somebody read of one object beside it.
+/// The report of the run so far, and what somebody read of one object beside it: behind each of these numbers of commits these values.
 fn reads_of<J: Journal>(
     alloc: Global,
     core: &Core<J>,
     program: &Resolved,
     reading: Reading,
     counts: &[u32],
+    values: &[Seq<Value>],
 ) -> Result<Seq<u8>, NoMemory>
     requires program { program.now ≡ core.now.given.program }
     requires numbered { AreNumbered program.now.roots }
-    requires counts { AreCounts reading.times (commits_of_run core.now.given core.now.moves) counts.now }
+    requires values { AreRead core.now.given reading counts.now core.now.moves values.now }
     ensures { IfOk result (λ bytes. bytes ≡ report_of core.now.given core.now.moves ++ reads_of core.now.given reading counts.now core.now.moves) }
 {
+    let _reading = reading;
     let mut text = report_of(alloc, core, program)?;
-    put_reads_of(alloc, &mut text, core, program, reading, counts)?;
+    put_reads(alloc, &mut text, program, counts, values)?;
     Ok(text)
 }
 
@@ -99,17 +72,18 @@ fn told_of<J: Journal>(
     core: &Core<J>,
     program: &Resolved,
     told: &Told,
+    values: &[Seq<Value>],
 ) -> Result<Seq<u8>, NoMemory>
     requires program { program.now ≡ core.now.given.program }
     requires numbered { AreNumbered program.now.roots }
-    requires counted { IsCounted core.now.given (wants.Run told.now) core.now.moves }
+    requires read { IsRead core.now.given told.now core.now.moves values.now }
     ensures { IfOk result (λ bytes. bytes ≡ told_of told.now core.now.given core.now.moves) }
 {
     match told {
         Told::Report => report_of(alloc, core, program),
         Told::Summary => summary_of(alloc, core),
         Told::Reads { reading, counts } => {
-            reads_of(alloc, core, program, *reading, counts.as_slice())
+            reads_of(alloc, core, program, *reading, counts.as_slice(), values)
         }
     }
 }
@@ -173,18 +147,20 @@ pub(crate) fn first_mark(log: &[Logged]) -> Option<u16>
     }
 }
 
-/// What is answered to a run that nodes made by themselves.
+/// What is answered to a run that nodes made by themselves; where something was read beside it, with these values.
 pub(crate) fn answer_of_run<J: Journal>(
     alloc: Global,
     core: &Core<J>,
     told: &Told,
+    values: &[Seq<Value>],
 ) -> Result<Replayed, NoMemory>
     requires over { IsRunOver core.now.given core.now.moves }
     requires counted { IsCounted core.now.given (wants.Run told.now) core.now.moves }
+    requires read { IsRead core.now.given told.now core.now.moves values.now }
     ensures { IfOk result (IsTold core.now.given (wants.Run told.now) core.now.moves) }
 {
     core.is_a_run();
-    let report = told_of(alloc, core, core.start(), told)?;
+    let report = told_of(alloc, core, core.start(), told, values)?;
     match first_mark(core.log()) {
         Some(node) => Ok(Replayed::JournalFault {
             node,

@@ -18,10 +18,10 @@ use crate::honest::honest_nodes;
 use crate::journals::Unstarted;
 use crate::replayed::{Replayed, Told, Wanted};
 use crate::whole::replay;
-use fab_base::{NoMemory, Seq};
+use fab_base::NoMemory;
 use fab_core::Core;
 use fab_device::{Journal, Journals};
-use fab_reads::Reading;
+use fab_reads::{Reading, Sights};
 use fab_rights::Rights;
 use fab_tree::resolved::Resolved;
 use std::alloc::{AllocError, Global};
@@ -30,8 +30,9 @@ use std::sync::Arc;
 /// How runs are made: what comes between the start and the end of one that nodes make by themselves. A course
 /// knows no more of either than that both are a `T`, since what threads do with it stands in a closure.
 pub trait Course<T> {
-    ghost use Rattle.std.specs.Prelude.{Bool, List, Option, Result, ℕ};
+    ghost use Rattle.std.specs.Prelude.{Bool, Option, Result};
     ghost use Rattle.fab_reads.specs.declared.reading.Reading.{Reading};
+    ghost use Rattle.fab_reads.specs.declared.sights.Sights.{Sights};
     ghost use Rattle.fab_replay.specs.declared.replayed.Wanted.{Wanted};
 
     /// What may be wanted of its runs.
@@ -41,11 +42,11 @@ pub trait Course<T> {
     ghost may: { Self → T → Type 0 };
 
     /// Whether it may come to this from there, where this is read beside it.
-    ghost comes: { Self → T → Option Reading → Result (T × List ℕ) T → Type 0 };
+    ghost comes: { Self → T → Option Reading → Result (T × Sights) T → Type 0 };
 
-    /// Goes on to the end, with the counts of the reads, if something is read beside it: how many commits each saw.
+    /// Goes on to the end, with what the reads saw, if something is read beside it: how many commits, and the values behind them.
     /// Without memory it hands back where it stopped.
-    fn come(&self, start: T, reading: Option<Reading>) -> Result<(T, Seq<u32>), T>
+    fn come(&self, start: T, reading: Option<Reading>) -> Result<(T, Sights), T>
         requires { may self.now start }
         ensures { comes self.now start reading result };
 }
@@ -63,7 +64,7 @@ impl<T> Course<T> for ByHand {
 
     ghost comes = { λ course start reading end. end ≡ Err start };
 
-    fn come(&self, start: T, _reading: Option<Reading>) -> Result<(T, Seq<u32>), T> {
+    fn come(&self, start: T, _reading: Option<Reading>) -> Result<(T, Sights), T> {
         Err(start)
     }
 }
@@ -74,7 +75,7 @@ pub struct ByCall<F> {
     pub call: F,
 }
 
-impl<T, F: Fn(T, Option<Reading>) -> Result<(T, Seq<u32>), T>> Course<T> for ByCall<F> {
+impl<T, F: Fn(T, Option<Reading>) -> Result<(T, Sights), T>> Course<T> for ByCall<F> {
     ghost use Rattle.std.specs.Prelude.{Option, true};
     ghost use Rattle.fab_reads.specs.declared.reading.Reading.{Reading};
 
@@ -84,7 +85,7 @@ impl<T, F: Fn(T, Option<Reading>) -> Result<(T, Seq<u32>), T>> Course<T> for ByC
 
     ghost comes = { λ course start reading end. F.post course.call start reading end };
 
-    fn come(&self, start: T, reading: Option<Reading>) -> Result<(T, Seq<u32>), T> {
+    fn come(&self, start: T, reading: Option<Reading>) -> Result<(T, Sights), T> {
         (self.call)(start, reading)
     }
 }
@@ -121,9 +122,9 @@ fn by_themselves<C: Course<Core<M::Item>>, M: Journals>(
         Err(Unstarted::Memory) => return Err(AllocError),
     };
     match course.come(core, told.reading()) {
-        Ok((core, counts)) => {
-            let told = told.with_counts(counts);
-            let answer = answer_of_run(alloc, &core, &told);
+        Ok((core, sights)) => {
+            let told = told.with_counts(sights.counts);
+            let answer = answer_of_run(alloc, &core, &told, sights.values.as_slice());
             let wanted = Wanted::Run(told);
             finished(core, bundle, nodes, &wanted, answer, journals)
         }

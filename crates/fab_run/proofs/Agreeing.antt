@@ -1,11 +1,9 @@
 -- Whether reads agree with a run's commits, and the counts that are made of them.
-use Rattle.std.proofs.Common.{◌≡◌, ℕ, zero, suc, ◌≤◌, ◌+◌, Bool, true, false, ◌&&◌, ◌==◌, if◌then◌else◌, List, [], ◌∷◌, ◌++◌, length, length-append, map, replicate, take, refl, sym, ap, ◌∙◌, arith}
+use Rattle.std.proofs.Common.{◌≡◌, ℕ, suc, ◌≤◌, ◌+◌, Bool, true, false, ◌&&◌, ◌==◌, if◌then◌else◌, List, [], ◌∷◌, ◌++◌, length, map, replicate, refl, sym, ap, ◌∙◌, arith}
 use Rattle.std.specs.Prelude.{nat_le}
 use Rattle.std.specs.List.{AllByRecursion, list_all}
 use Rattle.std.proofs.lemmas.Bool.{and_from, and_parts, eq-eqb, eqb-true, le-leb, leb-true}
 use Rattle.std.proofs.lemmas.Bool.Decides.{nat_tests}
-use Rattle.std.proofs.lemmas.List.{length-map}
-use Rattle.std.proofs.Math.Seq.{take-append_seam}
 use Rattle.core.specs.Cmp.Lexicographic.{pointwise}
 use Rattle.fab_base.specs.declared.object.Oid.{Oid}
 use Rattle.fab_base.specs.declared.object.Value.{Value}
@@ -15,10 +13,9 @@ use Rattle.fab_base.specs.contracts.object.ValuePartialEq as values
 use Rattle.fab_base.specs.FlatMap.{is_same}
 use Rattle.fab_language.specs.Meaning.{equals}
 use Rattle.fab_net.specs.declared.note.Commit.{Commit}
-use Rattle.fab_reads.specs.Reads.{AreCounts, NeverFall, fields_of}
+use Rattle.fab_reads.specs.Reads.{AreCounts, NeverFall}
 use Rattle.fab_rights.specs.declared.rights.Rights.{Rights}
 use Rattle.fab_run.specs.Counts.{Sight, agree, are_equal, counts_beside, counts_with, never_falls, saw_values}
-use Rattle.fab_run.specs.Rows.{saw_rows}
 use Rattle.fab_run.proofs.Counting.{behind_all, seen_counts}
 
 -- ---- values
@@ -72,45 +69,12 @@ refuted false h = refl
 pub rising_no : (ks : List ℕ) → (NeverFall ks → ⊥) → false ≡ never_falls ks
 rising_no ks h = refuted (never_falls ks) (λ rising. h (rising_from ks rising))
 
--- and so do those at the front
-all_before : (n k : ℕ) (ks : List ℕ) → AllByRecursion (λ j. k ≤ j) ks → AllByRecursion (λ j. k ≤ j) (take n ks)
-all_before zero k ks h = tt
-all_before (suc n) k [] h = tt
-all_before (suc n) k (j ∷ ks) h = (h.0, all_before n k ks h.1)
+-- ---- together
 
-pub rising_before : (n : ℕ) (ks : List ℕ) → NeverFall ks → NeverFall (take n ks)
-rising_before zero ks h = tt
-rising_before (suc n) [] h = tt
-rising_before (suc n) (k ∷ ks) h = (all_before n k ks h.0, rising_before n ks h.1)
-
--- ---- rows
-
--- the rows of the counts that were seen
-rows_tell : (values : ℕ → List Value) (seen : List Sight) → saw_rows (map values (map (λ one. one.0) seen)) seen ≡ saw_values values seen
-rows_tell values [] = refl
-rows_tell values (one ∷ seen) = ap (λ b. are_equal (values one.0) (fields_of one.1) && b) (rows_tell values seen)
-
--- these are all but the last
-pub all_but_last : (commits : List Commit) (seen : List Sight) (counts : List ℕ) → counts ≡ counts_with commits seen → take (length seen) counts ≡ map (λ one. one.0) seen
-all_but_last commits seen counts is =
-    let reads : List ℕ = map (λ (one : Sight). one.0) seen in
-    ap (take (length seen)) is ∙ ap (λ n. take n (reads ++ length commits ∷ [])) (sym (length-map seen (λ (one : Sight). one.0))) ∙ take-append_seam reads (length commits ∷ [])
-
-pub one_behind : (commits : List Commit) (seen : List Sight) (counts : List ℕ) → counts ≡ counts_with commits seen → length seen ≤ length counts
-one_behind commits seen counts is =
-    let reads : List ℕ = map (λ (one : Sight). one.0) seen in
-    let long : length counts ≡ length reads + 1 = ap length is ∙ length-append reads (length commits ∷ []) in
-    let many = length-map seen (λ (one : Sight). one.0) in
-    omega (arith, long, many)
-
-pub agreed : (times : ℕ) (commits : List Commit) (values : ℕ → List Value) (seen : List Sight) (counts : List ℕ) (rows : List (List Value)) (r : Bool)
-    → length seen ≡ times → counts ≡ counts_with commits seen → true ≡ never_falls counts → rows ≡ map values (take (length seen) counts) → r ≡ saw_rows rows seen
-    → r ≡ agree times commits values seen
-agreed times commits values seen counts rows r many is rising read told =
-    let rows_are : rows ≡ map values (map (λ one. one.0) seen) = read ∙ ap (map values) (all_but_last commits seen counts is) in
+pub agreed : (times : ℕ) (commits : List Commit) (values : ℕ → List Value) (seen : List Sight) (counts : List ℕ) (r : Bool)
+    → length seen ≡ times → counts ≡ counts_with commits seen → true ≡ never_falls counts → r ≡ saw_values values seen → r ≡ agree times commits values seen
+agreed times commits values seen counts r many is rising told =
     told
-    ∙ ap (λ (rs : List (List Value)). saw_rows rs seen) rows_are
-    ∙ rows_tell values seen
     ∙ ap (λ b. b && saw_values values seen) (rising ∙ ap never_falls is)
     ∙ ap (λ b. b && (never_falls (counts_with commits seen) && saw_values values seen)) (sym (eq-eqb (length seen) times many))
 

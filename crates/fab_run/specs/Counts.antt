@@ -5,7 +5,9 @@ use Rattle.fab_base.specs.declared.object.Object.{Object}
 use Rattle.fab_base.specs.declared.object.Value.{Value}
 use Rattle.fab_language.specs.Meaning.{equals}
 use Rattle.fab_net.specs.declared.note.Commit.{Commit}
+use Rattle.fab_rights.specs.Computed.{has_bit}
 use Rattle.fab_reads.specs.Reads.{fields_of}
+use Rattle.fab_reads.specs.Walks.{Walked, values_there}
 
 -- what one read saw: behind how many commits, and the object that stood there
 abbrev pub Sight : Type 0
@@ -39,3 +41,7 @@ agree times commits values seen = (length seen == times) && (never_falls (counts
 -- behind the run. The last is that of all commits.
 abbrev pub counts_beside : ℕ → List Commit → (ℕ → List Value) → List Sight → List ℕ
 counts_beside times commits values seen = if agree times commits values seen then counts_with commits seen else replicate (suc times) (length commits)
+
+-- the values of the object that is read, behind so many commits of a walk
+abbrev pub values_on : Walked → ℕ → List Value
+values_on w count = values_there w.program (has_bit w.reading.classes) w.commits w.reading.oid count

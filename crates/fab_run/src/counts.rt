@@ -4,14 +4,11 @@ ghost use Rattle.fab_rights.specs.Computed.{has_bit};
 ghost use Rattle.fab_rights.specs.declared.rights.Rights.{Rights};
 ghost use Rattle.fab_settings.specs.Settings.{setting_of};
 ghost use Rattle.fab_reads.specs.Reads.{AreCounts, NeverFall, fields_of, values_after as what_is_read};
-ghost use Rattle.fab_run.specs.Counts.{agree as all_agree, are_equal, counts_beside, counts_with, never_falls};
-ghost use Rattle.fab_run.specs.Rows.{saw_rows};
+ghost use Rattle.fab_run.specs.Counts.{agree as all_agree, are_equal, counts_beside, counts_with, never_falls, saw_values, values_on};
 
 use crate::reader::Seen;
 use fab_base::{NoMemory, Object, Seq, Value};
-use fab_net::Commit;
-use fab_reads::{Reading, values_after};
-use fab_tree::resolved::Resolved;
+use fab_reads::Walk;
 use std::alloc::{AllocError, Global};
 
 /// Whether numbers never fall.
@@ -72,75 +69,67 @@ fn is_one_row(row: &[Value], other: &[Value]) -> bool
     row == other
 }
 
-/// Whether each read saw the values that stand in its place.
-fn is_as_seen(rows: &[Seq<Value>], seen: &[Seen]) -> bool
-    ensures { result ≡ saw_rows rows.now seen.now }
+/// Whether each read saw the values that the object has behind so many commits.
+fn is_as_seen(walk: &Walk<'_>, seen: &[Seen]) -> bool
+    ensures { result ≡ saw_values (values_on walk.now) seen.now }
 {
-    let mut rows_left = rows;
     let mut left = seen;
     while let Some((one, after)) = left.split_first() {
-        let Some((row, behind)) = rows_left.split_first() else {
-            return false;
-        };
-        if !is_one_row(row.as_slice(), values_of(&one.1)) {
+        if !is_one_row(walk.values(one.0 as usize), values_of(&one.1)) {
             return false;
         }
-        rows_left = behind;
         left = after;
     }
     true
 }
 
-/// Whether the reads agree with a run of these commits; the counts are those of the reads, with that of all behind them. The requests of the
-/// commits are evaluated again, up to the last that a read saw.
-fn agree(
-    alloc: Global,
-    program: &Resolved,
-    reading: Reading,
-    commits: &[Commit],
-    seen: &[Seen],
-    counts: &[u32],
-) -> Result<bool, NoMemory>
-    requires { counts.now ≡ counts_with commits.now seen.now }
-    ensures { IfOk result (λ answer. (rights : Rights)
-        → answer ≡ all_agree reading.times commits.now (what_is_read (setting_of program.now rights) (has_bit reading.classes) commits.now reading.oid) seen.now) }
+/// Whether the reads agree with a walk over all commits of a run; the counts are those of the reads, with that of all behind them.
+fn agree(walk: &Walk<'_>, times: u32, seen: &[Seen], counts: &[u32]) -> bool
+    requires { counts.now ≡ counts_with walk.now.commits seen.now }
+    ensures { result ≡ all_agree times walk.now.commits (values_on walk.now) seen.now }
 {
-    if seen.len() != reading.times as usize {
-        return Ok(false);
+    if seen.len() != times as usize {
+        return false;
     }
     if !never_fall(counts) {
-        return Ok(false);
+        return false;
     }
-    let rows = values_after(
-        alloc,
-        program,
-        reading.classes,
-        commits,
-        reading.oid,
-        &counts[..seen.len()],
-    )?;
-    Ok(is_as_seen(rows.as_slice(), seen))
+    is_as_seen(walk, seen)
 }
 
-/// The counts of the reads beside a run of these commits: those that were seen, where none fell and each read saw the object as it is behind
-/// so many commits; else every read is taken as one behind the run. So whoever makes the lines anew from the commits writes what was read.
+/// The counts of so many reads beside a run of the walk's commits: those that were seen, where none fell and each read saw the object as it is
+/// behind so many commits; else every read is taken as one behind the run. So the lines that are made of the walk write what was read.
 pub(crate) fn counts_of(
     alloc: Global,
-    program: &Resolved,
-    reading: Reading,
-    commits: &[Commit],
+    walk: &Walk<'_>,
+    times: u32,
     seen: &[Seen],
 ) -> Result<Seq<u32>, NoMemory>
     ensures exact { IfOk result (λ counts. (rights : Rights)
-        → counts ≡ counts_beside reading.times commits.now (what_is_read (setting_of program.now rights) (has_bit reading.classes) commits.now reading.oid) seen.now) }
-    ensures counts { IfOk result (AreCounts reading.times commits.now) }
+        → counts ≡ counts_beside times walk.now.commits (what_is_read (setting_of walk.now.program rights) (has_bit walk.now.reading.classes) walk.now.commits walk.now.reading.oid) seen.now) }
+    ensures counts { IfOk result (AreCounts times walk.now.commits) }
 {
-    let Ok(all) = u32::try_from(commits.len()) else {
+    let Ok(all) = u32::try_from(walk.commits().len()) else {
         return Err(AllocError);
     };
     let counts = counts_seen(alloc, seen, all)?;
-    if agree(alloc, program, reading, commits, seen, counts.as_slice())? {
+    if agree(walk, times, seen, counts.as_slice()) {
         return Ok(counts);
     }
-    all_behind(alloc, reading.times, all)
+    all_behind(alloc, times, all)
+}
+
+/// The values of the object behind these numbers of commits.
+pub(crate) fn values_behind(
+    alloc: Global,
+    walk: &Walk<'_>,
+    counts: &[u32],
+) -> Result<Seq<Seq<Value>>, NoMemory>
+    ensures { IfOk result (λ rows. rows ≡ map (values_on walk.now) counts.now) }
+{
+    let mut rows = Seq::new(alloc);
+    for count in counts {
+        rows.push(Seq::from_slice(alloc, walk.values(*count as usize))?)?;
+    }
+    Ok(rows)
 }

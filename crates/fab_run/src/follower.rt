@@ -1,26 +1,15 @@
 //! Who follows a run: it publishes what each commit leaves.
-ghost use Rattle.std.specs.Prelude.{◌≡◌, map, IfOk};
+ghost use Rattle.std.specs.Prelude.{◌≡◌, map, IfOk, IfSome};
 ghost use Rattle.fab_protocol.specs.Versions.{risen, version_of};
 
 use crate::board::Board;
 use fab_base::{NoMemory, Object, Oid, Seq};
-use fab_map::ObjectMap;
 use fab_net::Commit;
-use fab_serial::left_by;
+use fab_reads::Walk;
 use fab_snap::{SnapReader, SnapWriter, WriteSet, snap_writer};
-use fab_tree::resolved::Resolved;
 use fab_versions::{Table, next_version};
 use std::alloc::{AllocError, Global};
 use std::sync::Wait;
-
-/// The follower: the objects of these classes behind the commits that were added, which are those that it publishes.
-pub(crate) struct Follower<'a> {
-    alloc: Global,
-    program: &'a Resolved,
-    classes: u64,
-    map: ObjectMap,
-    writer: SnapWriter,
-}
 
 /// The version of an object in a commit's answers; 0 where it isn't among them.
 fn version_in(answers: &[(Oid, u32, Object)], oid: Oid) -> u32
@@ -52,36 +41,25 @@ fn write_set_of(
     Ok(WriteSet { leaves })
 }
 
-/// The rows of a map, each in its first version.
-fn table_of(alloc: Global, map: &ObjectMap) -> Result<Table, NoMemory> {
+/// These rows, each in its first version.
+fn table_of(alloc: Global, rows: &[(Oid, Object)]) -> Result<Table, NoMemory> {
     let mut table = Table::new(alloc);
-    for row in map.rows() {
+    for row in rows {
         table.put(row.0, 1, row.1.copy(alloc)?)?;
     }
     Ok(table)
 }
 
-/// A follower at the start of a run, whose objects these are, and the one reader of what it publishes.
-pub(crate) fn follower_of<'a, R: Wait>(
+/// Who writes what a follower publishes, and its one reader. It begins with the objects of a walk.
+pub(crate) fn published<R: Wait>(
     rt: &R,
     alloc: Global,
-    program: &'a Resolved,
-    classes: u64,
-    map: ObjectMap,
-) -> Result<(Follower<'a>, SnapReader), NoMemory> {
-    let table = table_of(alloc, &map)?;
+    walk: &Walk<'_>,
+) -> Result<(SnapWriter, SnapReader), NoMemory> {
+    let table = table_of(alloc, walk.objects())?;
     let mut writer = snap_writer(rt, alloc, table, 1)?;
     match writer.reader() {
-        Ok(reader) => {
-            let follower = Follower {
-                alloc,
-                program,
-                classes,
-                map,
-                writer,
-            };
-            Ok((follower, reader))
-        }
+        Ok(reader) => Ok((writer, reader)),
         Err(_) => {
             writer.close(rt);
             Err(AllocError)
@@ -89,50 +67,81 @@ pub(crate) fn follower_of<'a, R: Wait>(
     }
 }
 
-impl<'a> Follower<'a> {
-    /// Publishes what a commit leaves. It evaluates the commit's request again, over the objects behind the commits before it.
-    fn add<R: Wait>(&mut self, rt: &R, commit: &Commit) -> Result<(), NoMemory> {
-        if self.writer.is_broken() {
-            return Err(AllocError);
-        }
-        let left = left_by(self.alloc, self.program, self.classes, &self.map, commit)?;
-        let writes = write_set_of(self.alloc, left.rows(), commit.answers.as_slice())?;
-        self.writer.add(rt, &writes)?;
-        for (oid, object) in left.into_rows() {
-            self.map.put(oid, object)?;
-        }
-        Ok(())
+/// What the last commit of a walk leaves, as it is published.
+fn last_writes(
+    alloc: Global,
+    walk: &Walk<'_>,
+    left: &[(Oid, Object)],
+) -> Result<WriteSet, NoMemory> {
+    match walk.commits().last() {
+        Some(commit) => write_set_of(alloc, left, commit.answers.as_slice()),
+        None => Ok(WriteSet {
+            leaves: Seq::new(alloc),
+        }),
     }
+}
 
-    /// The same of these, one after the other.
-    fn add_all<R: Wait>(&mut self, rt: &R, commits: &[Commit]) -> Result<(), NoMemory> {
-        for commit in commits {
-            self.add(rt, commit)?;
-        }
-        Ok(())
+/// Goes one commit further, and publishes what that leaves.
+fn publish<'a, R: Wait>(
+    rt: &R,
+    alloc: Global,
+    writer: &mut SnapWriter,
+    walk: Walk<'a>,
+    commit: Commit,
+) -> Result<Walk<'a>, NoMemory>
+    ensures program { IfOk result (λ w. w.program ≡ walk.entry.program) }
+    ensures reading { IfOk result (λ w. w.reading ≡ walk.entry.reading) }
+{
+    if writer.is_broken() {
+        return Err(AllocError);
     }
+    let (further, left) = walk.follow(commit)?;
+    let writes = last_writes(alloc, &further, left.rows())?;
+    writer.add(rt, &writes)?;
+    Ok(further)
+}
 
-    /// Publishes what comes on the board, until no more will come or memory runs out. What was published last stays to be read until the
-    /// follower is closed.
-    pub(crate) fn follow<R: Wait>(&mut self, rt: &R, board: &Board) {
-        for _ in rt.forever() {
-            let (commits, is_closed) = board.fetch(rt, self.alloc);
-            if self.add_all(rt, commits.as_slice()).is_err() || is_closed {
-                break;
-            }
-            board.sleep(rt);
-        }
+/// The same with these, one after the other.
+fn publish_all<'a, R: Wait>(
+    rt: &R,
+    alloc: Global,
+    writer: &mut SnapWriter,
+    first: Walk<'a>,
+    commits: Vec<Commit>,
+) -> Result<Walk<'a>, NoMemory>
+    ensures program { IfOk result (λ w. w.program ≡ first.entry.program) }
+    ensures reading { IfOk result (λ w. w.reading ≡ first.entry.reading) }
+{
+    let mut walk = first;
+    'each: for commit in commits {
+        walk = publish(rt, alloc, writer, walk, commit)?;
     }
+    Ok(walk)
+}
 
-    /// Ends what it publishes: who reads from then on sees nothing.
-    pub(crate) fn close<R: Wait>(self, rt: &R) {
-        let Follower {
-            writer,
-            map: _map,
-            alloc: _,
-            program: _,
-            classes: _,
-        } = self;
-        writer.close(rt);
+/// Publishes what comes on the board, until no more will come or memory runs out. How far the walk came, unless memory ran out. What was
+/// published last stays to be read until the writer is closed.
+pub(crate) fn follow<'a, R: Wait>(
+    rt: &R,
+    alloc: Global,
+    writer: &mut SnapWriter,
+    first: Walk<'a>,
+    board: &Board,
+) -> Option<Walk<'a>>
+    ensures program { IfSome result (λ w. w.program ≡ first.entry.program) }
+    ensures reading { IfSome result (λ w. w.reading ≡ first.entry.reading) }
+{
+    let mut walk = first;
+    'news: for _ in rt.forever() {
+        let (commits, is_closed) = board.fetch(rt, alloc);
+        let Ok(further) = publish_all(rt, alloc, writer, walk, commits) else {
+            return None;
+        };
+        walk = further;
+        if is_closed {
+            break;
+        }
+        board.sleep(rt);
     }
+    Some(walk)
 }

@@ -11,6 +11,7 @@ mod counts;
 mod follower;
 mod reader;
 mod running;
+mod walking;
 mod watched;
 mod watching;
 

@@ -3,9 +3,7 @@ ghost use Rattle.std.specs.Prelude.{◌≡◌, ◌≢◌, ℕ, [], Some, IfErr, 
 ghost use Rattle.fab_asked.specs.Words.{asked_by};
 ghost use Rattle.fab_core.specs.Cores.{slot};
 ghost use Rattle.fab_core.specs.Moved.{faults_in};
-ghost use Rattle.fab_reads.specs.Reads.{AreCountsOf};
-ghost use Rattle.fab_replay.specs.Courses.{HasRun, HasStopped};
-ghost use Rattle.fab_replay.specs.Replays.{commits_of_run};
+ghost use Rattle.fab_replay.specs.Courses.{HasSights, HasStopped};
 ghost use Rattle.fab_command.specs.declared.command.Command.TheVariants.{Run};
 ghost use Rattle.fab_command.specs.declared.command.Telling.{Telling as AnyTelling};
 ghost use Rattle.fab_reply.specs.Answered.{IsDone};
@@ -85,7 +83,7 @@ pub fn fab<R: Threads + Wait + Sync, S: Source, K: Sink, M: Journals, G: Gate + 
         call: |core: Core<M::Item>, reading: Option<Reading>|
             requires start { core.moves ≡ [] }
             requires unfailed { (n : ℕ) → faults_in (slot core.journals n) ≡ 0 }
-            ensures run { IfOk result (λ r. HasRun core r.0 × AreCountsOf reading (commits_of_run r.0.given r.0.moves) r.1) }
+            ensures run { IfOk result (HasSights core reading) }
             ensures back { IfErr result (HasStopped core) }
         { by_threads(rt, alloc, gate, core, reading) },
     };

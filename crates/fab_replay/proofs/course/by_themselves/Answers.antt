@@ -10,7 +10,7 @@ use Rattle.fab_replay.specs.Making.{HasNoJournal}
 use Rattle.fab_replay.specs.Running.{AreUnfailed}
 use Rattle.fab_replay.specs.declared.replayed.Replayed.TheVariants as r
 use Rattle.fab_replay.specs.declared.replayed.Wanted.TheVariants.{Run}
-use Rattle.fab_replay.proofs.Counts.{counted, is_made, made_so, made_with, short_with}
+use Rattle.fab_replay.proofs.Counts.{counted, has_read, is_made, made_so, made_with, short_with}
 use Rattle.fab_replay.proofs.Ends.{lined_way, ran_on, ran_short, ran_to, stopped, sure_behind, sure_stopped}
 use Rattle.fab_replay.proofs.Starting.{no_start}
 use Rattle.fab_replay.proofs.course.by_themselves.Goals as goal
@@ -52,7 +52,7 @@ answer_of_run-answer-requires-clause-over g c =
     let C = g.C.Course in
     let M = g.M.Journals in
     let there = (ran_on C.makes (C.may c.args.course.now) (C.comes c.args.course.now) c.args.wanted.now (M.seen c.args.journals.now).may_fail c.in-Ok.core c.come.result
-    c.requires.course c.requires.run c.requires.made c.in-Ok.ensures.moves c.in-Ok.ensures.unfailed c.reading.result c.reading.ensures c.come.ensures (c.in-Ok-come.core, c.in-Ok-come.counts) c.in-Ok-come.is).0 in
+    c.requires.course c.requires.run c.requires.made c.in-Ok.ensures.moves c.in-Ok.ensures.unfailed c.reading.result c.reading.ensures c.come.ensures (c.in-Ok-come.core, c.in-Ok-come.sights) c.in-Ok-come.is).0 in
     there.over
 
 pub answer_of_run-answer-requires-clause-counted : goal.answer_of_run-answer-requires-clause-counted
@@ -60,15 +60,23 @@ answer_of_run-answer-requires-clause-counted g c =
     let C = g.C.Course in
     let M = g.M.Journals in
     let there = (ran_on C.makes (C.may c.args.course.now) (C.comes c.args.course.now) c.args.wanted.now (M.seen c.args.journals.now).may_fail c.in-Ok.core c.come.result
-    c.requires.course c.requires.run c.requires.made c.in-Ok.ensures.moves c.in-Ok.ensures.unfailed c.reading.result c.reading.ensures c.come.ensures (c.in-Ok-come.core, c.in-Ok-come.counts) c.in-Ok-come.is).1 in
-    record { counts = counted c.in-Ok-come.core.given c.in-Ok-come.core.moves c.args.told.now c.with_counts-told.result c.in-Ok-come.counts c.with_counts-told.ensures there }
+    c.requires.course c.requires.run c.requires.made c.in-Ok.ensures.moves c.in-Ok.ensures.unfailed c.reading.result c.reading.ensures c.come.ensures (c.in-Ok-come.core, c.in-Ok-come.sights) c.in-Ok-come.is).1 in
+    record { counts = counted c.in-Ok-come.core.given c.in-Ok-come.core.moves c.args.told.now c.with_counts-told.result c.in-Ok-come.sights.counts c.with_counts-told.ensures there }
+
+pub answer_of_run-answer-requires-clause-read : goal.answer_of_run-answer-requires-clause-read
+answer_of_run-answer-requires-clause-read g c =
+    let C = g.C.Course in
+    let M = g.M.Journals in
+    let there = (ran_on C.makes (C.may c.args.course.now) (C.comes c.args.course.now) c.args.wanted.now (M.seen c.args.journals.now).may_fail c.in-Ok.core c.come.result
+    c.requires.course c.requires.run c.requires.made c.in-Ok.ensures.moves c.in-Ok.ensures.unfailed c.reading.result c.reading.ensures c.come.ensures (c.in-Ok-come.core, c.in-Ok-come.sights) c.in-Ok-come.is).2 in
+    has_read c.in-Ok-come.core.given c.in-Ok-come.core.moves c.args.told.now c.with_counts-told.result c.in-Ok-come.sights c.as_slice.result.now c.with_counts-told.ensures there c.as_slice.ensures
 
 pub finished-requires-clause-on_way : goal.finished-requires-clause-on_way
 finished-requires-clause-on_way g c κs within =
     let C = g.C.Course in
     let M = g.M.Journals in
     let there = (ran_on C.makes (C.may c.args.course.now) (C.comes c.args.course.now) c.args.wanted.now (M.seen c.args.journals.now).may_fail c.in-Ok.core c.come.result
-    c.requires.course c.requires.run c.requires.made c.in-Ok.ensures.moves c.in-Ok.ensures.unfailed c.reading.result c.reading.ensures c.come.ensures (c.in-Ok-come.core, c.in-Ok-come.counts) c.in-Ok-come.is).0 in
+    c.requires.course c.requires.run c.requires.made c.in-Ok.ensures.moves c.in-Ok.ensures.unfailed c.reading.result c.reading.ensures c.come.ensures (c.in-Ok-come.core, c.in-Ok-come.sights) c.in-Ok-come.is).0 in
     there.over.lined
 
 pub finished-requires-clause-marked : goal.finished-requires-clause-marked
@@ -76,7 +84,7 @@ finished-requires-clause-marked g c κs within =
     let C = g.C.Course in
     let M = g.M.Journals in
     let there = (ran_on C.makes (C.may c.args.course.now) (C.comes c.args.course.now) c.args.wanted.now (M.seen c.args.journals.now).may_fail c.in-Ok.core c.come.result
-    c.requires.course c.requires.run c.requires.made c.in-Ok.ensures.moves c.in-Ok.ensures.unfailed c.reading.result c.reading.ensures c.come.ensures (c.in-Ok-come.core, c.in-Ok-come.counts) c.in-Ok-come.is).0 in
+    c.requires.course c.requires.run c.requires.made c.in-Ok.ensures.moves c.in-Ok.ensures.unfailed c.reading.result c.reading.ensures c.come.ensures (c.in-Ok-come.core, c.in-Ok-come.sights) c.in-Ok-come.is).0 in
     there.marked
 
 pub finished-requires-clause-sure : goal.finished-requires-clause-sure
@@ -84,7 +92,7 @@ finished-requires-clause-sure g c κs within =
     let C = g.C.Course in
     let M = g.M.Journals in
     let there = (ran_on C.makes (C.may c.args.course.now) (C.comes c.args.course.now) c.args.wanted.now (M.seen c.args.journals.now).may_fail c.in-Ok.core c.come.result
-    c.requires.course c.requires.run c.requires.made c.in-Ok.ensures.moves c.in-Ok.ensures.unfailed c.reading.result c.reading.ensures c.come.ensures (c.in-Ok-come.core, c.in-Ok-come.counts) c.in-Ok-come.is).0 in
+    c.requires.course c.requires.run c.requires.made c.in-Ok.ensures.moves c.in-Ok.ensures.unfailed c.reading.result c.reading.ensures c.come.ensures (c.in-Ok-come.core, c.in-Ok-come.sights) c.in-Ok-come.is).0 in
     let told = (M.seen c.started.new.journals).may_fail in
     let unfailed : AreUnfailed told c.in-Ok.core.given c.in-Ok.core.journals =
     subst (λ t. AreUnfailed t c.in-Ok.core.given c.in-Ok.core.journals) (sym c.in-Ok.ensures.told) c.in-Ok.ensures.unfailed in
@@ -95,7 +103,7 @@ finished-requires-clause-program g c κs within =
     let C = g.C.Course in
     let M = g.M.Journals in
     let there = (ran_on C.makes (C.may c.args.course.now) (C.comes c.args.course.now) c.args.wanted.now (M.seen c.args.journals.now).may_fail c.in-Ok.core c.come.result
-    c.requires.course c.requires.run c.requires.made c.in-Ok.ensures.moves c.in-Ok.ensures.unfailed c.reading.result c.reading.ensures c.come.ensures (c.in-Ok-come.core, c.in-Ok-come.counts) c.in-Ok-come.is).0 in
+    c.requires.course c.requires.run c.requires.made c.in-Ok.ensures.moves c.in-Ok.ensures.unfailed c.reading.result c.reading.ensures c.come.ensures (c.in-Ok-come.core, c.in-Ok-come.sights) c.in-Ok-come.is).0 in
     c.requires.bundle ∙ ap (λ (x : GivenModel). x.program) (sym (there.given ∙ c.in-Ok.ensures.given))
 
 pub finished-requires-clause-nodes : goal.finished-requires-clause-nodes
@@ -103,7 +111,7 @@ finished-requires-clause-nodes g c κs within =
     let C = g.C.Course in
     let M = g.M.Journals in
     let there = (ran_on C.makes (C.may c.args.course.now) (C.comes c.args.course.now) c.args.wanted.now (M.seen c.args.journals.now).may_fail c.in-Ok.core c.come.result
-    c.requires.course c.requires.run c.requires.made c.in-Ok.ensures.moves c.in-Ok.ensures.unfailed c.reading.result c.reading.ensures c.come.ensures (c.in-Ok-come.core, c.in-Ok-come.counts) c.in-Ok-come.is).0 in
+    c.requires.course c.requires.run c.requires.made c.in-Ok.ensures.moves c.in-Ok.ensures.unfailed c.reading.result c.reading.ensures c.come.ensures (c.in-Ok-come.core, c.in-Ok-come.sights) c.in-Ok-come.is).0 in
     c.requires.nodes ∙ ap honest_in (sym (there.given ∙ c.in-Ok.ensures.given))
 
 pub returns-in-Ok-come-clause-answer : goal.returns-in-Ok-come-clause-answer
@@ -111,8 +119,8 @@ returns-in-Ok-come-clause-answer g c =
     let C = g.C.Course in
     let M = g.M.Journals in
     let there = (ran_on C.makes (C.may c.args.course.now) (C.comes c.args.course.now) c.args.wanted.now (M.seen c.args.journals.now).may_fail c.in-Ok.core c.come.result
-    c.requires.course c.requires.run c.requires.made c.in-Ok.ensures.moves c.in-Ok.ensures.unfailed c.reading.result c.reading.ensures c.come.ensures (c.in-Ok-come.core, c.in-Ok-come.counts) c.in-Ok-come.is).0 in
-    made_with (given_by c.args.program.value c.args.rights) c.args.wanted.now c.args.told.now c.with_counts-told.result c.in-Ok-come.counts (M.seen c.args.journals.now) (M.seen c.finished.new.journals)
+    c.requires.course c.requires.run c.requires.made c.in-Ok.ensures.moves c.in-Ok.ensures.unfailed c.reading.result c.reading.ensures c.come.ensures (c.in-Ok-come.core, c.in-Ok-come.sights) c.in-Ok-come.is).0 in
+    made_with (given_by c.args.program.value c.args.rights) c.args.wanted.now c.args.told.now c.with_counts-told.result c.in-Ok-come.sights.counts (M.seen c.args.journals.now) (M.seen c.finished.new.journals)
     c.requires.run c.with_counts-told.ensures c.finished.result
     (ran_to (given_by c.args.program.value c.args.rights) c.in-Ok-come.core.given (there.given ∙ c.in-Ok.ensures.given) (Run c.with_counts-told.result) (M.seen c.args.journals.now) (M.seen c.started.new.journals)
     (M.seen c.finished.new.journals) c.in-Ok.ensures.made c.finished.ensures.made c.finished.ensures.faults c.finished.result c.finished.ensures.answer)
@@ -122,7 +130,7 @@ returns-in-Ok-come-clause-possible g c =
     let C = g.C.Course in
     let M = g.M.Journals in
     let there = (ran_on C.makes (C.may c.args.course.now) (C.comes c.args.course.now) c.args.wanted.now (M.seen c.args.journals.now).may_fail c.in-Ok.core c.come.result
-    c.requires.course c.requires.run c.requires.made c.in-Ok.ensures.moves c.in-Ok.ensures.unfailed c.reading.result c.reading.ensures c.come.ensures (c.in-Ok-come.core, c.in-Ok-come.counts) c.in-Ok-come.is).0 in
+    c.requires.course c.requires.run c.requires.made c.in-Ok.ensures.moves c.in-Ok.ensures.unfailed c.reading.result c.reading.ensures c.come.ensures (c.in-Ok-come.core, c.in-Ok-come.sights) c.in-Ok-come.is).0 in
     subst (λ told. IfOk c.finished.result (IsPossible told c.args.program.value)) c.in-Ok.ensures.told
     (subst (λ (x : GivenModel). IfOk c.finished.result (IsPossible (M.seen c.started.new.journals).may_fail x.program)) (there.given ∙ c.in-Ok.ensures.given) c.finished.ensures.possible)
 
@@ -131,8 +139,8 @@ returns-in-Ok-come-clause-memory g c =
     let C = g.C.Course in
     let M = g.M.Journals in
     let there = (ran_on C.makes (C.may c.args.course.now) (C.comes c.args.course.now) c.args.wanted.now (M.seen c.args.journals.now).may_fail c.in-Ok.core c.come.result
-    c.requires.course c.requires.run c.requires.made c.in-Ok.ensures.moves c.in-Ok.ensures.unfailed c.reading.result c.reading.ensures c.come.ensures (c.in-Ok-come.core, c.in-Ok-come.counts) c.in-Ok-come.is).0 in
-    short_with (given_by c.args.program.value c.args.rights) c.args.wanted.now c.args.told.now c.with_counts-told.result c.in-Ok-come.counts (M.seen c.args.journals.now) (M.seen c.finished.new.journals)
+    c.requires.course c.requires.run c.requires.made c.in-Ok.ensures.moves c.in-Ok.ensures.unfailed c.reading.result c.reading.ensures c.come.ensures (c.in-Ok-come.core, c.in-Ok-come.sights) c.in-Ok-come.is).0 in
+    short_with (given_by c.args.program.value c.args.rights) c.args.wanted.now c.args.told.now c.with_counts-told.result c.in-Ok-come.sights.counts (M.seen c.args.journals.now) (M.seen c.finished.new.journals)
     c.requires.run c.with_counts-told.ensures c.finished.result
     (ran_short (given_by c.args.program.value c.args.rights) c.in-Ok-come.core.given (there.given ∙ c.in-Ok.ensures.given) (Run c.with_counts-told.result) (M.seen c.args.journals.now) (M.seen c.started.new.journals)
     (M.seen c.finished.new.journals) c.in-Ok.ensures.made c.finished.ensures.made c.finished.ensures.faults c.finished.result c.finished.ensures.memory)

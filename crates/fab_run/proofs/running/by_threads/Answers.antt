@@ -1,7 +1,7 @@
-use Rattle.std.specs.Prelude.{false, List}
+use Rattle.std.specs.Prelude.{false}
 use Rattle.std.proofs.Common.{sym, subst}
 use Rattle.fab_core.specs.Cores.{CoreModel, setting}
-use Rattle.fab_reads.specs.Reads.{AreCountsOf}
+use Rattle.fab_reads.specs.Reads.{AreCountsOf, AreValuesOf}
 use Rattle.fab_replay.specs.Courses.{HasRun, HasStopped}
 use Rattle.fab_replay.proofs.Stopping.{not_begun}
 use Rattle.fab_run.proofs.Runs.{has_run, has_stopped}
@@ -22,7 +22,8 @@ returns-in-Ok-run_read-clause-run g c =
     let told = c.in-Ok-run_read.ensures in
     let ran : HasRun first last = has_run first last told.given told.sure c.marks.ensures.lined told.over c.marks.ensures.marked in (
       subst (λ (x : CoreModel). HasRun x c.into_core.result) c.in-Ok-make.ensures.made (subst (λ (x : CoreModel). HasRun first x) (sym c.into_core.ensures) ran),
-      subst (λ (x : CoreModel). AreCountsOf c.args.reading (commits_in (setting x.given) (λ n. false) x.moves) c.in-Ok-run_read.counts) (sym c.into_core.ensures) told.counts,
+      subst (λ (x : CoreModel). AreCountsOf c.args.reading (commits_in (setting x.given) (λ n. false) x.moves) c.in-Ok-run_read.sights.counts) (sym c.into_core.ensures) told.counts,
+      subst (λ (x : CoreModel). AreValuesOf (setting x.given) c.args.reading (commits_in (setting x.given) (λ n. false) x.moves) c.in-Ok-run_read.sights) (sym c.into_core.ensures) told.values,
     )
 
 pub returns-clause-back : goal.returns-clause-back
